@@ -1,0 +1,14 @@
+//! The C interface of `include/barrowtide.h`, call by call, with slices and references in place of
+//! pointers.
+//!
+//! Each call (but [`join`]) returns 01's refusal number, or 0 if it accepts. A refusal writes what
+//! it carries to `carried` and leaves all other lent memory as it was, except that a lent table is
+//! zeroed. Acceptance writes the values and leaves `carried` as it was.
+//!
+//! The functions one module up are made of these and are nicer to use; these show what becomes of
+//! lent memory. All the unsafe code of the crate is here.
+#![allow(unsafe_code)]
+
+mod hash;
+
+pub use hash::{join, sha256d};

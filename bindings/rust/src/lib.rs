@@ -1,0 +1,21 @@
+//! Merkle proofs of Bitcoin SV payments, read and judged by a proved library.
+//!
+//! The work is done by `libbarrowtide.a`, whose functions are proved to do what paper 01 says; this
+//! crate only hands the bytes over and the answers back. It has no dependencies.
+//!
+//! - [`sha256d`], [`join`]: double SHA-256 of bytes and of two nodes
+//!
+//! Every call answers a value or a [`Refusal`] with 01's number and the place that it blames.
+//!
+//! Ids, nodes and roots are [hashes](type@Hash) in stored byte order. What block explorers print is the
+//! reverse; [`hex`] turns one into the other.
+#![deny(missing_docs)]
+#![deny(unsafe_code)]
+
+pub mod ffi;
+mod hash;
+pub mod hex;
+mod refusal;
+
+pub use hash::{join, sha256d, Hash, MAX_INPUT};
+pub use refusal::{Reason, Refusal};

@@ -1,0 +1,194 @@
+//! Refusals: 01's numbers by their names.
+
+use std::error::Error;
+use std::fmt;
+
+/// Why an input was refused; the numbers are 01's.
+#[derive(Debug, Clone, Copy, PartialEq, Eq, Hash)]
+#[repr(u32)]
+pub enum Reason {
+    /// The input is over its size.
+    TooLong = 1,
+    /// The bytes end inside a field.
+    Short = 2,
+    /// A VarInt is not in its shortest form.
+    LongVarint = 3,
+    /// A tree height is outside its range.
+    BadHeight = 4,
+    /// A count or a block height is over its limit.
+    OverLimit = 5,
+    /// An offset or a TSC index is outside its layer.
+    BadOffset = 6,
+    /// Flags, a node type or a BEEF byte are not allowed.
+    BadFlag = 7,
+    /// An offset stands in its level already.
+    Repeated = 8,
+    /// Bytes are left after the end.
+    Extra = 9,
+    /// The first four bytes are not BEEF's.
+    BadVersion = 10,
+    /// A transaction has no inputs or no outputs, or is not exactly as long as a TSC proof says.
+    BadTx = 11,
+    /// A BEEF has no transaction.
+    Empty = 12,
+    /// The id, or any client leaf, is not at level 0.
+    NotListed = 13,
+    /// A sibling is not written.
+    Missing = 14,
+    /// A sibling equals the working hash at an odd position.
+    Twin = 15,
+    /// Roots of clients differ, or a TSC target is another root.
+    RootsDiffer = 16,
+    /// The root is not in the list of trusted ones.
+    Untrusted = 17,
+    /// A BUMP number is not below the count of BUMPs.
+    BadIndex = 18,
+    /// A transaction's id equals an earlier one.
+    SameTx = 19,
+    /// An input has no earlier parent.
+    NoParent = 20,
+    /// The list of roots is not a multiple of 32 bytes.
+    BadRoots = 21,
+    /// The table has fewer records than the bundle has transactions.
+    NoRoom = 22,
+    /// Two proofs differ in root, position or layers.
+    Unlike = 23,
+    /// Two proofs agree and prove one id.
+    SameId = 24,
+}
+
+/// Each reason with 01's name for it and its meaning, in the order of the numbers.
+const REASONS: [(Reason, &str, &str); 24] = [
+    (Reason::TooLong, "TOO_LONG", "input over its size"),
+    (Reason::Short, "SHORT", "bytes end inside a field"),
+    (Reason::LongVarint, "LONG_VARINT", "VarInt not in its shortest form"),
+    (Reason::BadHeight, "BAD_HEIGHT", "tree height outside its range"),
+    (Reason::OverLimit, "OVER_LIMIT", "count or block height over its limit"),
+    (Reason::BadOffset, "BAD_OFFSET", "offset or index outside its layer"),
+    (Reason::BadFlag, "BAD_FLAG", "flags, node type or BEEF byte not allowed"),
+    (Reason::Repeated, "REPEATED", "offset again in its level"),
+    (Reason::Extra, "EXTRA", "bytes left after the end"),
+    (Reason::BadVersion, "BAD_VERSION", "first four bytes not BEEF's"),
+    (Reason::BadTx, "BAD_TX", "no inputs, no outputs, or not the stated length"),
+    (Reason::Empty, "EMPTY", "BEEF with no transaction"),
+    (Reason::NotListed, "NOT_LISTED", "id not at level 0"),
+    (Reason::Missing, "MISSING", "sibling not written"),
+    (Reason::Twin, "TWIN", "sibling equal to the working hash at an odd position"),
+    (Reason::RootsDiffer, "ROOTS_DIFFER", "roots differ"),
+    (Reason::Untrusted, "UNTRUSTED", "root not in the list"),
+    (Reason::BadIndex, "BAD_INDEX", "BUMP number not below the count"),
+    (Reason::SameTx, "SAME_TX", "id equal to an earlier one"),
+    (Reason::NoParent, "NO_PARENT", "an input without earlier parent"),
+    (Reason::BadRoots, "BAD_ROOTS", "list of roots not a multiple of 32 bytes"),
+    (Reason::NoRoom, "NO_ROOM", "table with fewer records than transactions"),
+    (Reason::Unlike, "UNLIKE", "two proofs differ in root, position or layers"),
+    (Reason::SameId, "SAME_ID", "two proofs agree and prove one id"),
+];
+
+impl Reason {
+    /// The reason of a number, if it is one of 01's.
+    ///
+    /// ```
+    /// use barrowtide::Reason;
+    /// assert_eq!(Reason::from_number(14), Some(Reason::Missing));
+    /// assert_eq!(Reason::from_number(0), None);
+    /// assert_eq!(Reason::from_number(25), None);
+    /// ```
+    pub fn from_number(number: u32) -> Option<Self> {
+        let index = usize::try_from(number).ok()?.checked_sub(1)?;
+        REASONS.get(index).map(|(reason, _, _)| *reason)
+    }
+
+    /// 01's number.
+    pub fn number(self) -> u32 {
+        self as u32
+    }
+
+    /// 01's name.
+    ///
+    /// ```
+    /// assert_eq!(barrowtide::Reason::NotListed.name(), "NOT_LISTED");
+    /// ```
+    pub fn name(self) -> &'static str {
+        REASONS[self as usize - 1].1
+    }
+
+    /// What it means, in a few words.
+    pub fn meaning(self) -> &'static str {
+        REASONS[self as usize - 1].2
+    }
+
+    /// Whether the refusal carries the place of the field or byte that is to blame.
+    ///
+    /// The others carry 0, or in a BEEF the transaction's number if they come in judging
+    /// ([`Reason::blames_transaction`]).
+    pub fn blames_place(self) -> bool {
+        matches!(self as u32, 2..=9 | 11 | 12 | 18 | 22)
+    }
+
+    /// Whether the refusal, given for a BEEF, carries the number of a transaction; elsewhere such
+    /// a refusal carries 0.
+    pub fn blames_transaction(self) -> bool {
+        matches!(self as u32, 13..=17 | 19 | 20)
+    }
+}
+
+impl fmt::Display for Reason {
+    fn fmt(&self, f: &mut fmt::Formatter<'_>) -> fmt::Result {
+        write!(f, "{} ({})", self.meaning(), self.name())
+    }
+}
+
+/// A refusal: why, and what it carries.
+#[derive(Debug, Clone, Copy, PartialEq, Eq, Hash)]
+pub struct Refusal {
+    /// Why.
+    pub reason: Reason,
+    /// The place that is blamed, counted from 0 at the input's first byte; or the number of the
+    /// transaction that is blamed, counted from 0; or 0. The reason tells which.
+    pub carried: u64,
+}
+
+/// The answer of a call: the value if the number is 0, else the refusal.
+///
+/// # Panics
+///
+/// If the number is none of 01's: then the library linked is not the one that this crate is for.
+pub(crate) fn answer<T>(number: u32, carried: u64, value: T) -> Result<T, Refusal> {
+    if number == 0 {
+        return Ok(value);
+    }
+    match Reason::from_number(number) {
+        Some(reason) => Err(Refusal { reason, carried }),
+        None => panic!("libbarrowtide.a gave the unknown refusal {number}"),
+    }
+}
+
+/// As the listing program writes it, then the meaning.
+///
+/// ```
+/// let refusal = barrowtide::sha256d(&vec![0; barrowtide::MAX_INPUT + 1]).unwrap_err();
+/// assert_eq!(refusal.to_string(), "refused 1 at 0: input over its size (TOO_LONG)");
+/// ```
+impl fmt::Display for Refusal {
+    fn fmt(&self, f: &mut fmt::Formatter<'_>) -> fmt::Result {
+        write!(f, "refused {} at {}: {}", self.reason.number(), self.carried, self.reason)
+    }
+}
+
+impl Error for Refusal {}
+
+#[cfg(test)]
+mod tests {
+    use super::*;
+
+    #[test]
+    fn numbers_and_names() {
+        for (index, (reason, name, _)) in REASONS.into_iter().enumerate() {
+            assert_eq!(reason.number() as usize, index + 1);
+            assert_eq!(Reason::from_number(reason.number()), Some(reason));
+            let plain: String = name.split('_').map(str::to_lowercase).collect();
+            assert_eq!(format!("{reason:?}").to_lowercase(), plain);
+        }
+    }
+}

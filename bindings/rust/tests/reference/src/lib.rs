@@ -1,0 +1,27 @@
+//! An independent reading of the papers in plain Rust, to compare the library with.
+//!
+//! It is written from paper 01 and the sources it names, sentence by sentence, and shares no code
+//! with the library or its binding. It aims at being easy to check against the paper, not at speed.
+//! [`generate`] makes the inputs that both are asked about.
+#![forbid(unsafe_code)]
+#![deny(missing_docs)]
+
+pub mod beef;
+pub mod bump;
+pub mod bumplist;
+pub mod climb;
+pub mod cmp;
+pub mod compare;
+pub mod fields;
+pub mod generate;
+pub mod hex;
+pub mod judge;
+pub mod path;
+pub mod prove;
+pub mod refusal;
+pub mod sha256;
+pub mod transaction;
+pub mod tsc;
+
+/// 32 bytes in stored order: an id, a node or a root.
+pub type Hash = [u8; 32];

@@ -1,0 +1,64 @@
+//! 01's "Numbers of refusal".
+
+/// A refusal: its number, and the place or transaction number that it carries.
+#[derive(Debug, Clone, Copy, PartialEq, Eq)]
+pub struct Refusal {
+    /// The number of 01's table.
+    pub number: u32,
+    /// A place in the input, a transaction's number, or 0.
+    pub carried: u64,
+}
+
+/// The refusal `number` that blames the place `at`.
+pub fn refuse<T>(number: u32, at: usize) -> Result<T, Refusal> {
+    Err(Refusal { number, carried: at as u64 })
+}
+
+/// Input over its size.
+pub const TOO_LONG: u32 = 1;
+/// Bytes end inside a field.
+pub const SHORT: u32 = 2;
+/// A VarInt that is not the shortest.
+pub const LONG_VARINT: u32 = 3;
+/// Tree height outside.
+pub const BAD_HEIGHT: u32 = 4;
+/// Count or block height over its limit.
+pub const OVER_LIMIT: u32 = 5;
+/// Offset or TSC index outside the layer.
+pub const BAD_OFFSET: u32 = 6;
+/// Flags, node type or BEEF byte not allowed.
+pub const BAD_FLAG: u32 = 7;
+/// Offset again in its level.
+pub const REPEATED: u32 = 8;
+/// Bytes left after the end.
+pub const EXTRA: u32 = 9;
+/// Four bytes present, not BEEF's.
+pub const BAD_VERSION: u32 = 10;
+/// No inputs or no outputs; a TSC transaction not exactly its stated length.
+pub const BAD_TX: u32 = 11;
+/// BEEF with no transaction.
+pub const EMPTY: u32 = 12;
+/// Id, or any client leaf, not at level 0.
+pub const NOT_LISTED: u32 = 13;
+/// Sibling not written.
+pub const MISSING: u32 = 14;
+/// Sibling equal to the working hash at an odd position.
+pub const TWIN: u32 = 15;
+/// Client roots differ, or a TSC target is another root.
+pub const ROOTS_DIFFER: u32 = 16;
+/// Root not in the list.
+pub const UNTRUSTED: u32 = 17;
+/// BUMP number not below the count.
+pub const BAD_INDEX: u32 = 18;
+/// Id equal to an earlier one.
+pub const SAME_TX: u32 = 19;
+/// An input without earlier parent.
+pub const NO_PARENT: u32 = 20;
+/// List of roots not a multiple of 32 bytes.
+pub const BAD_ROOTS: u32 = 21;
+/// Table with fewer records than the count read.
+pub const NO_ROOM: u32 = 22;
+/// Two proofs differ in root, position or layers.
+pub const UNLIKE: u32 = 23;
+/// They agree and prove one id.
+pub const SAME_ID: u32 = 24;

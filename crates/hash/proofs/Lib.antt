@@ -1,0 +1,4 @@
+pub mod Words
+pub mod Padding
+pub mod Compression
+pub mod Digests

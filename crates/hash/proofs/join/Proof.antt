@@ -1,0 +1,61 @@
+-- Two digests are one block, and their padding is the next.
+use borrow.Author.Needs.{needs}
+use mathlib.Core.Path.{_≡_}
+use lib.ListN.{length}
+use Rattle.hash.proofs.Digests.{joined}
+use Rattle.hash.proofs.join.Statement.{statement}
+use Rattle.hash.proofs.join.Tie as tie
+
+slice-aggregate-eight-words : tie.Need-slice-aggregate-eight-words
+slice-aggregate-eight-words c = search needs
+
+eight-words-requires : tie.Need-eight-words-requires
+eight-words-requires c κs = search needs
+
+slice-aggregate-eight-words-2 : tie.Need-slice-aggregate-eight-words-2
+slice-aggregate-eight-words-2 c = search needs
+
+eight-words-requires-2 : tie.Need-eight-words-requires-2
+eight-words-requires-2 c κs = search needs
+
+whole-requires : tie.Need-whole-requires
+whole-requires c κs = search needs
+
+initial-requires : tie.Need-initial-requires
+initial-requires c κs = search needs
+
+compress-requires : tie.Need-compress-requires
+compress-requires c κs = search needs
+
+node-padding-requires : tie.Need-node-padding-requires
+node-padding-requires c κs = search needs
+
+compress-requires-2 : tie.Need-compress-requires-2
+compress-requires-2 c κs = search needs
+
+hash-digest-requires : tie.Need-hash-digest-requires
+hash-digest-requires c κs = search needs
+
+returns : tie.Need-returns
+returns c =
+    let b = c .before .before .before .before .before .before .before .before .before .before .args in
+    let g = c .before .before .before .before .before .before .before .before .before .before .good in
+    let hl : length (b .t1) ≡ 32 = search needs in
+    let hr : length (b .t2) ≡ 32 = search needs in
+    cc (joined (b .t1) (b .t2) hl hr)
+
+pub join-spec : {M : Type 1} → statement M
+join-spec =
+    tie.close
+    (tie.spec
+    slice-aggregate-eight-words
+    eight-words-requires
+    slice-aggregate-eight-words-2
+    eight-words-requires-2
+    whole-requires
+    initial-requires
+    compress-requires
+    node-padding-requires
+    compress-requires-2
+    hash-digest-requires
+    returns)
