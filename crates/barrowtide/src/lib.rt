@@ -1,4 +1,6 @@
 // The C interface. A call returns the number of its refusal, or 0; memory that it gives nothing for keeps its content.
+pub mod read;
+
 ghost use mathlib.Core.Path.{_≡_};
 ghost use mathlib.Core.List.{_++_};
 ghost use Rattle.hash.specs.Sha256 as S;

@@ -1,7 +1,25 @@
-// Runs published vectors and edges, and prints what the library answers, a line each. The file `stdout` holds what an independent program answers.
+// Runs published vectors and edges, and prints what the library answers, a line each. The file `stdout` holds what an independent
+// program answers.
+use format::BeefAnswer;
+use format::BumpAnswer;
+use format::Bundle;
+use format::CmpAnswer;
+use format::EntryFound;
+use format::Refusal;
+use format::TscAnswer;
 use libc::STDOUT_FILENO;
+ghost use Rattle.io.specs.Counts.{Counts};
 
-mod hashes;
+fn text(words: &[u8]) {
+    io::write_all(STDOUT_FILENO, words);
+}
+
+fn number(name: &[u8], n: u64) {
+    text(b" ");
+    text(name);
+    text(b" ");
+    io::print_decimal(STDOUT_FILENO, n);
+}
 
 fn hex(bytes: [u8; 32]) {
     for i in 0..32 {
@@ -10,12 +28,175 @@ fn hex(bytes: [u8; 32]) {
 }
 
 fn line(name: &[u8], bytes: [u8; 32]) {
-    io::write_all(STDOUT_FILENO, name);
-    io::write_all(STDOUT_FILENO, b" ");
+    text(name);
+    text(b" ");
     hex(bytes);
-    io::write_all(STDOUT_FILENO, b"\n");
+    text(b"\n");
+}
+
+fn refused(refusal: Refusal) {
+    number(b"refused", refusal.number as u64);
+    number(b"at", refusal.place as u64);
+}
+
+// Double SHA-256: the messages of the Secure Hash Standard's examples, lengths at the padding's edges, and a join.
+
+fn hash_line(name: &[u8], message: &[u8]) {
+    let hashed = hash::sha256d(message);
+    let digest = hashed.digest;
+    line(name, digest);
+}
+
+fn prefix_line(name: &[u8], message: &[u8], length: usize) {
+    if length <= message.len() {
+        hash_line(name, &message[..length]);
+    }
+}
+
+// The bytes 0, 1, 2 and so on.
+fn counting() -> [u8; 120] {
+    let mut bytes = [0u8; 120];
+    for i in 0..120 {
+        bytes[i] = i as u8;
+    }
+    bytes
+}
+
+// A large array is made in a function of its own, so that no proof looks at its elements.
+fn million() -> [u8; 1000000] {
+    [b'a'; 1000000]
+}
+
+fn examples() {
+    hash_line(b"empty", b"");
+    hash_line(b"abc", b"abc");
+    hash_line(
+        b"448-bits",
+        b"abcdbcdecdefdefgefghfghighijhijkijkljklmklmnlmnomnopnopq",
+    );
+    let many = million();
+    hash_line(b"million-a", &many);
+}
+
+fn edges() {
+    let bytes = counting();
+    prefix_line(b"counting-55", &bytes, 55);
+    prefix_line(b"counting-56", &bytes, 56);
+    prefix_line(b"counting-63", &bytes, 63);
+    prefix_line(b"counting-64", &bytes, 64);
+    prefix_line(b"counting-119", &bytes, 119);
+    prefix_line(b"counting-120", &bytes, 120);
+    hash_line(b"64-zeros", &[0u8; 64]);
+}
+
+fn joins() {
+    let left = [0x11u8; 32];
+    let right = [0x22u8; 32];
+    line(b"join", hash::join(left, right));
+}
+
+// The published paths, proof and bundle, each from a file.
+
+fn load(name: &[u8], room: &mut [u8; 1024]) -> usize
+    ensures { λ r. ⌜ Counts r (now (room .exit)) ⌝ }
+{
+    let fd = os::open_read(name);
+    if fd < 0 {
+        return 0;
+    }
+    let length = io::read_full(fd, room);
+    libc::close(fd);
+    length
+}
+
+fn bump(message: &[u8]) {
+    let answer = format::read_bump(message);
+    let BumpAnswer::Value(head, _) = answer else {
+        refused(answer.refusal());
+        return;
+    };
+    number(b"block", head.block);
+    number(b"height", head.height);
+    number(b"leaves", head.leaves);
+}
+
+fn cmp(message: &[u8]) {
+    let answer = format::read_cmp(message);
+    let CmpAnswer::Value(head, _) = answer else {
+        refused(answer.refusal());
+        return;
+    };
+    number(b"height", head.height);
+    number(b"leaves", head.leaves);
+}
+
+fn tsc(message: &[u8]) {
+    let answer = format::read_tsc(message);
+    let TscAnswer::Value(head, _) = answer else {
+        refused(answer.refusal());
+        return;
+    };
+    number(b"flags", head.flags);
+    number(b"index", head.index);
+    number(b"nodes", head.nodes);
+}
+
+fn transaction(bundle: Bundle, n: usize) {
+    let found = bundle.entry(n);
+    let EntryFound::Here(entry) = found else {
+        return;
+    };
+    let transaction = entry.transaction;
+    number(b"transaction", n as u64);
+    number(b"start", transaction.start as u64);
+    number(b"end", transaction.end as u64);
+}
+
+fn beef(message: &[u8]) {
+    let bundle = format::read_bundle(message, 256);
+    let answer = bundle.answer;
+    let BeefAnswer::Value(head, _) = answer else {
+        refused(answer.refusal());
+        return;
+    };
+    number(b"bumps", head.bumps as u64);
+    number(b"transactions", head.transactions as u64);
+    transaction(bundle, 0);
+    transaction(bundle, 1);
+}
+
+fn paths() {
+    let mut room = [0u8; 1024];
+    let n = load(b"004-bump", &mut room);
+    text(b"004-bump");
+    number(b"bytes", n as u64);
+    bump(&room[..n]);
+    text(b"\n");
+    let n = load(b"001-path", &mut room);
+    text(b"001-path");
+    number(b"bytes", n as u64);
+    cmp(&room[..n]);
+    text(b"\n");
+}
+
+fn bundles() {
+    let mut room = [0u8; 1024];
+    let n = load(b"000-proof", &mut room);
+    text(b"000-proof");
+    number(b"bytes", n as u64);
+    tsc(&room[..n]);
+    text(b"\n");
+    let n = load(b"004-bundle", &mut room);
+    text(b"004-bundle");
+    number(b"bytes", n as u64);
+    beef(&room[..n]);
+    text(b"\n");
 }
 
 fn main() {
-    hashes::run();
+    examples();
+    edges();
+    joins();
+    paths();
+    bundles();
 }

@@ -6,6 +6,7 @@
 
 mod hash;
 mod measure;
+mod read;
 mod yardstick;
 
 const PREFACE: &str = "\
@@ -18,4 +19,5 @@ memory after a hash (OpenSSL clears its context), and no caller here wipes what 
 fn main() {
     println!("{PREFACE}");
     hash::run();
+    read::run();
 }

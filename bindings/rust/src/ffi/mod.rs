@@ -9,6 +9,10 @@
 //! lent memory. All the unsafe code of the crate is here.
 #![allow(unsafe_code)]
 
+mod bundle;
 mod hash;
+mod path;
 
+pub use bundle::{read_beef, read_transaction, read_tsc};
 pub use hash::{join, sha256d};
+pub use path::{read_bump, read_cmp, read_varint};

@@ -79,9 +79,9 @@ impl Random {
     }
 }
 
-/// How many rounds a random test goes: the number in `BARROWTIDE_ROUNDS`, else 3,000.
+/// How many rounds a random test goes: the number in `BARROWTIDE_ROUNDS`, else 5,000.
 pub fn rounds() -> u64 {
-    number("BARROWTIDE_ROUNDS").unwrap_or(3_000)
+    number("BARROWTIDE_ROUNDS").unwrap_or(5_000)
 }
 
 fn number(variable: &str) -> Option<u64> {

@@ -1,0 +1,50 @@
+use borrow.Author.Needs.{needs}
+use Rattle.format.specs.ParseLaws.{answered, each-got, each-bad}
+use Rattle.format.specs.TscAnswer.{tscAnswer}
+use Rattle.format.specs.Tsc.{tscHeadOf}
+use Rattle.barrowtide.specs.Interface.{refused-number, refused-place, refused-taken, read-number, read-place, read-view}
+use Rattle.barrowtide.proofs.read.barrowtide_read_tsc.Statement.{statement}
+use Rattle.barrowtide.proofs.read.barrowtide_read_tsc.Tie as tie
+use Rattle.barrowtide.proofs.read.barrowtide_read_tsc.Reads as reads
+use Rattle.barrowtide.proofs.read.barrowtide_read_tsc.Lts as lts
+use Rattle.format.proofs.tsc.TscAnswer.refusal.Reads as refusal-reads
+use Rattle.format.proofs.read_tsc.Reads as read-tsc-reads
+
+read-tsc-requires : tie.Need-read-tsc-requires
+read-tsc-requires c κs = search needs
+
+enum-known-answer : tie.Need-enum-known-answer
+enum-known-answer c = search needs
+
+enum-told : tie.Need-enum-told
+enum-told c = search needs
+
+refusal-requires : tie.Need-refusal-requires
+refusal-requires c κs = search needs
+
+cast-result : tie.Need-cast-result
+cast-result c = search needs
+
+returns : tie.Need-returns
+returns c =
+    let e = each-bad tscHeadOf _ (answered tscAnswer (c .before .before .before .before .read-tsc .ensures) (c .before .before .enum-told .given .1)) in
+    rw (c .before .refusal .ensures, c .before .before .enum-told .given .1)
+    (refused-number _ e, (refused-place _ _ e, (refused-taken _ _ _ e, (refused-taken _ _ _ e, refused-taken _ _ _ e))))
+
+returns-2 : tie.Need-returns-2
+returns-2 c =
+    let e = answered tscAnswer (c .before .before .before .read-tsc .ensures) (c .before .answer .given .1) in
+    let x = each-got tscHeadOf _ e .1 in
+    (read-number _ x, (read-place _ _ x, (read-view tscHeadOf (λ h. h .flags) _ _ e, (read-view tscHeadOf (λ h. h .index) _ _ e, read-view tscHeadOf (λ h. h .nodes) _ _ e))))
+
+pub barrowtide-read-tsc-spec : {M : Type 1} → statement M
+barrowtide-read-tsc-spec =
+    tie.close
+    (tie.spec
+    read-tsc-requires
+    enum-known-answer
+    enum-told
+    refusal-requires
+    cast-result
+    returns
+    returns-2)

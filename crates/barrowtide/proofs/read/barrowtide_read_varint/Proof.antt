@@ -1,0 +1,59 @@
+use borrow.Author.Needs.{needs}
+use mathlib.Core.Path.{_∙_}
+use Rattle.format.specs.FieldAnswer.{numberOf}
+use Rattle.format.specs.ParseLaws.{answered}
+use Rattle.barrowtide.specs.Interface.{first-sized, first-too-long, refused-number, refused-place, refused-taken, refused-next, read-number, read-place, read-taken, read-next}
+use Rattle.barrowtide.proofs.read.barrowtide_read_varint.Statement.{statement}
+use Rattle.barrowtide.proofs.read.barrowtide_read_varint.Tie as tie
+use Rattle.barrowtide.proofs.read.barrowtide_read_varint.Reads as reads
+use Rattle.barrowtide.proofs.read.barrowtide_read_varint.Lts as lts
+use Rattle.format.proofs.field.Number.refusal.Reads as refusal-reads
+use Rattle.format.proofs.read_varint.Reads as read-varint-reads
+
+cast-result : tie.Need-cast-result
+cast-result c = search needs
+
+returns : tie.Need-returns
+returns c =
+    let e = first-too-long _ (c .if1 .taken) in
+    (refused-number _ e, (refused-place _ _ e, (refused-taken _ _ _ e, refused-next _ _ e)))
+
+read-varint-requires : tie.Need-read-varint-requires
+read-varint-requires c κs = search needs
+
+enum-known-answer : tie.Need-enum-known-answer
+enum-known-answer c = search needs
+
+enum-told : tie.Need-enum-told
+enum-told c = search needs
+
+refusal-requires : tie.Need-refusal-requires
+refusal-requires c κs = search needs
+
+cast-result-2 : tie.Need-cast-result-2
+cast-result-2 c = search needs
+
+returns-2 : tie.Need-returns-2
+returns-2 c =
+    let e = first-sized _ (c .before .before .before .before .before .if1 .left) ∙ answered numberOf (c .before .before .before .before .read-varint .ensures) (c .before .before .enum-told .given .1) in
+    rw (c .before .refusal .ensures, c .before .before .enum-told .given .1)
+    (refused-number _ e, (refused-place _ _ e, (refused-taken _ _ _ e, refused-next _ _ e)))
+
+returns-3 : tie.Need-returns-3
+returns-3 c =
+    let e = first-sized _ (c .before .before .before .before .if1 .left) ∙ answered numberOf (c .before .before .before .read-varint .ensures) (c .before .answer .given .1) in
+    (read-number _ e, (read-place _ _ e, (read-taken _ _ _ e, read-next _ _ e)))
+
+pub barrowtide-read-varint-spec : {M : Type 1} → statement M
+barrowtide-read-varint-spec =
+    tie.close
+    (tie.spec
+    cast-result
+    returns
+    read-varint-requires
+    enum-known-answer
+    enum-told
+    refusal-requires
+    cast-result-2
+    returns-2
+    returns-3)

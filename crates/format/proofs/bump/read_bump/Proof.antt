@@ -1,0 +1,41 @@
+use borrow.Author.Needs.{needs}
+use mathlib.Core.Path.{sym}
+use Rattle.format.specs.Bump.{bumpAnswer}
+use Rattle.format.specs.ParseLaws.{answered, whole-too-long, whole-refused, whole-extra, whole-read}
+use Rattle.format.proofs.bump.read_bump.Statement.{statement}
+use Rattle.format.proofs.bump.read_bump.Tie as tie
+
+returns : tie.Need-returns
+returns c = sym (whole-too-long _ _ _ (c .if1 .taken))
+
+start-requires : tie.Need-start-requires
+start-requires c κs = search needs
+
+bump-at-requires : tie.Need-bump-at-requires
+bump-at-requires c κs = search needs
+
+enum-known-field : tie.Need-enum-known-field
+enum-known-field c = search needs
+
+enum-told : tie.Need-enum-told
+enum-told c = search needs
+
+returns-2 : tie.Need-returns-2
+returns-2 c =
+    rw (c .enum-told .given .1)
+    (sym (whole-refused _ _ _ (c .before .before .before .before .if1 .left) (answered bumpAnswer (rw (c .before .before .before .start .ensures) at (c .before .before .bump-at .ensures)) (c .enum-told .given .1))))
+
+returns-3 : tie.Need-returns-3
+returns-3 c =
+    sym (whole-extra _ _ _ (c .before .before .before .before .before .before .if1 .left)
+    (answered bumpAnswer (rw (c .before .before .before .before .before .start .ensures) at (c .before .before .before .before .bump-at .ensures)) (c .before .before .field .given .1)) (c .if2 .taken))
+
+returns-4 : tie.Need-returns-4
+returns-4 c =
+    sym (whole-read _ _ _ (c .before .before .before .before .before .before .if1 .left)
+    (answered bumpAnswer (rw (c .before .before .before .before .before .start .ensures) at (c .before .before .before .before .bump-at .ensures)) (c .before .before .field .given .1)) (c .if2 .left))
+
+pub read-bump-spec : {M : Type 1} → statement M
+read-bump-spec =
+    tie.close
+    (tie.spec returns start-requires bump-at-requires enum-known-field enum-told returns-2 returns-3 returns-4)

@@ -1,0 +1,28 @@
+use borrow.Author.Needs.{needs}
+use Rattle.format.specs.Level.{written}
+use Rattle.format.proofs.level.level_in_turn.Statement.{statement}
+use Rattle.format.proofs.level.level_in_turn.Tie as tie
+
+enum-told : tie.Need-enum-told
+enum-told c = search needs
+
+enum-told-2 : tie.Need-enum-told-2
+enum-told-2 c = search needs
+
+add-result : tie.Need-add-result
+add-result c = search needs
+
+sub-result : tie.Need-sub-result
+sub-result c = search needs
+
+returns : tie.Need-returns
+unfolding written
+returns c = rw (c .enum-told .given .1)
+
+returns-2 : tie.Need-returns-2
+unfolding written
+returns-2 c = rw (c .enum-told2 .given .1)
+
+pub level-in-turn-spec : {M : Type 1} → statement M
+level-in-turn-spec =
+    tie.close (tie.spec enum-told enum-told-2 add-result sub-result returns returns-2)

@@ -1,0 +1,105 @@
+use borrow.Author.Needs.{needs}
+use native.Mathlib.Omega.{arith}
+use Rattle.format.specs.ParseLaws.{count-start, count-step, count-refused, count-done, answered}
+use Rattle.format.specs.LevelLaws.{none-above}
+use Rattle.format.specs.Parse.{each, many}
+use Rattle.format.specs.Level.{holds, leafField, leafFields, andOffset}
+use Rattle.format.specs.LevelAnswer.{leafOf}
+use mathlib.Core.List.{[], _∷_, _++_}
+use native.Mathlib.Numerals.{add-one}
+use lib.ListN.{length-set}
+use lib.Seq.{length-take-le, take-suc-set}
+use mathlib.Core.Path.{_≡_, refl, sym, _∙_}
+use Prim.Native.Nat.{ℕ, _≤_, _<_, _-_, _+_}
+use mathlib.Core.Bool.{false}
+use lib.ListN.{length, take, set}
+use Rattle.format.proofs.level.read_leaves.Statement.{statement}
+use Rattle.format.proofs.level.read_leaves.Tie as tie
+
+abbrev Inv-loop : tie.InvT-loop
+Inv-loop s layout level greatest count seen₀ top₀ next₀ i₀ seen top next i =
+    (i ≤ count) × (length seen ≡ 1024) × ((x : ℕ) → top < x → holds x (take i seen) ≡ false)
+    × (each length (leafFields layout (greatest + 1) level count s (next₀ .at))
+    ≡ each (λ l. i + length l) (many (leafField layout (greatest + 1) level) andOffset (count - i) (take i seen) s (next .at)))
+
+abbrev μ-loop : tie.MeasureT-loop
+μ-loop s layout level greatest count seen₀ top₀ next₀ i₀ seen top next i = count - i
+
+loop-holds : tie.Need-loop-holds Inv-loop μ-loop
+unfolding holds
+loop-holds c = (omega arith, search needs, λ x h. refl, count-start _ _ _ _ _ _)
+
+array-share-prefix-seen : tie.Need-array-share-prefix-seen Inv-loop μ-loop
+array-share-prefix-seen c = search needs
+
+slice-aggregate-read-leaf : tie.Need-slice-aggregate-read-leaf Inv-loop μ-loop
+slice-aggregate-read-leaf c = sym (length-take-le _ _ (omega arith))
+
+read-leaf-requires : tie.Need-read-leaf-requires Inv-loop μ-loop
+read-leaf-requires c κs = c .before .before .loop .inv .2
+
+enum-known-field : tie.Need-enum-known-field Inv-loop μ-loop
+enum-known-field c = search needs
+
+enum-told : tie.Need-enum-told Inv-loop μ-loop
+enum-told c = search needs
+
+refusal-requires : tie.Need-refusal-requires Inv-loop μ-loop
+refusal-requires c κs = search needs
+
+returns : tie.Need-returns Inv-loop μ-loop
+returns c =
+    rw (c .refusal .ensures, c .before .enum-told .given .1)
+    (sym (c .before .before .before .before .before .before .loop .inv .3 ∙ count-refused _ _ _ _ _ _ _ (omega arith) (answered leafOf (c .before .before .before .read-leaf .ensures) (c .before .enum-told .given .1))))
+
+mul-seen : tie.Need-mul-seen Inv-loop μ-loop
+mul-seen c = search needs
+
+array-write-seen : tie.Need-array-write-seen Inv-loop μ-loop
+array-write-seen c = search needs
+
+larger-requires : tie.Need-larger-requires Inv-loop μ-loop
+larger-requires c κs = search needs
+
+add-i : tie.Need-add-i Inv-loop μ-loop
+add-i c = search needs
+
+loop-less : tie.Need-loop-less Inv-loop μ-loop
+loop-less c = search needs
+
+loop-again : tie.Need-loop-again Inv-loop μ-loop
+loop-again c =
+    let i = c .before .before .before .before .before .before .before .loop .i in
+    let seen = c .before .before .before .before .before .before .before .loop .seen in
+    let o = c .before .before .field .given .0 .0 .offset in
+    let grown : take (i + 1) (set seen i o) ≡ take i seen ++ (o ∷ []) = rw add-one (take-suc-set seen i o (omega arith)) in (
+      omega arith,
+      simp length-set (omega arith),
+      rw grown (none-above _ _ _ _ (c .before .before .before .before .before .before .before .loop .inv .2) (c .larger .ensures .0) (c .larger .ensures .1)),
+      c .before .before .before .before .before .before .before .loop .inv .3 ∙ rw grown (count-step _ _ _ _ i _ _ (omega arith) (answered leafOf (c .before .before .before .before .read-leaf .ensures) (c .before .before .field .given .1))),
+    )
+
+returns-2 : tie.Need-returns-2 Inv-loop μ-loop
+returns-2 c = sym (c .before .loop .inv .3 ∙ count-done _ _ _ _ _ _ _ (omega arith))
+
+pub read-leaves-spec : {M : Type 1} → statement M
+read-leaves-spec =
+    tie.close
+    (tie.spec
+    Inv-loop
+    μ-loop
+    loop-holds
+    array-share-prefix-seen
+    slice-aggregate-read-leaf
+    read-leaf-requires
+    enum-known-field
+    enum-told
+    refusal-requires
+    returns
+    mul-seen
+    array-write-seen
+    larger-requires
+    add-i
+    loop-less
+    loop-again
+    returns-2)

@@ -1,0 +1,72 @@
+use borrow.Author.Needs.{needs}
+use native.Mathlib.Omega.{arith}
+use mathlib.Core.Path.{_≡_, sym, _∙_}
+use Prim.Native.Nat.{_≤_, _-_}
+use native.Mathlib.Nat.{sub-zero}
+use Rattle.format.specs.declared.path.Start.{Start}
+use Rattle.format.specs.LevelAnswer.{leafOf}
+use Rattle.format.specs.ParseLaws.{answered}
+use Rattle.format.specs.Search.{seekId}
+use Rattle.format.specs.SearchLaws.{least-end, least-stop, least-on}
+use Rattle.format.proofs.path.seek_id.Statement.{statement}
+use Rattle.format.proofs.path.seek_id.Tie as tie
+
+abbrev Inv-loop : tie.InvT-loop
+Inv-loop s layout count id best₀ next₀ i₀ best next i =
+    (i ≤ count) × (seekId layout id count s (next₀ .at) Start.Nowhere ≡ seekId layout id (count - i) s (next .at) best)
+
+abbrev μ-loop : tie.MeasureT-loop
+μ-loop s layout count id best₀ next₀ i₀ best next i = count - i
+
+loop-holds : tie.Need-loop-holds Inv-loop μ-loop
+loop-holds c = (omega arith, simp sub-zero)
+
+leaf-at-requires : tie.Need-leaf-at-requires Inv-loop μ-loop
+leaf-at-requires c κs = search needs
+
+enum-known-field : tie.Need-enum-known-field Inv-loop μ-loop
+enum-known-field c = search needs
+
+enum-told : tie.Need-enum-told Inv-loop μ-loop
+enum-told c = search needs
+
+returns : tie.Need-returns Inv-loop μ-loop
+returns c =
+    sym (c .before .before .before .before .loop .inv .1 ∙ least-stop _ _ _ _ _ _ (omega arith) (answered leafOf (c .before .before .leaf-at .ensures) (c .enum-told .given .1)))
+
+start-of-requires : tie.Need-start-of-requires Inv-loop μ-loop
+start-of-requires c κs = search needs
+
+lesser-of-requires : tie.Need-lesser-of-requires Inv-loop μ-loop
+lesser-of-requires c κs = search needs
+
+add-i : tie.Need-add-i Inv-loop μ-loop
+add-i c = search needs
+
+loop-less : tie.Need-loop-less Inv-loop μ-loop
+loop-less c = search needs
+
+loop-again : tie.Need-loop-again Inv-loop μ-loop
+loop-again c =
+    (omega arith, c .before .before .before .before .before .before .before .loop .inv .1 ∙ least-on _ _ _ _ _ _ _ _ (omega arith) (answered leafOf (c .before .before .before .before .before .leaf-at .ensures) (c .before .before .before .field .given .1)) (rw (c .before .start-of .ensures) at (c .lesser-of .ensures)))
+
+returns-2 : tie.Need-returns-2 Inv-loop μ-loop
+returns-2 c = sym (c .before .loop .inv .1 ∙ least-end _ _ _ _ _ _ (omega arith))
+
+pub seek-id-spec : {M : Type 1} → statement M
+seek-id-spec =
+    tie.close
+    (tie.spec
+    Inv-loop
+    μ-loop
+    loop-holds
+    leaf-at-requires
+    enum-known-field
+    enum-told
+    returns
+    start-of-requires
+    lesser-of-requires
+    add-i
+    loop-less
+    loop-again
+    returns-2)

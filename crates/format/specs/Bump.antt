@@ -1,0 +1,61 @@
+-- BUMP (document 003; 01, "Layouts").
+use mathlib.Core.Path.{_≡_, refl}
+use mathlib.Core.List.{List}
+use mathlib.Core.Bool.{_&&_}
+use Prim.Native.Nat.{ℕ}
+use lib.Dec.{leb}
+use Rattle.format.specs.declared.level.Layout.{Layout}
+use Rattle.format.specs.declared.level.Leaf.{Leaf}
+use Rattle.format.specs.declared.bump.BumpHead.{BumpHead}
+use Rattle.format.specs.declared.bump.BumpAnswer.{BumpAnswer}
+use Rattle.format.specs.declared.refusal.Refusal.{Refusal}
+use Rattle.format.specs.OneAnswer.{answerOf, one-reading}
+use Rattle.format.specs.Parse.{Parse, Reader, pure, here, _>>=_, _passing_else_, whole, got, bad}
+use Rattle.format.specs.Field.{byte, varint}
+use Rattle.format.specs.Level.{levelFields, total}
+use Rattle.format.specs.Refusals.{BAD-HEIGHT, OVER-LIMIT, MAX-BLOCK, MAX-HEIGHT}
+
+-- block height and tree height, the place where the levels start, and the levels 0 to height - 1
+pub record Bump : Type 0 where
+  pub block : ℕ
+  pub height : ℕ
+  pub start : ℕ
+  pub levels : List (List Leaf)
+
+unfoldable pub blockField : Reader ℕ
+blockField = varint passing (λ b. leb b MAX-BLOCK) else OVER-LIMIT
+
+unfoldable pub heightField : Reader ℕ
+heightField = byte passing (λ h. leb 1 h && leb h MAX-HEIGHT) else BAD-HEIGHT
+
+unfoldable pub bumpField : Reader Bump
+bumpField = do
+  block ← blockField
+  height ← heightField
+  start ← here
+  levels ← levelFields Layout.Bump height
+  pure (record { block = block; height = height; start = start; levels = levels })
+
+-- an input that is one whole BUMP
+abbrev pub bumpWhole : List ℕ → Parse Bump
+bumpWhole s = whole bumpField s
+
+-- what the answer of a reading holds of a BUMP
+abbrev pub headOf : Bump → BumpHead
+headOf b = record { block = b .block; height = b .height; leaves = total (b .levels); levels = record { at = b .start } }
+
+-- what the answer says
+abbrev pub bumpAnswer : BumpAnswer → Parse BumpHead
+bumpAnswer (BumpAnswer.Value v c) = got v (c .at)
+bumpAnswer (BumpAnswer.Refused r) = bad (r .number) (r .place)
+
+abbrev pub refusalOfBump : BumpAnswer → Refusal
+refusalOfBump (BumpAnswer.Value v c) = record { number = 0; place = 0 }
+refusalOfBump (BumpAnswer.Refused r) = r
+
+pub bump-one : (a b : BumpAnswer) → bumpAnswer a ≡ bumpAnswer b → a ≡ b
+bump-one = one-reading bumpAnswer BumpAnswer.Value BumpAnswer.Refused undone
+  where
+    undone : (x : BumpAnswer) → answerOf BumpAnswer.Value BumpAnswer.Refused (bumpAnswer x) ≡ x
+    undone (BumpAnswer.Value v c) = refl
+    undone (BumpAnswer.Refused r) = refl

@@ -1,0 +1,56 @@
+-- CMP, the compound path (document 001; 01, "Layouts").
+use mathlib.Core.Path.{_≡_, refl}
+use mathlib.Core.List.{List, reverse}
+use Prim.Native.Nat.{ℕ, _+_}
+use lib.Dec.{leb}
+use Rattle.format.specs.declared.level.Layout.{Layout}
+use Rattle.format.specs.declared.level.Leaf.{Leaf}
+use Rattle.format.specs.declared.cmp.CmpHead.{CmpHead}
+use Rattle.format.specs.declared.cmp.CmpAnswer.{CmpAnswer}
+use Rattle.format.specs.declared.refusal.Refusal.{Refusal}
+use Rattle.format.specs.OneAnswer.{answerOf, one-reading}
+use Rattle.format.specs.Parse.{Parse, Reader, pure, here, _>>=_, _passing_else_, whole, got, bad}
+use Rattle.format.specs.Field.{byte}
+use Rattle.format.specs.Level.{levelFields, total}
+use Rattle.format.specs.Refusals.{BAD-HEIGHT, MAX-TOP}
+
+-- its m + 1 layers, the place where the levels start, and the levels from 0 up, though they are written from m down
+pub record Cmp : Type 0 where
+  pub height : ℕ
+  pub start : ℕ
+  pub levels : List (List Leaf)
+
+-- the byte m
+unfoldable pub topField : Reader ℕ
+topField = byte passing (λ m. leb m MAX-TOP) else BAD-HEIGHT
+
+unfoldable pub cmpField : Reader Cmp
+cmpField = do
+  m ← topField
+  start ← here
+  levels ← levelFields Layout.Cmp (m + 1)
+  pure (record { height = m + 1; start = start; levels = reverse levels })
+
+-- an input that is one whole CMP
+abbrev pub cmpWhole : List ℕ → Parse Cmp
+cmpWhole s = whole cmpField s
+
+-- what the answer of a reading holds of a CMP
+abbrev pub cmpHeadOf : Cmp → CmpHead
+cmpHeadOf p = record { height = p .height; leaves = total (p .levels); levels = record { at = p .start } }
+
+-- what the answer says
+abbrev pub cmpAnswer : CmpAnswer → Parse CmpHead
+cmpAnswer (CmpAnswer.Value v c) = got v (c .at)
+cmpAnswer (CmpAnswer.Refused r) = bad (r .number) (r .place)
+
+abbrev pub refusalOfCmp : CmpAnswer → Refusal
+refusalOfCmp (CmpAnswer.Value v c) = record { number = 0; place = 0 }
+refusalOfCmp (CmpAnswer.Refused r) = r
+
+pub cmp-one : (a b : CmpAnswer) → cmpAnswer a ≡ cmpAnswer b → a ≡ b
+cmp-one = one-reading cmpAnswer CmpAnswer.Value CmpAnswer.Refused undone
+  where
+    undone : (x : CmpAnswer) → answerOf CmpAnswer.Value CmpAnswer.Refused (cmpAnswer x) ≡ x
+    undone (CmpAnswer.Value v c) = refl
+    undone (CmpAnswer.Refused r) = refl

@@ -1,0 +1,136 @@
+-- TSC binary proofs (document 000; 01, "Layouts").
+use mathlib.Core.Path.{_≡_, refl}
+use mathlib.Core.List.{List, [], _∷_, _++_}
+use mathlib.Core.Bool.{Bool, not, _&&_}
+use Prim.Native.Nat.{ℕ, _+_, _^_}
+use lib.ListN.{length, replicate}
+use lib.Bits.{bitAnd}
+use lib.Dec.{ltb, leb, eqb}
+use Rattle.format.specs.declared.level.Kind.{Kind}
+use Rattle.format.specs.declared.tsc.Subject.{Subject}
+use Rattle.format.specs.declared.tsc.TscHead.{TscHead}
+use Rattle.format.specs.Parse.{Parse, Reader, pick, pure, here, onward, _>>=_, _>>_, given, _passing_else_, require, times, each, whole, got, bad}
+use Rattle.format.specs.Field.{bytes, byte, varint}
+use Rattle.format.specs.Node.{nodeField}
+use Rattle.format.specs.Search.{hashAt}
+use Rattle.format.specs.Transaction.{Listed, Transaction, txField}
+use Rattle.format.specs.Refusals.{OVER-LIMIT, BAD-OFFSET, BAD-FLAG, BAD-TX, MAX-HEIGHT}
+
+-- flags AND 6 is 0, 2 or 4; 6, or any bit above bit 2, is refused
+abbrev pub flagsAllowed : ℕ → Bool
+flagsAllowed flags = ltb flags 8 && not (eqb (bitAnd flags 6) 6)
+
+unfoldable pub flagsField : Reader ℕ
+flagsField = byte passing (λ f. flagsAllowed f) else BAD-FLAG
+
+-- bit 0: the transaction stands here, and not its id
+abbrev pub hasTransaction : ℕ → Bool
+hasTransaction flags = eqb (bitAnd flags 1) 1
+
+-- flags AND 6 is 0 for a block hash, 2 for a header, 4 for a root
+abbrev pub hasHeader : ℕ → Bool
+hasHeader flags = eqb (bitAnd flags 6) 2
+
+-- what was read ends where its stated length does; any fault in it is 11 at its start
+abbrev pub exactly : {A : Type 0} → ℕ → ℕ → Parse A → Parse A
+exactly start end (got a q) = pick (eqb q end) (got a q) (bad BAD-TX start)
+exactly start end (bad n q) = bad BAD-TX start
+
+-- a transaction of exactly n bytes: a length past the end of the input is 2 at its start
+unfoldable pub exactField : ℕ → Reader Transaction
+exactField n s at = onward (bytes n s at) (λ start end. exactly start end (txField s start))
+
+abbrev pub asSubject : Transaction → Subject
+asSubject t = Subject.Transaction (t .start) (t .end)
+
+-- transaction length VarInt, transaction
+unfoldable pub statedField : Reader Subject
+statedField = do
+  n ← varint
+  given asSubject (exactField n)
+
+-- the transaction with its length if bit 0 is set, else a 32-byte id
+unfoldable pub subjectField : ℕ → Reader Subject
+subjectField flags = pick (hasTransaction flags) statedField (given Subject.Id (bytes 32))
+
+-- a header is 80 bytes, a block hash or a root 32
+unfoldable pub targetField : ℕ → Reader ℕ
+targetField flags = bytes (pick (hasHeader flags) 80 32)
+
+-- a position is below 2 ^ layers
+unfoldable pub indexFits : ℕ → ℕ → Bool
+indexFits index layers = ltb index (2 ^ layers)
+
+-- a node count VarInt
+unfoldable pub nodeCountField : Reader ℕ
+nodeCountField = varint passing (λ n. leb n MAX-HEIGHT) else OVER-LIMIT
+
+-- node count, nodes; the index is tested after the count, before the nodes
+unfoldable pub nodesField : ℕ → ℕ → Reader (Listed Kind)
+nodesField index indexAt = do
+  count ← nodeCountField
+  require (indexFits index count) BAD-OFFSET indexAt
+  at ← here
+  nodes ← times nodeField count
+  pure (record { at = at; items = nodes })
+
+-- flags, index, what is proved, the place of the target, and the nodes
+pub record Tsc : Type 0 where
+  pub flags : ℕ
+  pub index : ℕ
+  pub subject : Subject
+  pub target : ℕ
+  pub nodesAt : ℕ
+  pub nodes : List Kind
+
+unfoldable pub tscField : Reader Tsc
+tscField = do
+  flags ← flagsField
+  indexAt ← here
+  index ← varint
+  subject ← subjectField flags
+  target ← targetField flags
+  nodes ← nodesField index indexAt
+  pure (record { flags = flags; index = index; subject = subject; target = target; nodesAt = nodes .at; nodes = nodes .items })
+
+-- an input that is one TSC proof
+abbrev pub tscWhole : List ℕ → Parse Tsc
+tscWhole s = whole tscField s
+
+-- what the answer of a reading holds of a TSC proof
+abbrev pub tscHeadOf : Tsc → TscHead
+tscHeadOf t = record {
+  flags = t .flags;
+  index = t .index;
+  subject = t .subject;
+  target = t .target;
+  nodes = length (t .nodes);
+  «nodes_at» = record { at = t .nodesAt };
+}
+
+-- a block hash tells no root
+unfoldable pub tellsRoot : ℕ → Bool
+tellsRoot flags = not (eqb (bitAnd flags 6) 0)
+
+-- a header holds the root in bytes 36 to 67; any other target is taken as it is
+unfoldable pub targetRoot : List ℕ → ℕ → ℕ → List ℕ
+targetRoot s flags target = hashAt s (pick (hasHeader flags) (target + 36) target)
+
+-- 9 over three layers is outside, and is not taken as 1
+index-outside : tscField (0x00 ∷ 0x09 ∷ replicate 64 0xaa ++ (0x03 ∷ [])) 0 ≡ bad 6 1
+unfolding tscField flagsField subjectField targetField nodesField nodeCountField indexFits varint bytes byte each
+index-outside = refl
+
+-- over 32 nodes come first
+nodes-over : tscField (0x00 ∷ 0x08 ∷ replicate 64 0xaa ++ (0x21 ∷ [])) 0 ≡ bad 5 66
+unfolding tscField flagsField subjectField targetField nodesField nodeCountField indexFits varint bytes byte each
+nodes-over = refl
+
+-- a stated length of 0 is no transaction; a length past the end is 2; both at the transaction's start
+stated-none : tscField (0x05 ∷ 0x00 ∷ 0x00 ∷ []) 0 ≡ bad 11 3
+unfolding tscField flagsField subjectField statedField exactField txField varint bytes byte each
+stated-none = refl
+
+stated-past : tscField (0x05 ∷ 0x00 ∷ 0x01 ∷ []) 0 ≡ bad 2 3
+unfolding tscField flagsField subjectField statedField exactField varint bytes byte each
+stated-past = refl

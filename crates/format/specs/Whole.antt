@@ -1,0 +1,37 @@
+-- An input that is one whole item, under any function of what is read.
+use mathlib.Core.Path.{_≡_, refl}
+use mathlib.Core.List.{List}
+use mathlib.Core.Bool.{Bool, true, false}
+use Prim.Native.Nat.{ℕ, _≤_, _<_}
+use lib.ListN.{length}
+use lib.Dec.{leb}
+use native.Mathlib.Omega.{arith}
+use borrow.Author.Tests.{le-ltb, lt-ltb, le-leb, lt-leb, leb-true}
+use Rattle.format.specs.Parse.{Reader, pick, ended, whole, got, bad}
+use Rattle.format.specs.Refusals.{TOO-LONG, EXTRA, MAX-INPUT}
+
+module _ {A : Type 0} (p : Reader A) (s : List ℕ) where
+  pub whole-long : MAX-INPUT < length s → whole p s ≡ bad TOO-LONG 0
+  unfolding whole
+  whole-long h = simp (lt-leb _ _ h)
+
+  pub whole-bad : {n q : ℕ} → length s ≤ MAX-INPUT → p s 0 ≡ bad n q → whole p s ≡ p s 0
+  unfolding whole
+  whole-bad h e = simp (le-leb _ _ h, e)
+
+  pub whole-more : {a : A} {q : ℕ} → length s ≤ MAX-INPUT → p s 0 ≡ got a q → q < length s → whole p s ≡ bad EXTRA q
+  unfolding whole
+  whole-more h e l = simp (le-leb _ _ h, e, lt-ltb _ _ l)
+
+  pub whole-got : {a : A} {q : ℕ} → length s ≤ MAX-INPUT → p s 0 ≡ got a q → length s ≤ q → whole p s ≡ p s 0
+  unfolding whole
+  whole-got h e l = simp (le-leb _ _ h, e, le-ltb _ _ l)
+
+  -- what was read is of at most the input size
+  pub whole-size : {a : A} {q : ℕ} → whole p s ≡ got a q → length s ≤ MAX-INPUT
+  unfolding whole
+  whole-size {a} {q} e = fit (leb (length s) MAX-INPUT) refl e
+    where
+      fit : (t : Bool) → leb (length s) MAX-INPUT ≡ t → pick t (ended p s 0) (bad TOO-LONG 0) ≡ got a q → length s ≤ MAX-INPUT
+      fit true h m = leb-true _ _ h
+      fit false h m = absurd (let z : _≡_ {A = ℕ} 0 1 = cc in omega arith)

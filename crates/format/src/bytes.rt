@@ -1,0 +1,37 @@
+// Hashes as 32 bytes.
+ghost use mathlib.Core.Path.{_≡_};
+ghost use Rattle.format.specs.Bytes.{same};
+ghost use Rattle.format.specs.Search.{hashAt};
+
+// Whether two hashes are the same 32 bytes.
+pub fn same_bytes(a: [u8; 32], b: [u8; 32]) -> bool
+    ensures { λ r. ⌜ r ≡ same a b ⌝ }
+{
+    let mut i = 0;
+    while i < 32 {
+        if a[i] != b[i] {
+            return false;
+        }
+        i += 1;
+    }
+    true
+}
+
+// The 32 bytes of s from a place; zeros where they aren't all there.
+pub fn hash_at(s: &[u8], place: usize) -> [u8; 32]
+    ensures { λ r. ⌜ r ≡ hashAt (now (s .entry)) place ⌝ }
+{
+    let mut out = [0u8; 32];
+    if s.len() < place {
+        return out;
+    }
+    if s.len() - place < 32 {
+        return out;
+    }
+    let mut i = 0;
+    while i < 32 {
+        out[i] = s[place + i];
+        i += 1;
+    }
+    out
+}

@@ -1,0 +1,117 @@
+// CMP, the compound path (document 001).
+use super::field::Cursor;
+use super::field::MAX_INPUT;
+use super::field::Number;
+use super::field::one_byte;
+use super::level::Layout;
+use super::level::read_levels;
+use super::refusal::BAD_HEIGHT;
+use super::refusal::EXTRA;
+use super::refusal::Refusal;
+use super::refusal::TOO_LONG;
+ghost use mathlib.Core.Path.{_≡_};
+ghost use Rattle.format.specs.Parse.{each};
+ghost use Rattle.format.specs.FieldAnswer.{numberOf};
+ghost use Rattle.format.specs.Cmp.{topField, cmpField, cmpWhole, cmpHeadOf, cmpAnswer, refusalOfCmp};
+
+// The format: its limit (01, "Sizes"), and where a reading of it starts.
+pub struct Cmp;
+
+impl Cmp {
+    // The byte m.
+    pub const MAX_TOP: u64 = 31;
+
+    pub fn start() -> Cursor
+        ensures { λ r. ⌜ r ≡ record { at = 0 } ⌝ }
+    {
+        Cursor { at: 0 }
+    }
+}
+
+// A CMP's layers, how many leaves its levels have, and where they start.
+pub struct CmpHead {
+    pub height: u64,
+    pub leaves: u64,
+    pub levels: Cursor,
+}
+
+pub enum CmpAnswer {
+    Value(CmpHead, Cursor),
+    Refused(Refusal),
+}
+
+impl CmpAnswer {
+    pub fn refusal(self) -> Refusal
+        ensures { λ r. ⌜ r ≡ refusalOfCmp self ⌝ }
+    {
+        match self {
+            CmpAnswer::Refused(x) => x,
+            CmpAnswer::Value(_, _) => Refusal {
+                number: 0,
+                place: 0,
+            },
+        }
+    }
+}
+
+fn read_top(s: &[u8], c: Cursor) -> Number
+    ensures { λ r. ⌜ numberOf r ≡ topField (now (s .entry)) (c .at) ⌝ }
+{
+    let at = c.at;
+    let field = one_byte(s, c);
+    let Number::Value(top, _) = field else {
+        return field;
+    };
+    if Cmp::MAX_TOP < top {
+        return Number::Refused(Refusal {
+            number: BAD_HEIGHT,
+            place: at,
+        });
+    }
+    field
+}
+
+pub fn cmp_at(s: &[u8], c: Cursor) -> CmpAnswer
+    ensures { λ r. ⌜ cmpAnswer r ≡ each cmpHeadOf (cmpField (now (s .entry)) (c .at)) ⌝ }
+{
+    let first = read_top(s, c);
+    let Number::Value(top, levels) = first else {
+        return CmpAnswer::Refused(first.refusal());
+    };
+    let height = top + 1;
+    let second = read_levels(s, levels, Layout::Cmp, height);
+    let Number::Value(leaves, next) = second else {
+        return CmpAnswer::Refused(second.refusal());
+    };
+    CmpAnswer::Value(
+        CmpHead {
+            height,
+            leaves,
+            levels,
+        },
+        next,
+    )
+}
+
+pub fn read_cmp(s: &[u8]) -> CmpAnswer
+    ensures { λ r. ⌜ cmpAnswer r ≡ each cmpHeadOf (cmpWhole (now (s .entry))) ⌝ }
+{
+    if MAX_INPUT < s.len() {
+        return CmpAnswer::Refused(Refusal {
+            number: TOO_LONG,
+            place: 0,
+        });
+    }
+    let field = cmp_at(s, Cmp::start());
+    let CmpAnswer::Value(_, next) = field else {
+        return field;
+    };
+    let at = next.at;
+    if at < s.len() {
+        return CmpAnswer::Refused(Refusal {
+            number: EXTRA,
+            place: at,
+        });
+    }
+    field
+}

@@ -1,0 +1,384 @@
+// Leaves and levels as BUMP (document 003) and CMP (document 001) write them.
+use super::field::Cursor;
+use super::field::Number;
+use super::field::Run;
+use super::field::one_byte;
+use super::field::read_run;
+use super::field::read_varint;
+use super::refusal::BAD_FLAG;
+use super::refusal::BAD_OFFSET;
+use super::refusal::OVER_LIMIT;
+use super::refusal::REPEATED;
+use super::refusal::Refusal;
+ghost use mathlib.Core.Path.{_≡_};
+ghost use mathlib.Core.Bool.{Bool, true, false};
+ghost use Prim.Native.Nat.{ℕ, _+_, _-_, _≤_, _<_, _^_, _%_};
+ghost use lib.ListN.{length};
+ghost use Rattle.format.specs.Parse.{each, times};
+ghost use Rattle.format.specs.FieldAnswer.{numberOf, runOf};
+ghost use Rattle.format.specs.Refusals.{MAX-LEAVES};
+ghost use Rattle.format.specs.Level.{holds, offsetField, flagField, flagAllowed, kindField, carriedField, leafField, leafFields, levelField, written, levelInTurn, levelFields, total};
+ghost use Rattle.format.specs.LevelAnswer.{kindOf, leafOf, refusalOfKind, refusalOfLeaf};
+ghost use Rattle.format.specs.Search.{looseCarried, looseLeaf, looseLevel};
+
+// Which of the two layouts.
+pub enum Layout {
+    Bump,
+    Cmp,
+}
+
+impl Layout {
+    // Leaves of a level (01, "Sizes").
+    pub const MAX_LEAVES: usize = 1024;
+}
+
+// What a leaf carries: the place of its 32 bytes, or nothing.
+pub enum Kind {
+    Plain(usize),
+    Copy,
+    Client(usize),
+}
+
+pub struct Leaf {
+    pub offset: u64,
+    pub kind: Kind,
+}
+
+pub enum KindAnswer {
+    Value(Kind, Cursor),
+    Refused(Refusal),
+}
+
+pub enum LeafAnswer {
+    Value(Leaf, Cursor),
+    Refused(Refusal),
+}
+
+impl KindAnswer {
+    pub fn refusal(self) -> Refusal
+        ensures { λ r. ⌜ r ≡ refusalOfKind self ⌝ }
+    {
+        match self {
+            KindAnswer::Refused(x) => x,
+            KindAnswer::Value(_, _) => Refusal {
+                number: 0,
+                place: 0,
+            },
+        }
+    }
+}
+
+impl LeafAnswer {
+    pub fn refusal(self) -> Refusal
+        ensures { λ r. ⌜ r ≡ refusalOfLeaf self ⌝ }
+    {
+        match self {
+            LeafAnswer::Refused(x) => x,
+            LeafAnswer::Value(_, _) => Refusal {
+                number: 0,
+                place: 0,
+            },
+        }
+    }
+}
+
+fn contains(l: &[u64], x: u64) -> bool
+    ensures { λ r. ⌜ r ≡ holds x (now (l .entry)) ⌝ }
+{
+    let mut i = 0;
+    while i < l.len() {
+        if x == l[i] {
+            return true;
+        }
+        i += 1;
+    }
+    false
+}
+
+// An offset of at most `greatest`. No offset seen is above top.
+fn read_offset(s: &[u8], c: Cursor, greatest: u64, seen: &[u64], top: u64) -> Number
+    requires { ⌜ ((x : ℕ) → top < x → holds x (now seen) ≡ false) ⌝ }
+    ensures { λ r. ⌜ numberOf r ≡ offsetField (greatest + 1) (now (seen .entry)) (now (s .entry)) (c .at) ⌝ }
+{
+    let at = c.at;
+    let field = read_varint(s, c);
+    let Number::Value(offset, _) = field else {
+        return field;
+    };
+    if greatest < offset {
+        return Number::Refused(Refusal {
+            number: BAD_OFFSET,
+            place: at,
+        });
+    }
+    if offset <= top {
+        if contains(seen, offset) {
+            return Number::Refused(Refusal {
+                number: REPEATED,
+                place: at,
+            });
+        }
+    }
+    field
+}
+
+fn flag_allowed(level: u64, offset: u64, flag: u64) -> bool
+    ensures { λ r. ⌜ r ≡ flagAllowed level offset flag ⌝ }
+{
+    if flag == 0 {
+        return true;
+    }
+    if flag == 1 {
+        return offset % 2 == 1;
+    }
+    if flag == 2 {
+        return level == 0;
+    }
+    false
+}
+
+fn read_flag(s: &[u8], c: Cursor, level: u64, offset: u64) -> Number
+    ensures { λ r. ⌜ numberOf r ≡ flagField level offset (now (s .entry)) (c .at) ⌝ }
+{
+    let at = c.at;
+    let field = one_byte(s, c);
+    let Number::Value(flag, _) = field else {
+        return field;
+    };
+    if flag_allowed(level, offset, flag) {
+        return field;
+    }
+    Number::Refused(Refusal {
+        number: BAD_FLAG,
+        place: at,
+    })
+}
+
+pub fn read_kind(s: &[u8], c: Cursor, flag: u64) -> KindAnswer
+    ensures { λ r. ⌜ kindOf r ≡ kindField flag (now (s .entry)) (c .at) ⌝ }
+{
+    if flag == 1 {
+        return KindAnswer::Value(Kind::Copy, c);
+    }
+    let field = read_run(s, c, 32);
+    let Run::Value(place, next) = field else {
+        return KindAnswer::Refused(field.refusal());
+    };
+    if flag == 0 {
+        return KindAnswer::Value(Kind::Plain(place), next);
+    }
+    KindAnswer::Value(Kind::Client(place), next)
+}
+
+fn read_flagged(s: &[u8], c: Cursor, level: u64, offset: u64) -> KindAnswer
+    ensures { λ r. ⌜ kindOf r ≡ carriedField Layout.Bump level offset (now (s .entry)) (c .at) ⌝ }
+{
+    let first = read_flag(s, c, level, offset);
+    let Number::Value(flag, next) = first else {
+        return KindAnswer::Refused(first.refusal());
+    };
+    read_kind(s, next, flag)
+}
+
+// What follows an offset.
+fn read_carried(s: &[u8], c: Cursor, layout: Layout, level: u64, offset: u64) -> KindAnswer
+    ensures { λ r. ⌜ kindOf r ≡ carriedField layout level offset (now (s .entry)) (c .at) ⌝ }
+{
+    match layout {
+        Layout::Bump => read_flagged(s, c, level, offset),
+        Layout::Cmp => read_kind(s, c, 0),
+    }
+}
+
+fn read_leaf(
+    s: &[u8],
+    c: Cursor,
+    layout: Layout,
+    level: u64,
+    greatest: u64,
+    seen: &[u64],
+    top: u64,
+) -> LeafAnswer
+    requires { ⌜ ((x : ℕ) → top < x → holds x (now seen) ≡ false) ⌝ }
+    ensures { λ r. ⌜ leafOf r ≡ leafField layout (greatest + 1) level (now (seen .entry)) (now (s .entry)) (c .at) ⌝ }
+{
+    let first = read_offset(s, c, greatest, seen, top);
+    let Number::Value(offset, second_at) = first else {
+        return LeafAnswer::Refused(first.refusal());
+    };
+    let second = read_carried(s, second_at, layout, level, offset);
+    let KindAnswer::Value(kind, next) = second else {
+        return LeafAnswer::Refused(second.refusal());
+    };
+    LeafAnswer::Value(Leaf { offset, kind }, next)
+}
+
+fn larger(a: u64, b: u64) -> u64
+    ensures { λ r. ⌜ (a ≤ r) × (b ≤ r) ⌝ }
+{
+    if a < b { b } else { a }
+}
+
+// Only an offset that isn't above all before it is looked for among them, so rising offsets cost one look each.
+fn read_leaves(
+    s: &[u8],
+    c: Cursor,
+    layout: Layout,
+    level: u64,
+    greatest: u64,
+    count: usize,
+) -> Number
+    requires { ⌜ count ≤ MAX-LEAVES ⌝ }
+    ensures { λ r. ⌜ numberOf r ≡ each length (leafFields layout (greatest + 1) level count (now (s .entry)) (c .at)) ⌝ }
+{
+    let mut seen = [0u64; Layout::MAX_LEAVES];
+    let mut top: u64 = 0;
+    let mut next = c;
+    let mut i: usize = 0;
+    while i < count {
+        let field = read_leaf(s, next, layout, level, greatest, &seen[..i], top);
+        let LeafAnswer::Value(leaf, after) = field else {
+            return Number::Refused(field.refusal());
+        };
+        let offset = leaf.offset;
+        seen[i] = offset;
+        top = larger(top, offset);
+        next = after;
+        i += 1;
+    }
+    Number::Value(i as u64, next)
+}
+
+// A level: the answer is how many leaves it has.
+fn read_level(s: &[u8], c: Cursor, layout: Layout, level: u64, greatest: u64) -> Number
+    ensures { λ r. ⌜ numberOf r ≡ each length (levelField layout (greatest + 1) level (now (s .entry)) (c .at)) ⌝ }
+{
+    let at = c.at;
+    let field = read_varint(s, c);
+    let Number::Value(count, next) = field else {
+        return field;
+    };
+    if (Layout::MAX_LEAVES as u64) < count {
+        return Number::Refused(Refusal {
+            number: OVER_LIMIT,
+            place: at,
+        });
+    }
+    read_leaves(s, next, layout, level, greatest, count as usize)
+}
+
+fn power(n: u64) -> u64
+    requires { ⌜ n < 64 ⌝ }
+    ensures { λ r. ⌜ r ≡ 2 ^ n ⌝ }
+{
+    1 << n
+}
+
+// The greatest number of n bits; 2^64 itself is never computed.
+fn greatest_of(n: u64) -> u64
+    requires { ⌜ (1 ≤ n) × (n ≤ 64) ⌝ }
+    ensures { λ r. ⌜ r + 1 ≡ 2 ^ n ⌝ }
+{
+    let half = power(n - 1);
+    half - 1 + half
+}
+
+// The level that is written in turn i.
+pub(crate) fn level_in_turn(layout: Layout, height: u64, i: u64) -> u64
+    requires { ⌜ i < height ⌝ }
+    ensures { λ r. ⌜ r ≡ written layout height i ⌝ }
+{
+    match layout {
+        Layout::Bump => i,
+        Layout::Cmp => height - (i + 1),
+    }
+}
+
+fn read_in_turn(s: &[u8], c: Cursor, layout: Layout, height: u64, i: u64) -> Number
+    requires { ⌜ (i < height) × (height ≤ 64) ⌝ }
+    ensures { λ r. ⌜ numberOf r ≡ each length (levelInTurn layout height i (now (s .entry)) (c .at)) ⌝ }
+{
+    let level = level_in_turn(layout, height, i);
+    read_level(s, c, layout, level, greatest_of(height - level))
+}
+
+// The levels of a tree: the answer is how many leaves they have.
+pub(crate) fn read_levels(s: &[u8], c: Cursor, layout: Layout, height: u64) -> Number
+    requires { ⌜ height ≤ 64 ⌝ }
+    ensures { λ r. ⌜ numberOf r ≡ each total (levelFields layout height (now (s .entry)) (c .at)) ⌝ }
+{
+    let mut leaves: u64 = 0;
+    let mut next = c;
+    let mut i: u64 = 0;
+    while i < height {
+        let field = read_in_turn(s, next, layout, height, i);
+        let Number::Value(count, after) = field else {
+            return field;
+        };
+        leaves += count;
+        next = after;
+        i += 1;
+    }
+    Number::Value(leaves, next)
+}
+
+fn loose_flagged(s: &[u8], c: Cursor) -> KindAnswer
+    ensures { λ r. ⌜ kindOf r ≡ looseCarried Layout.Bump (now (s .entry)) (c .at) ⌝ }
+{
+    let first = one_byte(s, c);
+    let Number::Value(flag, next) = first else {
+        return KindAnswer::Refused(first.refusal());
+    };
+    read_kind(s, next, flag)
+}
+
+fn loose_carried(s: &[u8], c: Cursor, layout: Layout) -> KindAnswer
+    ensures { λ r. ⌜ kindOf r ≡ looseCarried layout (now (s .entry)) (c .at) ⌝ }
+{
+    match layout {
+        Layout::Bump => loose_flagged(s, c),
+        Layout::Cmp => read_kind(s, c, 0),
+    }
+}
+
+// A leaf of a level that was read before: no test of its offset or flags.
+pub fn leaf_at(s: &[u8], c: Cursor, layout: Layout) -> LeafAnswer
+    ensures { λ r. ⌜ leafOf r ≡ looseLeaf layout (now (s .entry)) (c .at) ⌝ }
+{
+    let first = read_varint(s, c);
+    let Number::Value(offset, second_at) = first else {
+        return LeafAnswer::Refused(first.refusal());
+    };
+    let second = loose_carried(s, second_at, layout);
+    let KindAnswer::Value(kind, next) = second else {
+        return LeafAnswer::Refused(second.refusal());
+    };
+    LeafAnswer::Value(Leaf { offset, kind }, next)
+}
+
+fn skip_leaves(s: &[u8], c: Cursor, layout: Layout, count: u64) -> Number
+    ensures { λ r. ⌜ numberOf r ≡ each length (times (looseLeaf layout) count (now (s .entry)) (c .at)) ⌝ }
+{
+    let mut next = c;
+    let mut i: u64 = 0;
+    while i < count {
+        let field = leaf_at(s, next, layout);
+        let LeafAnswer::Value(_, after) = field else {
+            return Number::Refused(field.refusal());
+        };
+        next = after;
+        i += 1;
+    }
+    Number::Value(i, next)
+}
+
+// A level that was read before: how many leaves it has, and the cursor after it.
+pub fn skip_level(s: &[u8], c: Cursor, layout: Layout) -> Number
+    ensures { λ r. ⌜ numberOf r ≡ each length (looseLevel layout (now (s .entry)) (c .at)) ⌝ }
+{
+    let field = read_varint(s, c);
+    let Number::Value(count, next) = field else {
+        return field;
+    };
+    skip_leaves(s, next, layout, count)
+}
