@@ -95,6 +95,41 @@ uint32_t barrowtide_read_tsc(const uint8_t *data, size_t len, uint64_t *carried,
 uint32_t barrowtide_read_beef(const uint8_t *data, size_t len, uint64_t *carried, uint64_t *bumps,
                               uint64_t *transactions);
 
+/* ---- Proving. The input is read as above first, with the refusals of reading. ---- */
+
+/* Proves a lent id by a BUMP: its position in the block, the number of layers above it, and the
+   Merkle root. The climb starts at the level-0 leaf that carries the id, of several at the least
+   offset. Refused in the climb: 13, 14, 15. */
+uint32_t barrowtide_prove_bump(const uint8_t *data, size_t len, const uint8_t id[32],
+                               uint64_t *carried, uint64_t *position, uint64_t *layers,
+                               uint8_t root[32]);
+
+/* The same by a compound path. */
+uint32_t barrowtide_prove_cmp(const uint8_t *data, size_t len, const uint8_t id[32],
+                              uint64_t *carried, uint64_t *position, uint64_t *layers,
+                              uint8_t root[32]);
+
+/* Proves a TSC proof's own id, the one written or its transaction's, and gives it, too. A header or
+   a root as target must hold the root. Refused in the climb: 15, 16. */
+uint32_t barrowtide_prove_tsc(const uint8_t *data, size_t len, uint64_t *carried, uint8_t id[32],
+                              uint64_t *position, uint64_t *layers, uint8_t root[32]);
+
+/* Climbs from every client leaf (flags 02) of a BUMP in written order; all must lead to one root.
+   Refused after reading: 13 if there is none, 14, 15, 16. */
+uint32_t barrowtide_check_clients(const uint8_t *data, size_t len, uint64_t *carried,
+                                  uint8_t root[32]);
+
+/* Compares two proofs. A form is 0 for a BUMP, 1 for a compound path, and any other number for a
+   TSC proof, whose id argument is not used (but must not be null). Two proofs of different ids at
+   one position under one root hold two different strings of 64 bytes with equal double SHA-256:
+   these are the answer.
+   Refused: the first proof's refusal, else the second's, else 23, else 24. */
+uint32_t barrowtide_compare(uint32_t first_form, const uint8_t *first, size_t first_len,
+                            const uint8_t first_id[32], uint32_t second_form,
+                            const uint8_t *second, size_t second_len, const uint8_t second_id[32],
+                            uint64_t *carried, uint8_t first_string[64],
+                            uint8_t second_string[64]);
+
 #ifdef __cplusplus
 }
 #endif

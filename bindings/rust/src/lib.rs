@@ -6,6 +6,8 @@
 //! - [`sha256d`], [`join`]: double SHA-256 of bytes and of two nodes
 //! - [`read_varint`], [`read_bump`], [`read_cmp`]: is this path well formed, and what does it hold?
 //! - [`read_transaction`], [`read_tsc`], [`read_beef`]: the same of transactions, proofs and bundles
+//! - [`prove_bump`], [`prove_cmp`], [`prove_tsc`], [`check_clients`]: the root that a proof leads to
+//! - [`compare`]: two proofs under one root that disagree on the id hold two strings of one hash
 //!
 //! Every call answers a value or a [`Refusal`] with 01's number and the place that it blames.
 //!
@@ -17,9 +19,11 @@
 mod beef;
 mod bump;
 mod cmp;
+mod compare;
 pub mod ffi;
 mod hash;
 pub mod hex;
+mod prove;
 mod refusal;
 mod transaction;
 mod tsc;
@@ -28,7 +32,9 @@ mod varint;
 pub use beef::{read_beef, Beef};
 pub use bump::{read_bump, Bump};
 pub use cmp::{read_cmp, Cmp};
+pub use compare::{compare, Claim, Collision};
 pub use hash::{join, sha256d, Hash, MAX_INPUT};
+pub use prove::{check_clients, prove_bump, prove_cmp, prove_tsc, Proof};
 pub use refusal::{Reason, Refusal};
 pub use transaction::{read_transaction, Transaction};
 pub use tsc::{read_tsc, Tsc};

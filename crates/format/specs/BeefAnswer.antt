@@ -20,7 +20,7 @@ use Rattle.format.specs.declared.beef.Bundle.{Bundle}
 use Rattle.format.specs.declared.beef.BumpFound.{BumpFound}
 use Rattle.format.specs.declared.beef.EntryFound.{EntryFound}
 use Rattle.format.specs.Parse.{Parse, pick, got, bad}
-use Rattle.format.specs.OneAnswer.{one-answer}
+use Rattle.format.specs.OneAnswer.{answerOf, one-reading}
 use Rattle.format.specs.Gather.{padded}
 use Rattle.format.specs.Bump.{headOf}
 use Rattle.format.specs.Transaction.{txHeadOf}
@@ -115,34 +115,22 @@ entryNth b n =
     pick (ltb n (countsOf (b .answer) .transactions)) (pick (ltb n MAX-TXS) (EntryFound.Here (getD (b .entries) n noEntry)) EntryFound.Missing) EntryFound.Missing
 
 pub anchor-one : (a b : AnchorAnswer) → anchorAnswer a ≡ anchorAnswer b → a ≡ b
-anchor-one = one-answer anchorAnswer undo undone
+anchor-one = one-reading anchorAnswer AnchorAnswer.Value AnchorAnswer.Refused undone
   where
-    undo : Parse Anchor → AnchorAnswer
-    undo (got v q) = AnchorAnswer.Value v (record { at = q })
-    undo (bad n q) = AnchorAnswer.Refused (record { number = n; place = q })
-
-    undone : (x : AnchorAnswer) → undo (anchorAnswer x) ≡ x
+    undone : (x : AnchorAnswer) → answerOf AnchorAnswer.Value AnchorAnswer.Refused (anchorAnswer x) ≡ x
     undone (AnchorAnswer.Value v c) = refl
     undone (AnchorAnswer.Refused r) = refl
 
 pub entry-one : (a b : EntryAnswer) → entryAnswer a ≡ entryAnswer b → a ≡ b
-entry-one = one-answer entryAnswer undo undone
+entry-one = one-reading entryAnswer EntryAnswer.Value EntryAnswer.Refused undone
   where
-    undo : Parse EntryHead → EntryAnswer
-    undo (got v q) = EntryAnswer.Value v (record { at = q })
-    undo (bad n q) = EntryAnswer.Refused (record { number = n; place = q })
-
-    undone : (x : EntryAnswer) → undo (entryAnswer x) ≡ x
+    undone : (x : EntryAnswer) → answerOf EntryAnswer.Value EntryAnswer.Refused (entryAnswer x) ≡ x
     undone (EntryAnswer.Value v c) = refl
     undone (EntryAnswer.Refused r) = refl
 
 pub beef-one : (a b : BeefAnswer) → beefAnswer a ≡ beefAnswer b → a ≡ b
-beef-one = one-answer beefAnswer undo undone
+beef-one = one-reading beefAnswer BeefAnswer.Value BeefAnswer.Refused undone
   where
-    undo : Parse BeefHead → BeefAnswer
-    undo (got v q) = BeefAnswer.Value v (record { at = q })
-    undo (bad n q) = BeefAnswer.Refused (record { number = n; place = q })
-
-    undone : (x : BeefAnswer) → undo (beefAnswer x) ≡ x
+    undone : (x : BeefAnswer) → answerOf BeefAnswer.Value BeefAnswer.Refused (beefAnswer x) ≡ x
     undone (BeefAnswer.Value v c) = refl
     undone (BeefAnswer.Refused r) = refl

@@ -8,7 +8,7 @@ use Rattle.format.specs.declared.tx.InputAnswer.{InputAnswer}
 use Rattle.format.specs.declared.tx.ItemsAnswer.{ItemsAnswer}
 use Rattle.format.specs.declared.tx.TxAnswer.{TxAnswer}
 use Rattle.format.specs.Parse.{Parse, got, bad}
-use Rattle.format.specs.OneAnswer.{one-answer}
+use Rattle.format.specs.OneAnswer.{answerOf, one-reading}
 
 abbrev pub inputAnswer : InputAnswer → Parse Input
 inputAnswer (InputAnswer.Value v c) = got v (c .at)
@@ -35,34 +35,22 @@ refusalOfTx (TxAnswer.Value v c) = record { number = 0; place = 0 }
 refusalOfTx (TxAnswer.Refused r) = r
 
 pub input-one : (a b : InputAnswer) → inputAnswer a ≡ inputAnswer b → a ≡ b
-input-one = one-answer inputAnswer undo undone
+input-one = one-reading inputAnswer InputAnswer.Value InputAnswer.Refused undone
   where
-    undo : Parse Input → InputAnswer
-    undo (got v q) = InputAnswer.Value v (record { at = q })
-    undo (bad n q) = InputAnswer.Refused (record { number = n; place = q })
-
-    undone : (x : InputAnswer) → undo (inputAnswer x) ≡ x
+    undone : (x : InputAnswer) → answerOf InputAnswer.Value InputAnswer.Refused (inputAnswer x) ≡ x
     undone (InputAnswer.Value v c) = refl
     undone (InputAnswer.Refused r) = refl
 
 pub items-one : (a b : ItemsAnswer) → itemsAnswer a ≡ itemsAnswer b → a ≡ b
-items-one = one-answer itemsAnswer undo undone
+items-one = one-reading itemsAnswer ItemsAnswer.Value ItemsAnswer.Refused undone
   where
-    undo : Parse Items → ItemsAnswer
-    undo (got v q) = ItemsAnswer.Value v (record { at = q })
-    undo (bad n q) = ItemsAnswer.Refused (record { number = n; place = q })
-
-    undone : (x : ItemsAnswer) → undo (itemsAnswer x) ≡ x
+    undone : (x : ItemsAnswer) → answerOf ItemsAnswer.Value ItemsAnswer.Refused (itemsAnswer x) ≡ x
     undone (ItemsAnswer.Value v c) = refl
     undone (ItemsAnswer.Refused r) = refl
 
 pub tx-one : (a b : TxAnswer) → txAnswer a ≡ txAnswer b → a ≡ b
-tx-one = one-answer txAnswer undo undone
+tx-one = one-reading txAnswer TxAnswer.Value TxAnswer.Refused undone
   where
-    undo : Parse TxHead → TxAnswer
-    undo (got v q) = TxAnswer.Value v (record { at = q })
-    undo (bad n q) = TxAnswer.Refused (record { number = n; place = q })
-
-    undone : (x : TxAnswer) → undo (txAnswer x) ≡ x
+    undone : (x : TxAnswer) → answerOf TxAnswer.Value TxAnswer.Refused (txAnswer x) ≡ x
     undone (TxAnswer.Value v c) = refl
     undone (TxAnswer.Refused r) = refl

@@ -6,7 +6,7 @@ use Rattle.format.specs.declared.tsc.SubjectAnswer.{SubjectAnswer}
 use Rattle.format.specs.declared.tsc.TscHead.{TscHead}
 use Rattle.format.specs.declared.tsc.TscAnswer.{TscAnswer}
 use Rattle.format.specs.Parse.{Parse, got, bad}
-use Rattle.format.specs.OneAnswer.{one-answer}
+use Rattle.format.specs.OneAnswer.{answerOf, one-reading}
 
 abbrev pub subjectAnswer : SubjectAnswer → Parse Subject
 subjectAnswer (SubjectAnswer.Value v c) = got v (c .at)
@@ -25,23 +25,15 @@ refusalOfTsc (TscAnswer.Value v c) = record { number = 0; place = 0 }
 refusalOfTsc (TscAnswer.Refused r) = r
 
 pub subject-one : (a b : SubjectAnswer) → subjectAnswer a ≡ subjectAnswer b → a ≡ b
-subject-one = one-answer subjectAnswer undo undone
+subject-one = one-reading subjectAnswer SubjectAnswer.Value SubjectAnswer.Refused undone
   where
-    undo : Parse Subject → SubjectAnswer
-    undo (got v q) = SubjectAnswer.Value v (record { at = q })
-    undo (bad n q) = SubjectAnswer.Refused (record { number = n; place = q })
-
-    undone : (x : SubjectAnswer) → undo (subjectAnswer x) ≡ x
+    undone : (x : SubjectAnswer) → answerOf SubjectAnswer.Value SubjectAnswer.Refused (subjectAnswer x) ≡ x
     undone (SubjectAnswer.Value v c) = refl
     undone (SubjectAnswer.Refused r) = refl
 
 pub tsc-one : (a b : TscAnswer) → tscAnswer a ≡ tscAnswer b → a ≡ b
-tsc-one = one-answer tscAnswer undo undone
+tsc-one = one-reading tscAnswer TscAnswer.Value TscAnswer.Refused undone
   where
-    undo : Parse TscHead → TscAnswer
-    undo (got v q) = TscAnswer.Value v (record { at = q })
-    undo (bad n q) = TscAnswer.Refused (record { number = n; place = q })
-
-    undone : (x : TscAnswer) → undo (tscAnswer x) ≡ x
+    undone : (x : TscAnswer) → answerOf TscAnswer.Value TscAnswer.Refused (tscAnswer x) ≡ x
     undone (TscAnswer.Value v c) = refl
     undone (TscAnswer.Refused r) = refl

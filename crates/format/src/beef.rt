@@ -29,16 +29,16 @@ ghost use Rattle.format.specs.FieldAnswer.{numberOf};
 ghost use Rattle.format.specs.Bump.{bumpField, headOf};
 ghost use Rattle.format.specs.Beef.{versionField, bumpCountField, bumpsField, txCountField, bumpNumberField, anchorField, entryField, entriesField, beefField, beefWhole};
 ghost use Rattle.format.specs.BeefAnswer.{anchorAnswer, refusalOfAnchor, entryHeadOf, entryAnswer, refusalOfEntry, beefHeadOf, beefAnswer, refusalOfBeef, noBump, noEntry, bumpsOf, entriesOf, bundleOf, countsOf, bumpNth, entryNth};
-ghost use Rattle.format.specs.Refusals.{MAX-TXS};
+ghost use Rattle.format.specs.Refusals.{MAX-BUMPS, MAX-TXS};
 
 pub struct Beef;
 
 impl Beef {
     pub const VERSION: u64 = 0xefbe0001;
 
-    pub const MAX_BUMPS: u64 = 64;
+    pub const MAX_BUMPS: usize = 64;
 
-    pub const MAX_TRANSACTIONS: u64 = 256;
+    pub const MAX_TRANSACTIONS: usize = 256;
 
     pub fn start() -> Cursor
         ensures { λ r. ⌜ r ≡ record { at = 0 } ⌝ }
@@ -138,20 +138,20 @@ impl BeefAnswer {
 // The BUMPs: how many, and the head of each.
 pub struct Bumps {
     pub answer: Number,
-    pub heads: [BumpHead; 64],
+    pub heads: [BumpHead; Beef::MAX_BUMPS],
 }
 
 // The transactions: how many, and the head of each.
 pub struct Entries {
     pub answer: Number,
-    pub heads: [EntryHead; 256],
+    pub heads: [EntryHead; Beef::MAX_TRANSACTIONS],
 }
 
 // A bundle that was read, or its refusal.
 pub struct Bundle {
     pub answer: BeefAnswer,
-    pub bumps: [BumpHead; 64],
-    pub entries: [EntryHead; 256],
+    pub bumps: [BumpHead; Beef::MAX_BUMPS],
+    pub entries: [EntryHead; Beef::MAX_TRANSACTIONS],
 }
 
 pub enum BumpFound {
@@ -175,7 +175,7 @@ impl Bundle {
         if count <= n {
             return BumpFound::Missing;
         }
-        if 64 <= n {
+        if Beef::MAX_BUMPS <= n {
             return BumpFound::Missing;
         }
         let bumps = self.bumps;
@@ -192,7 +192,7 @@ impl Bundle {
         if count <= n {
             return EntryFound::Missing;
         }
-        if 256 <= n {
+        if Beef::MAX_TRANSACTIONS <= n {
             return EntryFound::Missing;
         }
         let entries = self.entries;
@@ -235,7 +235,7 @@ fn no_bumps(refusal: Refusal) -> Bumps
     let none = no_bump();
     Bumps {
         answer: Number::Refused(refusal),
-        heads: [none; 64],
+        heads: [none; Beef::MAX_BUMPS],
     }
 }
 
@@ -245,7 +245,7 @@ fn no_entries(refusal: Refusal) -> Entries
     let none = no_entry();
     Entries {
         answer: Number::Refused(refusal),
-        heads: [none; 256],
+        heads: [none; Beef::MAX_TRANSACTIONS],
     }
 }
 
@@ -256,8 +256,8 @@ fn no_bundle(refusal: Refusal) -> Bundle
     let entry = no_entry();
     Bundle {
         answer: BeefAnswer::Refused(refusal),
-        bumps: [bump; 64],
-        entries: [entry; 256],
+        bumps: [bump; Beef::MAX_BUMPS],
+        entries: [entry; Beef::MAX_TRANSACTIONS],
     }
 }
 
@@ -266,7 +266,7 @@ fn read_version(s: &[u8], c: Cursor) -> Number
 {
     let at = c.at;
     let field = read_four(s, c);
-    let Number::Value(version, next) = field else {
+    let Number::Value(version, _) = field else {
         return field;
     };
     if version == Beef::VERSION {
@@ -283,10 +283,10 @@ fn read_bump_count(s: &[u8], c: Cursor) -> Number
 {
     let at = c.at;
     let field = read_varint(s, c);
-    let Number::Value(count, next) = field else {
+    let Number::Value(count, _) = field else {
         return field;
     };
-    if Beef::MAX_BUMPS < count {
+    if Beef::MAX_BUMPS < count as usize {
         return Number::Refused(Refusal {
             number: OVER_LIMIT,
             place: at,
@@ -296,11 +296,11 @@ fn read_bump_count(s: &[u8], c: Cursor) -> Number
 }
 
 fn gather_bumps(s: &[u8], c: Cursor, count: usize) -> Bumps
-    requires { ⌜ count ≤ 64 ⌝ }
+    requires { ⌜ count ≤ MAX-BUMPS ⌝ }
     ensures { λ r. ⌜ r ≡ bumpsOf (each (map headOf) (times bumpField count (now (s .entry)) (c .at))) ⌝ }
 {
     let none = no_bump();
-    let mut heads = [none; 64];
+    let mut heads = [none; Beef::MAX_BUMPS];
     let mut next = c;
     let mut i: usize = 0;
     while i < count {
@@ -333,10 +333,10 @@ fn read_tx_count(s: &[u8], c: Cursor, room: usize) -> Number
 {
     let at = c.at;
     let field = read_varint(s, c);
-    let Number::Value(count, next) = field else {
+    let Number::Value(count, _) = field else {
         return field;
     };
-    if Beef::MAX_TRANSACTIONS < count {
+    if Beef::MAX_TRANSACTIONS < count as usize {
         return Number::Refused(Refusal {
             number: OVER_LIMIT,
             place: at,
@@ -362,7 +362,7 @@ fn read_bump_number(s: &[u8], c: Cursor, bumps: u64) -> Number
 {
     let at = c.at;
     let field = read_varint(s, c);
-    let Number::Value(number, next) = field else {
+    let Number::Value(number, _) = field else {
         return field;
     };
     if bumps <= number {
@@ -419,11 +419,11 @@ fn read_entry(s: &[u8], c: Cursor, bumps: u64) -> EntryAnswer
 }
 
 fn gather_entries(s: &[u8], c: Cursor, bumps: u64, count: usize) -> Entries
-    requires { ⌜ count ≤ 256 ⌝ }
+    requires { ⌜ count ≤ MAX-TXS ⌝ }
     ensures { λ r. ⌜ r ≡ entriesOf (each (map entryHeadOf) (times (entryField bumps) count (now (s .entry)) (c .at))) ⌝ }
 {
     let none = no_entry();
-    let mut heads = [none; 256];
+    let mut heads = [none; Beef::MAX_TRANSACTIONS];
     let mut next = c;
     let mut i: usize = 0;
     while i < count {
@@ -512,6 +512,6 @@ pub fn read_bundle(s: &[u8], room: usize) -> Bundle
 pub fn read_beef(s: &[u8]) -> BeefAnswer
     ensures { λ r. ⌜ beefAnswer r ≡ each beefHeadOf (beefWhole MAX-TXS (now (s .entry))) ⌝ }
 {
-    let bundle = read_bundle(s, Beef::MAX_TRANSACTIONS as usize);
+    let bundle = read_bundle(s, Beef::MAX_TRANSACTIONS);
     bundle.answer
 }

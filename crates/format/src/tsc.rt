@@ -110,7 +110,7 @@ fn read_flags(s: &[u8], c: Cursor) -> Number
 {
     let at = c.at;
     let field = one_byte(s, c);
-    let Number::Value(flags, next) = field else {
+    let Number::Value(flags, _) = field else {
         return field;
     };
     if 8 <= flags {
@@ -202,7 +202,7 @@ fn read_node_count(s: &[u8], c: Cursor) -> Number
 {
     let at = c.at;
     let field = read_varint(s, c);
-    let Number::Value(count, next) = field else {
+    let Number::Value(count, _) = field else {
         return field;
     };
     if Tsc::MAX_NODES < count {

@@ -178,7 +178,7 @@ fn read_some(s: &[u8], c: Cursor) -> Number
 {
     let at = c.at;
     let field = read_varint(s, c);
-    let Number::Value(n, next) = field else {
+    let Number::Value(n, _) = field else {
         return field;
     };
     if n < 1 {
@@ -260,7 +260,7 @@ pub fn read_transaction(s: &[u8]) -> TxAnswer
         });
     }
     let field = tx_at(s, Cursor { at: 0 });
-    let TxAnswer::Value(head, next) = field else {
+    let TxAnswer::Value(_, next) = field else {
         return field;
     };
     let at = next.at;

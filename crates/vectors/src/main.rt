@@ -8,6 +8,10 @@ use format::EntryFound;
 use format::Refusal;
 use format::TscAnswer;
 use libc::STDOUT_FILENO;
+use spv::Judged;
+use spv::Proved;
+use spv::Record;
+use spv::Verdict;
 ghost use Rattle.io.specs.Counts.{Counts};
 
 fn text(words: &[u8]) {
@@ -193,10 +197,87 @@ fn bundles() {
     text(b"\n");
 }
 
+fn proved(answer: Proved) {
+    let judged = answer.judged;
+    let id = answer.id;
+    let root = answer.root;
+    match judged {
+        Judged::Refused(refusal) => refused(refusal),
+        Judged::Accepted { position, layers } => {
+            number(b"position", position);
+            number(b"layers", layers as u64);
+            text(b" id ");
+            hex(id);
+            text(b" root ");
+            hex(root);
+        }
+    }
+}
+
+fn record(row: Record) {
+    number(b"start", row.start);
+    number(b"length", row.length);
+    number(b"anchored", row.anchored as u64);
+    number(b"bump", row.bump);
+    number(b"position", row.position as u64);
+    let id = row.id;
+    text(b" id ");
+    hex(id);
+}
+
+fn judged(message: &[u8], roots: &[u8]) {
+    let ruling = spv::judge_bundle(message, roots, 2);
+    let verdict = ruling.verdict;
+    let records = ruling.records;
+    match verdict {
+        Verdict::Refused(refusal) => refused(refusal),
+        Verdict::Accepted(n) => {
+            number(b"accepted", n as u64);
+            record(records[0]);
+            record(records[1]);
+        }
+    }
+}
+
+// The id of the bundle's first transaction.
+fn first_id(bundle: &[u8]) -> [u8; 32] {
+    if bundle.len() < 483 {
+        return [0u8; 32];
+    }
+    let hashed = hash::sha256d(&bundle[291..483]);
+    hashed.digest
+}
+
+// The proof of the TSC document; the bundle's BUMP proves its first transaction; the bundle is judged against that root, and
+// against another.
+fn proofs() {
+    let mut room = [0u8; 1024];
+    let n = load(b"000-proof", &mut room);
+    text(b"000-proof");
+    proved(spv::prove_tsc(&room[..n]));
+    text(b"\n");
+    let n = load(b"004-bundle", &mut room);
+    let id = first_id(&room[..n]);
+    let mut path = [0u8; 1024];
+    let m = load(b"004-bump", &mut path);
+    text(b"004-bump");
+    let answer = spv::prove_bump(&path[..m], id);
+    proved(answer);
+    text(b"\n");
+    let root = answer.root;
+    text(b"004-bundle");
+    judged(&room[..n], &root);
+    text(b"\n");
+    text(b"004-bundle");
+    judged(&room[..n], &id);
+    text(b"\n");
+}
+
 fn main() {
     examples();
     edges();
     joins();
     paths();
     bundles();
+    proofs();
 }

@@ -6,6 +6,7 @@
 
 mod hash;
 mod measure;
+mod prove;
 mod read;
 mod yardstick;
 
@@ -20,4 +21,5 @@ fn main() {
     println!("{PREFACE}");
     hash::run();
     read::run();
+    prove::run();
 }

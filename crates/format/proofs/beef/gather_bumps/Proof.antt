@@ -2,6 +2,7 @@ use borrow.Author.Needs.{needs}
 use mathlib.Core.Path.{sym, ap, _∙_}
 use Prim.Native.Nat.{_-_}
 use Rattle.format.specs.ParseLaws.{answered}
+use Rattle.format.specs.Refusals.{MAX-BUMPS}
 use Rattle.format.specs.Gather.{Gathering, gather-start, gather-step, gather-refused, gather-done}
 use Rattle.format.specs.Bump.{bumpField, headOf, bumpAnswer}
 use Rattle.format.specs.BeefAnswer.{noBump, bumpsOf}
@@ -10,7 +11,7 @@ use Rattle.format.proofs.beef.gather_bumps.Statement.{statement}
 use Rattle.format.proofs.beef.gather_bumps.Tie as tie
 
 abbrev Inv-loop : tie.InvT-loop
-Inv-loop s count heads₀ next₀ i₀ heads next i = Gathering bumpField headOf noBump 64 count s (next₀ .at) heads i (next .at)
+Inv-loop s count heads₀ next₀ i₀ heads next i = Gathering bumpField headOf noBump MAX-BUMPS count s (next₀ .at) heads i (next .at)
 
 abbrev μ-loop : tie.MeasureT-loop
 μ-loop s count heads₀ next₀ i₀ heads next i = count - i

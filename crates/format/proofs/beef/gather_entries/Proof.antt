@@ -2,6 +2,7 @@ use borrow.Author.Needs.{needs}
 use mathlib.Core.Path.{sym, ap, _∙_}
 use Prim.Native.Nat.{_-_}
 use Rattle.format.specs.ParseLaws.{answered}
+use Rattle.format.specs.Refusals.{MAX-TXS}
 use Rattle.format.specs.Gather.{Gathering, gather-start, gather-step, gather-refused, gather-done}
 use Rattle.format.specs.Beef.{entryField}
 use Rattle.format.specs.BeefAnswer.{entryHeadOf, entryAnswer, noEntry, entriesOf}
@@ -10,7 +11,7 @@ use Rattle.format.proofs.beef.gather_entries.Statement.{statement}
 use Rattle.format.proofs.beef.gather_entries.Tie as tie
 
 abbrev Inv-loop : tie.InvT-loop
-Inv-loop s bumps count heads₀ next₀ i₀ heads next i = Gathering (entryField bumps) entryHeadOf noEntry 256 count s (next₀ .at) heads i (next .at)
+Inv-loop s bumps count heads₀ next₀ i₀ heads next i = Gathering (entryField bumps) entryHeadOf noEntry MAX-TXS count s (next₀ .at) heads i (next .at)
 
 abbrev μ-loop : tie.MeasureT-loop
 μ-loop s bumps count heads₀ next₀ i₀ heads next i = count - i

@@ -1,0 +1,57 @@
+//! Comparing two proofs.
+
+use crate::Hash;
+
+extern "C" {
+    fn barrowtide_compare(
+        first_form: u32,
+        first: *const u8,
+        first_len: usize,
+        first_id: *const u8,
+        second_form: u32,
+        second: *const u8,
+        second_len: usize,
+        second_id: *const u8,
+        carried: *mut u64,
+        first_string: *mut u8,
+        second_string: *mut u8,
+    ) -> u32;
+}
+
+/// A proof as the call takes it.
+#[derive(Debug, Clone, Copy)]
+pub struct Lent<'a> {
+    /// 0 for a BUMP, 1 for a compound path, any other number for a TSC proof.
+    pub form: u32,
+    /// The proof's bytes.
+    pub data: &'a [u8],
+    /// The id to prove; not looked at for a TSC proof.
+    pub id: &'a Hash,
+}
+
+/// `barrowtide_compare`: the 64 bytes that each of two proofs hashed where they first meet.
+pub fn compare(
+    first: Lent,
+    second: Lent,
+    carried: &mut u64,
+    first_string: &mut [u8; 64],
+    second_string: &mut [u8; 64],
+) -> u32 {
+    // SAFETY: the call reads both proofs within their lengths and the ids' 32 bytes, and writes a
+    // u64 and twice 64 bytes, all of which are borrowed for the call.
+    unsafe {
+        barrowtide_compare(
+            first.form,
+            first.data.as_ptr(),
+            first.data.len(),
+            first.id.as_ptr(),
+            second.form,
+            second.data.as_ptr(),
+            second.data.len(),
+            second.id.as_ptr(),
+            carried,
+            first_string.as_mut_ptr(),
+            second_string.as_mut_ptr(),
+        )
+    }
+}

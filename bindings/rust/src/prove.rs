@@ -1,0 +1,92 @@
+//! Proving that an id is in a block.
+
+use crate::ffi;
+use crate::refusal::{answer, Refusal};
+use crate::Hash;
+
+/// A proof that was accepted. It is worth as much as its root is trusted.
+#[derive(Debug, Clone, Copy, PartialEq, Eq)]
+pub struct Proof {
+    /// The id that is proved.
+    pub id: Hash,
+    /// Its position in the block.
+    pub position: u64,
+    /// The number of layers between it and the root.
+    pub layers: u64,
+    /// The Merkle root.
+    pub root: Hash,
+}
+
+/// Proves an id by a BUMP.
+///
+/// ```
+/// use barrowtide::{join, prove_bump, Reason};
+/// let (id, sibling) = ([0xaa; 32], [0xbb; 32]);
+/// let bump = [&[0x00, 0x01, 0x02, 0x00, 0x02][..], &id, &[0x01, 0x00], &sibling].concat();
+///
+/// let proof = prove_bump(&bump, &id)?;
+/// assert_eq!((proof.position, proof.layers, proof.root), (0, 1, join(&id, &sibling)));
+/// assert_eq!(prove_bump(&bump, &[0xcc; 32]).unwrap_err().reason, Reason::NotListed);
+/// # Ok::<(), barrowtide::Refusal>(())
+/// ```
+pub fn prove_bump(data: &[u8], id: &Hash) -> Result<Proof, Refusal> {
+    prove_path(ffi::prove_bump, data, id)
+}
+
+/// Proves an id by a compound path.
+///
+/// ```
+/// use barrowtide::{join, prove_cmp};
+/// let (sibling, id) = ([0xaa; 32], [0xbb; 32]);
+/// let path = [&[0x00, 0x02, 0x00][..], &sibling, &[0x01], &id].concat();
+///
+/// let proof = prove_cmp(&path, &id)?;
+/// assert_eq!((proof.position, proof.layers, proof.root), (1, 1, join(&sibling, &id)));
+/// # Ok::<(), barrowtide::Refusal>(())
+/// ```
+pub fn prove_cmp(data: &[u8], id: &Hash) -> Result<Proof, Refusal> {
+    prove_path(ffi::prove_cmp, data, id)
+}
+
+/// A call that proves a lent id.
+type ProvePath = fn(&[u8], &Hash, &mut u64, &mut u64, &mut u64, &mut Hash) -> u32;
+
+fn prove_path(call: ProvePath, data: &[u8], id: &Hash) -> Result<Proof, Refusal> {
+    let (mut carried, mut position, mut layers, mut root) = (0, 0, 0, [0; 32]);
+    let number = call(data, id, &mut carried, &mut position, &mut layers, &mut root);
+    answer(number, carried, Proof { id: *id, position, layers, root })
+}
+
+/// Proves a TSC proof's own id, the one written or its transaction's.
+///
+/// ```
+/// use barrowtide::{prove_tsc, Reason};
+/// // An id that is alone in its block is the root itself; here it is given as the target, too.
+/// let id = [0xaa; 32];
+/// let proof = [&[0x04, 0x00][..], &id, &id, &[0x00]].concat();
+/// assert_eq!(prove_tsc(&proof)?.root, id);
+///
+/// let other = [&[0x04, 0x00][..], &id, &[0xbb; 32], &[0x00]].concat();
+/// assert_eq!(prove_tsc(&other).unwrap_err().reason, Reason::RootsDiffer);
+/// # Ok::<(), barrowtide::Refusal>(())
+/// ```
+pub fn prove_tsc(data: &[u8]) -> Result<Proof, Refusal> {
+    let (mut carried, mut position, mut layers) = (0, 0, 0);
+    let (mut id, mut root) = ([0; 32], [0; 32]);
+    let number = ffi::prove_tsc(data, &mut carried, &mut id, &mut position, &mut layers, &mut root);
+    answer(number, carried, Proof { id, position, layers, root })
+}
+
+/// Climbs from every client leaf of a BUMP and gives the one root that all of them lead to.
+///
+/// ```
+/// use barrowtide::{check_clients, join};
+/// let (left, right) = ([0xaa; 32], [0xbb; 32]);
+/// let bump = [&[0x00, 0x01, 0x02, 0x00, 0x02][..], &left, &[0x01, 0x02], &right].concat();
+/// assert_eq!(check_clients(&bump), Ok(join(&left, &right)));
+/// ```
+pub fn check_clients(data: &[u8]) -> Result<Hash, Refusal> {
+    let (mut carried, mut root) = (0, [0; 32]);
+    let number = ffi::check_clients(data, &mut carried, &mut root);
+    answer(number, carried, root)
+}

@@ -1,0 +1,74 @@
+//! Proving an id by a path or a TSC proof, and checking all clients of a BUMP.
+
+use crate::bump;
+use crate::climb::{climb, Climb, Sibling};
+use crate::cmp;
+use crate::path::{Node, Path};
+use crate::refusal::{Refusal, NOT_LISTED, ROOTS_DIFFER};
+use crate::tsc::{self, Tsc};
+use crate::Hash;
+
+/// Proves an id by a BUMP.
+pub fn by_bump(data: &[u8], id: &Hash) -> Result<Climb, Refusal> {
+    climb_path(&bump::read(data)?.path, id).map_err(plain)
+}
+
+/// Proves an id by a CMP.
+pub fn by_cmp(data: &[u8], id: &Hash) -> Result<Climb, Refusal> {
+    climb_path(&cmp::read(data)?, id).map_err(plain)
+}
+
+/// Proves a TSC proof's own id.
+pub fn by_tsc(data: &[u8]) -> Result<Climb, Refusal> {
+    climb_tsc(&tsc::read(data)?).map_err(plain)
+}
+
+/// A BUMP's all-clients check: the one root.
+pub fn all_clients(data: &[u8]) -> Result<Hash, Refusal> {
+    clients_root(&bump::read(data)?.path).map_err(plain)
+}
+
+/// A refusal of a climb outside of a BEEF carries 0.
+fn plain(number: u32) -> Refusal {
+    Refusal { number, carried: 0 }
+}
+
+/// The climb of an id in a path: from the level-0 leaf that carries it, of several the least
+/// offset.
+pub fn climb_path(path: &Path, id: &Hash) -> Result<Climb, u32> {
+    let carriers = path.levels[0].iter().filter(|leaf| leaf.node.hash() == Some(id));
+    let start = carriers.map(|leaf| leaf.offset).min().ok_or(NOT_LISTED)?;
+    climb_from(path, *id, start)
+}
+
+fn climb_from(path: &Path, id: Hash, position: u64) -> Result<Climb, u32> {
+    climb(id, position, path.tree_height(), |layer, offset| match path.leaf(layer, offset) {
+        None => Sibling::Missing,
+        Some(leaf) => leaf.node.hash().map_or(Sibling::Copy, |hash| Sibling::Written(*hash)),
+    })
+}
+
+fn climb_tsc(proof: &Tsc) -> Result<Climb, u32> {
+    let height = proof.nodes.len() as u64;
+    let climb = climb(proof.id, proof.index, height, |layer, _| match proof.nodes[layer] {
+        tsc::Node::Hash(hash) => Sibling::Written(hash),
+        tsc::Node::Copy => Sibling::Copy,
+    })?;
+    match proof.target.root() {
+        Some(root) if root != climb.root() => Err(ROOTS_DIFFER),
+        _ => Ok(climb),
+    }
+}
+
+fn clients_root(path: &Path) -> Result<Hash, u32> {
+    let mut first = None;
+    for leaf in &path.levels[0] {
+        if let Node::Client(id) = leaf.node {
+            let root = climb_from(path, id, leaf.offset)?.root();
+            if *first.get_or_insert(root) != root {
+                return Err(ROOTS_DIFFER);
+            }
+        }
+    }
+    first.ok_or(NOT_LISTED)
+}

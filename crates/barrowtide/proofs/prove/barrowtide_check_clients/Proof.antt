@@ -1,0 +1,37 @@
+use borrow.Author.Needs.{needs}
+use Rattle.barrowtide.specs.Interface.{refused-number, refused-place, refused-taken, read-number, read-place, read-taken}
+use Rattle.barrowtide.specs.Answers.{checked-agreed, checked-refused}
+use Rattle.barrowtide.proofs.prove.barrowtide_check_clients.Statement.{statement}
+use Rattle.barrowtide.proofs.prove.barrowtide_check_clients.Tie as tie
+use Rattle.barrowtide.proofs.prove.barrowtide_check_clients.Reads as reads
+use Rattle.barrowtide.proofs.prove.barrowtide_check_clients.Lts as lts
+use Rattle.spv.proofs.check_clients.Reads as check-clients-reads
+
+check-clients-requires : tie.Need-check-clients-requires
+check-clients-requires c κs = search needs
+
+enum-known-agreement : tie.Need-enum-known-agreement
+enum-known-agreement c = search needs
+
+cast-result : tie.Need-cast-result
+cast-result c = search needs
+
+enum-told : tie.Need-enum-told
+enum-told c = search needs
+
+returns : tie.Need-returns
+returns c =
+    let e = checked-refused _ _ (c .before .before .agreement .given .1) in
+    rw (← c .before .before .before .before .before .check-clients .ensures)
+    (refused-number _ e, (refused-place _ _ e, refused-taken _ _ _ e))
+
+returns-2 : tie.Need-returns-2
+returns-2 c =
+    let e = checked-agreed _ (c .enum-told .given .1) in
+    rw (← c .before .before .before .check-clients .ensures)
+    (read-number _ e, (read-place _ _ e, read-taken _ _ _ e))
+
+pub barrowtide-check-clients-spec : {M : Type 1} → statement M
+barrowtide-check-clients-spec =
+    tie.close
+    (tie.spec check-clients-requires enum-known-agreement cast-result enum-told returns returns-2)

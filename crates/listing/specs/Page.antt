@@ -1,0 +1,90 @@
+-- Writing into lent memory: a byte is stored while there is room, and dropped after that.
+use mathlib.Core.Path.{_≡_, refl, sym, ap, _∙_}
+use mathlib.Core.List.{List, [], _∷_, _++_}
+use Prim.Native.Nat.{ℕ, suc, _+_, _<_, _≤_, min}
+use lib.ListN.{length, set, take, drop, getD, length-append, drop-of-length-le}
+use lib.Seq.{drop-cons, set-append-seam, append-snoc, take-nil}
+use lib.Dec.{ltb}
+use native.Mathlib.Omega.{arith}
+use native.Mathlib.Numerals.{add-one}
+use borrow.Author.Tests.{le-ltb, lt-ltb}
+use Rattle.format.specs.Parse.{pick}
+
+-- the memory, and where the next byte goes
+pub record Page : Type 0 where
+  pub room : List ℕ
+  pub at : ℕ
+
+abbrev pub page : List ℕ → ℕ → Page
+page room at = record { room = room; at = at }
+
+unfoldable pub putOn : Page → ℕ → Page
+putOn p b = pick (ltb (p .at) (length (p .room))) (page (set (p .room) (p .at) b) (p .at + 1)) p
+
+-- a text, byte by byte
+unfoldable pub writeOn : Page → List ℕ → Page
+writeOn p [] = p
+writeOn p (b ∷ text) = writeOn (putOn p b) text
+
+pub put-stored : (o : List ℕ) (at b : ℕ) → at < length o → putOn (page o at) b ≡ page (set o at b) (at + 1)
+unfolding putOn
+put-stored o at b h = rw (lt-ltb at (length o) h)
+
+pub put-dropped : (o : List ℕ) (at b : ℕ) → length o ≤ at → putOn (page o at) b ≡ page o at
+unfolding putOn
+put-dropped o at b h = rw (le-ltb at (length o) h)
+
+pub write-none : (p : Page) → writeOn p [] ≡ p
+unfolding writeOn
+write-none p = refl
+
+pub write-one : (p : Page) (b : ℕ) → writeOn p (b ∷ []) ≡ putOn p b
+unfolding writeOn
+write-one p b = refl
+
+pub write-then : (p : Page) (a b : List ℕ) → writeOn p (a ++ b) ≡ writeOn (writeOn p a) b
+unfolding writeOn
+write-then p [] b = refl
+write-then p (x ∷ a) b = write-then (putOn p x) a b
+
+-- what was written after what was written
+pub wrote-then : (p : Page) (a b : List ℕ) {q r : Page} → q ≡ writeOn p a → r ≡ writeOn q b → r ≡ writeOn p (a ++ b)
+wrote-then p a b e f = f ∙ ap (λ (x : Page). writeOn x b) e ∙ sym (write-then p a b)
+
+-- one byte more of a text that is written from its index i on
+pub write-on : (p : Page) (text : List ℕ) (i : ℕ) {q : Page} → i < length text → q ≡ putOn p (getD text i 0) → writeOn p (drop i text) ≡ writeOn q (drop (i + 1) text)
+unfolding writeOn
+write-on p text i h e = rw (add-one, drop-cons text i 0) (ap (λ (x : Page). writeOn x (drop (suc i) text)) (sym e))
+
+pub write-end : (p : Page) (text : List ℕ) (i : ℕ) → length text ≤ i → writeOn p (drop i text) ≡ p
+unfolding writeOn
+write-end p text i h = rw (drop-of-length-le text h)
+
+-- memory that holds a text, as far as there is room
+abbrev pub filled : List ℕ → List ℕ → List ℕ
+filled room text = take (length room) text ++ drop (length text) room
+
+page-same : {r r′ : List ℕ} {a a′ : ℕ} → r ≡ r′ → a ≡ a′ → page r a ≡ page r′ a′
+page-same e f = rw (e, f)
+
+write-full : (o : List ℕ) (at : ℕ) (text : List ℕ) → length o ≤ at → writeOn (page o at) text ≡ page o at
+unfolding writeOn
+write-full o at [] h = refl
+write-full o at (b ∷ text) h = rw (put-dropped o at b h) (write-full o at text h)
+
+-- a text written after x, where o is left
+write-after : (x o text : List ℕ) → writeOn (page (x ++ o) (length x)) text ≡ page (x ++ filled o text) (length x + min (length o) (length text))
+unfolding writeOn
+write-after x o [] = page-same (rw (take-nil (length o))) (omega arith)
+write-after x [] (b ∷ text) = write-full (x ++ []) (length x) (b ∷ text) (omega (arith, length-append x [])) ∙ page-same refl (omega arith)
+write-after x (y ∷ o) (b ∷ text) =
+    let here : length x < length (x ++ (y ∷ o)) = omega (arith, length-append x (y ∷ o)) in
+    let on : page (set (x ++ (y ∷ o)) (length x) b) (length x + 1) ≡ page (x ++ (b ∷ []) ++ o) (length (x ++ (b ∷ []))) =
+    page-same (set-append-seam x y o b ∙ sym (append-snoc x b o)) (sym (length-append x (b ∷ []))) in
+    ap (λ (p : Page). writeOn p text) (put-stored (x ++ (y ∷ o)) (length x) b here ∙ on)
+    ∙ write-after (x ++ (b ∷ [])) o text
+    ∙ page-same (append-snoc x b (filled o text)) (omega (arith, length-append x (b ∷ [])))
+
+-- a text written from the start
+pub write-whole : (o text : List ℕ) → writeOn (page o 0) text ≡ page (filled o text) (min (length o) (length text))
+write-whole o text = write-after [] o text ∙ page-same refl (omega arith)

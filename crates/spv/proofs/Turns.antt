@@ -1,0 +1,139 @@
+-- What the loops that climb have shown at their heads, for siblings of any form. Assumes nothing.
+use Prim.Native.Nat.{ℕ, _+_, _-_, _/_, _≤_, _<_}
+use native.Mathlib.Nat.{sub-zero, zero-add}
+use mathlib.Core.Path.{_≡_, refl, ap, _∙_, sym}
+use mathlib.Core.Bool.{true, false}
+use mathlib.Core.List.{List, [], _∷_, _++_}
+use native.Mathlib.Omega.{arith}
+use lib.ListN.{replicate}
+use Rattle.hash.specs.Sha256.{sha256d}
+use Rattle.format.specs.declared.level.Layout.{Layout}
+use Rattle.format.specs.declared.level.Leaf.{Leaf}
+use Rattle.format.specs.declared.refusal.Refusal.{Refusal}
+use Rattle.format.specs.Bytes.{same}
+use Rattle.format.specs.Parse.{got, bad}
+use Rattle.format.specs.Refusals.{NOT-LISTED}
+use Rattle.format.specs.Search.{looseLeaf}
+use Rattle.spv.specs.Climb.{Siblings, Step, joins, fails, Ascent, step, odd, beside, ascend, outcome, strings, turn-joins, turn-fails, turn-none}
+use Rattle.spv.specs.Compare.{targetOf, Target, any, at, never, meet, meet-left, meet-right, meet-here, meet-above}
+use Rattle.spv.specs.Shapes.{climbedOf, joinedOf, isJoins, is-joins, told-joins}
+use Rattle.spv.specs.Clients.{Wanted, rejected, afterLeaf, follow, closing, clientsIn, turn-leaf, turn-short, turn-last}
+use Rattle.spv.specs.ClientsShapes.{wantSays, shown, refusedCheck, checkedOf, told-goes, told-halts}
+use Rattle.spv.specs.declared.climb.Climbed.{Climbed}
+use Rattle.spv.specs.declared.climb.Joined.{Joined}
+use Rattle.spv.specs.declared.climb.End.the-variants.{Root, Stop}
+use Rattle.spv.specs.declared.prove.Status.the-variants.{Read, Unread}
+use Rattle.spv.specs.declared.clients.Want.{Want}
+
+-- ---- one climb: what is left from here comes to what was asked at the start
+
+pub record Climbing (σ : Siblings) (h i : ℕ) (id : List ℕ) (k j : ℕ) (c : List ℕ) : Type 0 where
+  pub done : k ≤ h
+  pub kept : outcome c (ascend σ k (h - k) j c) ≡ outcome id (ascend σ 0 h i id)
+
+module _ (σ : Siblings) (h i : ℕ) (id : List ℕ) where
+  pub climbing-start : Climbing σ h i id 0 i id
+  climbing-start = record { done = omega arith; kept = rw sub-zero }
+
+  module _ (k j : ℕ) (c : List ℕ) (v : Climbing σ h i id k j c) where
+    pub climbing-end : h ≤ k → _≡_ {A = Climbed} (record { end = Root; root = c }) (climbedOf (outcome id (ascend σ 0 h i id)))
+    unfolding outcome climbedOf
+    climbing-end b = ap climbedOf (sym (ap (outcome c) (turn-none σ k k h j c b)) ∙ v .kept)
+
+    module _ (b : k < h) where
+      pub climbing-up : (l r : List ℕ) → step (σ k (beside j)) (odd j) c ≡ joins l r → (c′ : List ℕ) → c′ ≡ sha256d (l ++ r) → Climbing σ h i id (k + 1) (j / 2) c′
+      unfolding outcome
+      climbing-up l r e c′ g = record { done = omega arith; kept = rw g (sym (ap (outcome c) (turn-joins σ k k h j c b l r e)) ∙ v .kept) }
+
+      pub climbing-stop : (number : ℕ) → step (σ k (beside j)) (odd j) c ≡ fails number → (q : ℕ) → q ≡ beside j
+          → _≡_ {A = Climbed} (record { end = Stop number k q; root = replicate 32 0 }) (climbedOf (outcome id (ascend σ 0 h i id)))
+      unfolding outcome climbedOf
+      climbing-stop number e q g = rw g (ap climbedOf (sym (ap (outcome c) (turn-fails σ k k h j c b number e)) ∙ v .kept))
+
+-- ---- the strings that are left
+
+abbrev pub left : Siblings → ℕ → ℕ → ℕ → List ℕ → List (List ℕ)
+left σ k n j c = strings (ascend σ k n j c)
+
+-- the string of a layer that joins
+abbrev pub both : Joined → List ℕ
+both r = r .left ++ r .right
+
+-- m layers are done of h, and the layer is k
+module _ (σ : Siblings) (h m k : ℕ) (b : m < h) (j : ℕ) (c : List ℕ) (r : Joined) (e : r ≡ joinedOf (step (σ k (beside j)) (odd j) c)) where
+  pub strings-up : isJoins (r .fate) ≡ true → left σ k (h - m) j c ≡ both r ∷ left σ (k + 1) (h - (m + 1)) (j / 2) (sha256d (both r))
+  unfolding strings
+  strings-up f = ap strings (turn-joins σ k m h j c b (r .left) (r .right) (told-joins r (step (σ k (beside j)) (odd j) c) e (is-joins (r .fate) f)))
+
+  pub strings-stop : isJoins (r .fate) ≡ false → left σ k (h - m) j c ≡ []
+  unfolding strings joinedOf
+  strings-stop f = go (step (σ k (beside j)) (odd j) c) refl (ap (λ (x : Joined). isJoins (x .fate)) (sym e) ∙ f)
+    where
+      go : (x : Step) → step (σ k (beside j)) (odd j) c ≡ x → isJoins (joinedOf x .fate) ≡ false → left σ k (h - m) j c ≡ []
+      go (joins l t) q g = let z : _≡_ {A = ℕ} 0 1 = cc in absurd (omega arith)
+      go (fails number) q g = ap strings (turn-fails σ k m h j c b number q)
+
+-- ---- two climbs, the second e layers above the first: where they meet from here is where they meet
+
+pub record Pairing (σ τ : Siblings) (e h i : ℕ) (c₀ d₀ : List ℕ) (k j : ℕ) (c d : List ℕ) : Type 0 where
+  pub done : k ≤ h
+  pub kept : meet (left σ k (h - k) j c) (left τ (k + e) (h - k) j d) ≡ meet (left σ 0 h i c₀) (left τ e h i d₀)
+
+module _ (σ τ : Siblings) (e h i : ℕ) (c₀ d₀ : List ℕ) where
+  pub pairing-start : Pairing σ τ e h i c₀ d₀ 0 i c₀ d₀
+  pairing-start = record { done = omega arith; kept = rw (sub-zero, zero-add) }
+
+  module _ (k j : ℕ) (c d : List ℕ) (v : Pairing σ τ e h i c₀ d₀ k j c d) where
+    pub pairing-end : h ≤ k → never ≡ meet (left σ 0 h i c₀) (left τ e h i d₀)
+    unfolding strings
+    pairing-end f = sym (ap (λ (x : Ascent). meet (strings x) (left τ (k + e) (h - k) j d)) (turn-none σ k k h j c f) ∙ meet-left (left τ (k + e) (h - k) j d)) ∙ v .kept
+
+    module _ (l : k < h) (r u : Joined) (er : r ≡ joinedOf (step (σ k (beside j)) (odd j) c)) (eu : u ≡ joinedOf (step (τ (k + e) (beside j)) (odd j) d)) where
+      pub pairing-stop : isJoins (r .fate) ≡ false → never ≡ meet (left σ 0 h i c₀) (left τ e h i d₀)
+      pairing-stop g = sym (ap (λ (x : List (List ℕ)). meet x (left τ (k + e) (h - k) j d)) (strings-stop σ h k k l j c r er g) ∙ meet-left (left τ (k + e) (h - k) j d)) ∙ v .kept
+
+      pub pairing-stop₂ : isJoins (u .fate) ≡ false → never ≡ meet (left σ 0 h i c₀) (left τ e h i d₀)
+      pairing-stop₂ g = sym (ap (λ (x : List (List ℕ)). meet (left σ k (h - k) j c) x) (strings-stop τ h k (k + e) l j d u eu g) ∙ meet-right (left σ k (h - k) j c)) ∙ v .kept
+
+      module _ (g : isJoins (r .fate) ≡ true) (m : isJoins (u .fate) ≡ true) where
+        both-up : meet (left σ k (h - k) j c) (left τ (k + e) (h - k) j d)
+            ≡ meet (both r ∷ left σ (k + 1) (h - (k + 1)) (j / 2) (sha256d (both r))) (both u ∷ left τ (k + 1 + e) (h - (k + 1)) (j / 2) (sha256d (both u)))
+        both-up =
+            let n : k + 1 + e ≡ k + e + 1 = omega arith in
+            rw (strings-up σ h k k l j c r er g, strings-up τ h k (k + e) l j d u eu m, n)
+
+        pub pairing-here : same (sha256d (both r)) (sha256d (both u)) ≡ true → at (both r) (both u) ≡ meet (left σ 0 h i c₀) (left τ e h i d₀)
+        pairing-here t = sym (both-up ∙ meet-here _ _ _ _ t) ∙ v .kept
+
+        pub pairing-up : same (sha256d (both r)) (sha256d (both u)) ≡ false → (c′ d′ : List ℕ) → c′ ≡ sha256d (both r) → d′ ≡ sha256d (both u) → Pairing σ τ e h i c₀ d₀ (k + 1) (j / 2) c′ d′
+        pairing-up t c′ d′ z w = record { done = omega arith; kept = rw (z, w) (sym (both-up ∙ meet-above _ _ _ _ t) ∙ v .kept) }
+
+-- ---- a level's clients: what is left from here comes to what was asked at the start
+
+pub record Checking (σ : Siblings) (h : ℕ) (s : List ℕ) (n start m at : ℕ) (w : Target) : Type 0 where
+  pub done : m ≤ n
+  pub kept : clientsIn σ h s (n - m) at w ≡ clientsIn σ h s n start any
+
+module _ (σ : Siblings) (h : ℕ) (s : List ℕ) (n start : ℕ) where
+  pub checking-start : (w : Target) → w ≡ any → Checking σ h s n start 0 start w
+  checking-start w e = record { done = omega arith; kept = rw (sub-zero, e) }
+
+  module _ (m at : ℕ) (w : Target) (v : Checking σ h s n start m at w) where
+    pub checking-end : n ≤ m → closing w ≡ clientsIn σ h s n start any
+    checking-end b = sym (turn-last σ h s n m at w b) ∙ v .kept
+
+    module _ (b : m < n) where
+      pub checking-short : (number place : ℕ) → looseLeaf Layout.Bump s at ≡ bad number place → rejected NOT-LISTED 0 0 0 ≡ clientsIn σ h s n start any
+      checking-short number place e = sym (turn-short σ h s n m at w b number place e) ∙ v .kept
+
+      module _ (leaf : Leaf) (next : ℕ) (e : looseLeaf Layout.Bump s at ≡ got leaf next) (r : Want) (f : wantSays r ≡ shown (afterLeaf σ h s w leaf)) where
+        pub checking-halts : (g : Refusal) → r .status ≡ Unread g → refusedCheck g ≡ checkedOf (clientsIn σ h s n start any)
+        checking-halts g i = told-halts r (afterLeaf σ h s w leaf) g _ f i ∙ ap checkedOf (sym (turn-leaf σ h s n m at w b leaf next e) ∙ v .kept)
+
+        pub checking-goes : r .status ≡ Read → Checking σ h s n start (m + 1) next (targetOf (r .bound) (r .root))
+        checking-goes i =
+            record {
+              done = omega arith;
+              kept = ap (λ (x : Wanted). follow x (λ w′. clientsIn σ h s (n - (m + 1)) next w′)) (sym (told-goes r (afterLeaf σ h s w leaf) f i))
+                  ∙ sym (turn-leaf σ h s n m at w b leaf next e) ∙ v .kept;
+            }

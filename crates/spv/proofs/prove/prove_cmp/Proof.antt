@@ -1,0 +1,17 @@
+use mathlib.Core.Path.{_∙_, ap}
+use borrow.Author.Needs.{needs}
+use Rattle.spv.specs.Shapes.{provedOf}
+use Rattle.spv.proofs.prove.prove_cmp.Statement.{statement}
+use Rattle.spv.proofs.prove.prove_cmp.Tie as tie
+
+claim-cmp-requires : tie.Need-claim-cmp-requires
+claim-cmp-requires c κs = search needs
+
+judge-claim-requires : tie.Need-judge-claim-requires
+judge-claim-requires c κs = search needs
+
+returns : tie.Need-returns
+returns c = c .judge-claim .ensures ∙ ap provedOf (c .before .claim-cmp .ensures)
+
+pub prove-cmp-spec : {M : Type 1} → statement M
+prove-cmp-spec = tie.close (tie.spec claim-cmp-requires judge-claim-requires returns)

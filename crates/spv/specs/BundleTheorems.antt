@@ -1,0 +1,261 @@
+-- What the bundle rule promises: a bundle is accepted exactly when every transaction is new in it and is mined under a listed root or has each parent
+-- earlier in the bundle; so every chain of parents inside an accepted bundle ends at transactions mined under listed roots.
+use Prim.Native.Nat.{ℕ, zero, suc, _+_, _-_, _<_, _≤_}
+use mathlib.Core.Path.{_≡_, refl, sym, ap, _∙_}
+use mathlib.Core.Bool.{Bool, true, false, _&&_, _||_}
+use mathlib.Core.List.{List, [], _∷_, _++_, map}
+use mathlib.Core.Logic.{_⊎_, inl, inr}
+use native.Mathlib.Decide.{decLt}
+use native.Mathlib.Omega.{arith}
+use lib.ListN.{length, getD, take, drop, length-take, length-map, List·getD-map}
+use lib.Seq.{getD-take}
+use Rattle.format.specs.declared.tx.Input.{Input}
+use Rattle.format.specs.declared.beef.Anchor.{Anchor}
+use Rattle.format.specs.declared.beef.Anchor.the-variants.{Unanchored, Bump as InBump}
+use Rattle.format.specs.Parse.{pick}
+use Rattle.format.specs.Bytes.{same, same-eq, eq-same}
+use Rattle.format.specs.Search.{hashAt}
+use Rattle.format.specs.Bump.{Bump}
+use Rattle.format.specs.Beef.{Entry, Beef}
+use Rattle.format.specs.Refusals.{UNTRUSTED, SAME-TX, NO-PARENT}
+use Rattle.spv.specs.declared.table.Record.{Record}
+use Rattle.spv.specs.Compare.{Proof, denied, proved, Verdict as Proving}
+use Rattle.spv.specs.Table.{blankRecord}
+use Rattle.spv.specs.Bundle.{hashesOf, among, rests, Standing, refuses, passes, trusted, proving, nthBump, entryId, anchoring, standing, entryRow, Judgement, accepted, judgeFrom, judgeEntries}
+use Rattle.spv.specs.BundleLaws.{from-same, Passed, accepted-length, accepted-passed, all-accepted}
+
+-- ---- being among hashes
+
+-- x stands in the list
+abbrev pub Among : List ℕ → List (List ℕ) → Type 0
+Among x l = (k : ℕ) × (k < length l) × (getD l k [] ≡ x)
+
+pub among-told : (x : List ℕ) (l : List (List ℕ)) → among x l ≡ true → Among x l
+unfolding among
+among-told x [] e = absurd (let z : _≡_ {A = ℕ} 0 1 = cc in omega arith)
+among-told x (y ∷ l) e = go (same y x) refl e (among-told x l)
+  where
+    go : (t : Bool) → same y x ≡ t → (t || among x l) ≡ true → (among x l ≡ true → Among x l) → Among x (y ∷ l)
+    go true h m f = (0, omega arith, same-eq y x h)
+    go false h m f = let w = f m in (suc (w .0), omega (arith, w .1), w .2)
+
+pub told-among : (x : List ℕ) (l : List (List ℕ)) (k : ℕ) → k < length l → getD l k [] ≡ x → among x l ≡ true
+unfolding among
+told-among x [] k h e = absurd (omega arith)
+told-among x (y ∷ l) zero h e = rw (eq-same y x e)
+told-among x (y ∷ l) (suc k) h e = rw (told-among x l k (omega arith) e) (or-true (same y x))
+  where
+    or-true : (t : Bool) → (t || true) ≡ true
+    or-true true = refl
+    or-true false = refl
+
+map-at : {A B : Type 0} (f : A → B) (l : List A) (j : ℕ) (d : A) (z : B) → j < length l → getD (map f l) j z ≡ f (getD l j d)
+map-at f [] j d z h = absurd (omega arith)
+map-at f (x ∷ l) zero d z h = refl
+map-at f (x ∷ l) (suc j) d z h = map-at f l j d z (omega arith)
+
+-- among the ids of the first k transactions is the id of one of them
+module _ {A : Type 0} (id : A → List ℕ) (l : List A) (d : A) (k : ℕ) (few : k ≤ length l) (x : List ℕ) where
+  first-at : (j : ℕ) → j < k → getD (map id (take k l)) j [] ≡ id (getD l j d)
+  first-at j h = map-at id (take k l) j d [] (rw length-take (omega (arith, few))) ∙ ap id (getD-take k l j d h)
+
+  pub earlier-told : among x (map id (take k l)) ≡ true → (j : ℕ) × (j < k) × (id (getD l j d) ≡ x)
+  earlier-told e = go (among-told x (map id (take k l)) e)
+    where
+      go : Among x (map id (take k l)) → (j : ℕ) × (j < k) × (id (getD l j d) ≡ x)
+      go (j, h, m) = let low : j < k = omega (arith, h, length-map (take k l) id, length-take k l, few) in (j, low, sym (first-at j low) ∙ m)
+
+  pub told-earlier : (j : ℕ) → j < k → id (getD l j d) ≡ x → among x (map id (take k l)) ≡ true
+  told-earlier j h e = told-among x (map id (take k l)) j (omega (arith, h, length-map (take k l) id, length-take k l, few)) (first-at j h ∙ e)
+
+-- ---- how one transaction stands
+
+abbrev pub noInput : Input
+noInput = record { parent = 0; output = 0 }
+
+-- each input has its parent among the ids
+module _ (s : List ℕ) (ids : List (List ℕ)) where
+  pub rests-told : (inputs : List Input) → rests s ids inputs ≡ true → (m : ℕ) → m < length inputs → among (hashAt s (getD inputs m noInput .parent)) ids ≡ true
+  unfolding rests
+  rests-told [] e m h = absurd (omega arith)
+  rests-told (x ∷ l) e m h = go (among (hashAt s (x .parent)) ids) refl e m h (rests-told l)
+    where
+      go : (t : Bool) → among (hashAt s (x .parent)) ids ≡ t → (t && rests s ids l) ≡ true → (m : ℕ) → m < suc (length l)
+          → (rests s ids l ≡ true → (m : ℕ) → m < length l → among (hashAt s (getD l m noInput .parent)) ids ≡ true)
+          → among (hashAt s (getD (x ∷ l) m noInput .parent)) ids ≡ true
+      go true q e zero h f = q
+      go true q e (suc m) h f = f e m (omega arith)
+      go false q e m h f = absurd (let z : _≡_ {A = ℕ} 0 1 = cc in omega arith)
+
+  pub told-rests : (inputs : List Input) → ((m : ℕ) → m < length inputs → among (hashAt s (getD inputs m noInput .parent)) ids ≡ true) → rests s ids inputs ≡ true
+  unfolding rests
+  told-rests [] f = refl
+  told-rests (x ∷ l) f = rw (f 0 (omega arith)) (told-rests l (λ m h. f (suc m) (omega arith)))
+
+-- an anchored transaction passes exactly if it is proved and its root is listed
+pub trusted-told : (roots : List ℕ) (m : ℕ) (v : Proving) (a n i : ℕ) → trusted roots m v ≡ passes a n i
+    → (p : Proof) × (v ≡ proved p) × (among (p .root) (hashesOf roots) ≡ true) × (a ≡ 1) × (n ≡ m) × (i ≡ p .position)
+unfolding trusted
+trusted-told roots m (denied number place layer sibling) a n i e = absurd (let z : _≡_ {A = ℕ} 0 1 = cc in omega arith)
+trusted-told roots m (proved p) a n i e = go (among (p .root) (hashesOf roots)) refl e
+  where
+    go : (t : Bool) → among (p .root) (hashesOf roots) ≡ t → pick t (passes 1 m (p .position)) (refuses UNTRUSTED) ≡ passes a n i
+        → (x : Proof) × (proved p ≡ proved x) × (among (x .root) (hashesOf roots) ≡ true) × (a ≡ 1) × (n ≡ m) × (i ≡ x .position)
+    go true h e = (p, refl, h, cc, cc, cc)
+    go false h e = absurd (let z : _≡_ {A = ℕ} 0 1 = cc in omega arith)
+
+pub told-trusted : (roots : List ℕ) (m : ℕ) (v : Proving) (p : Proof) → v ≡ proved p → among (p .root) (hashesOf roots) ≡ true → trusted roots m v ≡ passes 1 m (p .position)
+unfolding trusted
+told-trusted roots m v p e h = rw e (rw h)
+
+-- ---- a bundle
+
+abbrev pub noEntry : Entry
+noEntry = record { transaction = record { start = 0; end = 0; inputsAt = 0; inputs = []; outputsAt = 0; outputs = [] }; anchor = Unanchored }
+
+module _ (s roots : List ℕ) (b : Beef) where
+  abbrev pub nth : ℕ → Entry
+  nth k = getD (b .entries) k noEntry
+
+  abbrev pub idAt : ℕ → List ℕ
+  idAt k = entryId s (nth k)
+
+  abbrev pub inputsAt : ℕ → List Input
+  inputsAt k = nth k .transaction .inputs
+
+  -- no earlier transaction has its id
+  abbrev pub New : ℕ → Type 0
+  New k = (j : ℕ) → j < k → idAt j ≡ idAt k → ⊥
+
+  -- it is anchored and climbs in its BUMP to a listed root
+  pub record Mined (k : ℕ) : Type 0 where
+    pub bump : ℕ
+    pub proof : Proof
+    pub anchored : nth k .anchor ≡ InBump bump
+    pub climbs : proving s (nthBump (b .bumps) bump) (idAt k) ≡ proved proof
+    pub listed : Among (proof .root) (hashesOf roots)
+
+  -- it is not anchored, and each of its parents is an earlier transaction
+  pub record Child (k : ℕ) : Type 0 where
+    pub unanchored : nth k .anchor ≡ Unanchored
+    pub parent : ℕ → ℕ
+    pub earlier : (m : ℕ) → m < length (inputsAt k) → parent m < k
+    pub named : (m : ℕ) → m < length (inputsAt k) → idAt (parent m) ≡ hashAt s (getD (inputsAt k) m noInput .parent)
+
+  abbrev pub Stands : ℕ → Type 0
+  Stands k = New k × (Mined k ⊎ Child k)
+
+  abbrev ids : ℕ → List (List ℕ)
+  ids k = map (entryId s) (take k (b .entries))
+
+  -- it passes after those before it
+  abbrev Passes : ℕ → Type 0
+  Passes k = (a : ℕ) × (n : ℕ) × (i : ℕ) × (standing s roots (b .bumps) (ids k) (nth k) ≡ passes a n i)
+
+  parent-of : (k : ℕ) → k < length (b .entries) → nth k .anchor ≡ Unanchored → rests s (ids k) (inputsAt k) ≡ true → Child k
+  parent-of k low u e = record {
+    unanchored = u;
+    parent = λ m. find m (decLt m (length (inputsAt k)));
+    earlier = λ m h. below m h (decLt m (length (inputsAt k)));
+    named = λ m h. same-id m h (decLt m (length (inputsAt k)));
+  }
+    where
+      found : (m : ℕ) → m < length (inputsAt k) → (j : ℕ) × (j < k) × (idAt j ≡ hashAt s (getD (inputsAt k) m noInput .parent))
+      found m h = earlier-told (entryId s) (b .entries) noEntry k (omega arith) (hashAt s (getD (inputsAt k) m noInput .parent)) (rests-told s (ids k) (inputsAt k) e m h)
+
+      find : (m : ℕ) → Dec (m < length (inputsAt k)) → ℕ
+      find m (yes h) = found m h .0
+      find m (no h) = 0
+
+      below : (m : ℕ) → m < length (inputsAt k) → (t : Dec (m < length (inputsAt k))) → find m t < k
+      below m h (yes g) = found m g .1
+      below m h (no g) = absurd (g h)
+
+      same-id : (m : ℕ) → m < length (inputsAt k) → (t : Dec (m < length (inputsAt k))) → idAt (find m t) ≡ hashAt s (getD (inputsAt k) m noInput .parent)
+      same-id m h (yes g) = found m g .2
+      same-id m h (no g) = absurd (g h)
+
+  passed-stands : (k : ℕ) → k < length (b .entries) → Passes k → Stands k
+  unfolding standing anchoring
+  passed-stands k low (a, n, i, e) = go (among (idAt k) (ids k)) refl e
+    where
+      new : among (idAt k) (ids k) ≡ false → New k
+      new h j l m =
+          let t = told-earlier (entryId s) (b .entries) noEntry k (omega arith) (idAt k) j l m in
+          let z : _≡_ {A = ℕ} 0 1 = cc in
+          omega arith
+
+      by-anchor : (x : Anchor) → nth k .anchor ≡ x → anchoring s roots (b .bumps) (ids k) (nth k) x ≡ passes a n i → Mined k ⊎ Child k
+      by-anchor (InBump m) u h =
+          let w = trusted-told roots m (proving s (nthBump (b .bumps) m) (idAt k)) a n i h in
+          inl (record { bump = m; proof = w .0; anchored = u; climbs = w .1; listed = among-told (w .0 .root) (hashesOf roots) (w .2) })
+      by-anchor Unanchored u h = go′ (rests s (ids k) (inputsAt k)) refl h
+        where
+          go′ : (t : Bool) → rests s (ids k) (inputsAt k) ≡ t → pick t (passes 0 0 0) (refuses NO-PARENT) ≡ passes a n i → Mined k ⊎ Child k
+          go′ true q h = inr (parent-of k low u q)
+          go′ false q h = absurd (let z : _≡_ {A = ℕ} 0 1 = cc in omega arith)
+
+      go : (t : Bool) → among (idAt k) (ids k) ≡ t → pick t (refuses SAME-TX) (anchoring s roots (b .bumps) (ids k) (nth k) (nth k .anchor)) ≡ passes a n i → Stands k
+      go true h m = absurd (let z : _≡_ {A = ℕ} 0 1 = cc in omega arith)
+      go false h m = (new h, by-anchor (nth k .anchor) refl m)
+
+  stands-passed : (k : ℕ) → k < length (b .entries) → Stands k → Passes k
+  unfolding standing anchoring
+  stands-passed k low (new, w) = by (among (idAt k) (ids k)) refl w
+    where
+      by : (t : Bool) → among (idAt k) (ids k) ≡ t → Mined k ⊎ Child k → Passes k
+      by true h w =
+          let t = earlier-told (entryId s) (b .entries) noEntry k (omega arith) (idAt k) h in
+          absurd (new (t .0) (t .1) (t .2))
+      by false h (inl m) = (
+        1,
+        m .bump,
+        m .proof .position,
+        rw (h, m .anchored) (told-trusted roots (m .bump) (proving s (nthBump (b .bumps) (m .bump)) (idAt k)) (m .proof) (m .climbs) (told-among (m .proof .root) (hashesOf roots) (m .listed .0) (m .listed .1) (m .listed .2))),
+      )
+      by false h (inr c) =
+          let all : rests s (ids k) (inputsAt k) ≡ true = told-rests s (ids k) (inputsAt k) (λ m l. told-earlier (entryId s) (b .entries) noEntry k (omega arith) (hashAt s (getD (inputsAt k) m noInput .parent)) (c .parent m) (c .earlier m l) (c .named m l)) in
+          (0, 0, 0, rw (h, c .unanchored) (rw all))
+
+  -- accepted exactly when every transaction stands
+  pub accepted-stands : (records : List Record) → judgeEntries s roots b ≡ accepted records → (k : ℕ) → k < length (b .entries) → Stands k
+  unfolding judgeEntries
+  accepted-stands records e k low =
+      let w = accepted-passed (entryId s) (standing s roots (b .bumps)) (entryRow s) noEntry blankRecord [] (b .entries) records e k low in
+      passed-stands k low (w .flag, w .bump, w .position, w .passed)
+
+  pub stands-accepted : ((k : ℕ) → k < length (b .entries) → Stands k) → (records : List Record) × (judgeEntries s roots b ≡ accepted records)
+  unfolding judgeEntries
+  stands-accepted f = all-accepted (entryId s) (standing s roots (b .bumps)) (entryRow s) noEntry blankRecord [] (b .entries) (λ k low. stands-passed k low (f k low))
+
+  -- mined under a listed root, or every parent is supported
+  pub data Supported : ℕ → Type 0 where
+    by-root : (k : ℕ) → Mined k → Supported k
+    by-parents : (k : ℕ) (c : Child k) → ((m : ℕ) → m < length (inputsAt k) → Supported (c .parent m)) → Supported k
+
+  -- every chain of parents inside an accepted bundle ends at transactions mined under listed roots
+  pub accepted-supported : (records : List Record) → judgeEntries s roots b ≡ accepted records → (k : ℕ) → k < length (b .entries) → Supported k
+  accepted-supported records e k low = below (suc k) k (omega arith) low
+    where
+      supported : (k : ℕ) → k < length (b .entries) → ((j : ℕ) → j < k → Supported j) → Mined k ⊎ Child k → Supported k
+      supported k low f (inl m) = by-root k m
+      supported k low f (inr c) = by-parents k c (λ m h. f (c .parent m) (c .earlier m h))
+
+      below : (n k : ℕ) → k < n → k < length (b .entries) → Supported k
+      below zero k h low = absurd (omega arith)
+      below (suc n) k h low = supported k low (λ j l. below n j (omega arith) (omega arith)) (accepted-stands records e k low .1)
+
+-- "Of an unused BUMP only the layout is asked": BUMPs that agree where a transaction names them give one judgement
+pub unused-bump : (s roots : List ℕ) (b c : Beef) → b .entries ≡ c .entries
+    → ((k n : ℕ) → k < length (b .entries) → nth s roots b k .anchor ≡ InBump n → nthBump (b .bumps) n ≡ nthBump (c .bumps) n)
+    → judgeEntries s roots b ≡ judgeEntries s roots c
+unfolding judgeEntries standing anchoring
+unused-bump s roots b c e f =
+    from-same (entryId s) (entryId s) (standing s roots (b .bumps)) (standing s roots (c .bumps)) (entryRow s) (entryRow s) noEntry [] (b .entries)
+    (λ k low. record { ids = refl; standings = λ earlier. ap (pick (among (entryId s (nth s roots b k)) earlier) (refuses SAME-TX)) (agrees k low earlier (nth s roots b k .anchor) refl); rows = λ earlier a n i h. refl })
+    ∙ ap (judgeFrom (entryId s) (standing s roots (c .bumps)) (entryRow s) []) e
+  where
+    agrees : (k : ℕ) → k < length (b .entries) → (earlier : List (List ℕ)) (x : Anchor) → nth s roots b k .anchor ≡ x
+        → anchoring s roots (b .bumps) earlier (nth s roots b k) x ≡ anchoring s roots (c .bumps) earlier (nth s roots b k) x
+    agrees k low earlier (InBump n) h = ap (λ (m : Bump). trusted roots n (proving s m (entryId s (nth s roots b k)))) (f k n low h)
+    agrees k low earlier Unanchored h = refl

@@ -1,0 +1,131 @@
+-- Demand 3: two accepted proofs, forms mixed, that agree in root, position and layers and prove different ids give two different strings of one hash.
+use Prim.Native.Nat.{ℕ}
+use mathlib.Core.Path.{_≡_, refl, sym, ap, ap₂, _∙_}
+use mathlib.Core.List.{List, []}
+use lib.ListN.{length, getD}
+use native.Mathlib.Omega.{arith}
+use Rattle.hash.specs.Sha256.{sha256d-length}
+use Rattle.format.specs.declared.level.Leaf.{Leaf}
+use Rattle.format.specs.declared.tsc.Subject.{Subject}
+use Rattle.format.specs.declared.path.Form.{Form}
+use Rattle.format.specs.declared.path.Start.{Start}
+use Rattle.format.specs.declared.path.Start.the-variants.{At, Nowhere}
+use Rattle.format.specs.Parse.{Parse, got, bad}
+use Rattle.format.specs.Search.{lookup, leastOffset}
+use Rattle.format.specs.SearchLaws.{hash-at-length}
+use Rattle.format.specs.Bump.{bumpWhole}
+use Rattle.format.specs.Cmp.{cmpWhole}
+use Rattle.format.specs.Tsc.{tscWhole}
+use Rattle.spv.specs.Compare.{Reading, Proof, Verdict, denied, proved, judge, Answer, told, pair, compare, Collision}
+use Rattle.spv.specs.Collide.{WholeReading, Collided, demand3-whole, Colliding, compare-pair}
+use Rattle.spv.specs.Siblings.{levelSiblings, nodeSiblings, written-whole, sibling-whole}
+use Rattle.spv.specs.Readings.{readAs, starting, levelsReading, bumpReading, cmpReading, subjectId, tscReading, reading}
+use Rattle.spv.specs.Surplus.{Least, least-is}
+use Rattle.spv.specs.Position.{carrier}
+use Rattle.spv.specs.Shapes.{acceptedOf, provedOf, refusedPair, comparedOf, told-accepted}
+use Rattle.spv.specs.declared.prove.Judged.the-variants.{Accepted}
+use Rattle.spv.specs.declared.prove.Proved.{Proved}
+use Rattle.spv.specs.declared.comparing.Comparison.{Comparison}
+use Rattle.spv.specs.declared.comparing.Compared.{Compared}
+
+-- ---- whatever a form reads has ids and siblings of 32 bytes
+
+starting-whole : (s id : List ℕ) (h : ℕ) (levels : List (List Leaf)) (x : Start) → Least s id (getD levels 0 []) x → WholeReading (starting (levelSiblings s levels) h id x)
+unfolding starting WholeReading Least levelSiblings
+starting-whole s id h levels (At i) l = (carrier s id i (getD levels 0 []) (l .0) .long, λ k q. sibling-whole s (lookup q (getD levels k [])))
+starting-whole s id h levels Nowhere l = tt
+
+levels-whole : (s id : List ℕ) (h : ℕ) (levels : List (List Leaf)) → WholeReading (levelsReading s h levels id)
+unfolding levelsReading
+levels-whole s id h levels = starting-whole s id h levels (leastOffset s id (getD levels 0 [])) (least-is s id (getD levels 0 []))
+
+subject-long : (s : List ℕ) (x : Subject) → length (subjectId s x) ≡ 32
+unfolding subjectId
+subject-long s (Subject.Id p) = hash-at-length s p
+subject-long s (Subject.Transaction start end) = sha256d-length _
+
+read-whole : {A : Type 0} (x : Parse A) (f : A → Reading) → ((a : A) → WholeReading (f a)) → WholeReading (readAs x f)
+unfolding WholeReading
+read-whole (got a q) f h = h a
+read-whole (bad number place) f h = tt
+
+reading-whole : (form : Form) (s id : List ℕ) → WholeReading (reading form s id)
+unfolding reading bumpReading cmpReading tscReading WholeReading nodeSiblings
+reading-whole Form.Bump s id = read-whole (bumpWhole s) _ (λ b. levels-whole s id (b .height) (b .levels))
+reading-whole Form.Cmp s id = read-whole (cmpWhole s) _ (λ p. levels-whole s id (p .height) (p .levels))
+reading-whole Form.Tsc s id = read-whole (tscWhole s) _ (λ t. (subject-long s (t .subject), λ k j. written-whole s _))
+
+-- ---- demand 3
+
+-- two proofs by their forms, bytes and lent ids
+module _ (f g : Form) (s t id jd : List ℕ) where
+  pub demand3 : (x y : Proof) → judge (reading f s id) ≡ proved x → judge (reading g t jd) ≡ proved y
+      → x .root ≡ y .root → x .position ≡ y .position → x .layers ≡ y .layers → (x .id ≡ y .id → ⊥)
+      → Collided x y (compare (judge (reading f s id)) (judge (reading g t jd)))
+  demand3 x y = demand3-whole (reading f s id) (reading g t jd) (reading-whole f s id) (reading-whole g t jd) x y
+
+  -- the other way: a pair is answered only for two such proofs
+  pub demand3-back : (u v : List ℕ) → compare (judge (reading f s id)) (judge (reading g t jd)) ≡ pair u v → Colliding (judge (reading f s id)) (judge (reading g t jd)) u v
+  demand3-back u v e = compare-pair (judge (reading f s id)) (judge (reading g t jd)) u v e
+
+-- ---- the same of the code's answers
+
+-- the strings that an accepted proof's climb hashed
+unfoldable pub madeBy : Verdict → List (List ℕ)
+madeBy (denied number place k q) = []
+madeBy (proved x) = x .made
+
+pub record Answered (v w : Verdict) (a : Compared) : Type 0 where
+  pub pair : a .comparison ≡ Comparison.Pair
+  pub long : (length (a .first) ≡ 64) × (length (a .second) ≡ 64)
+  pub collision : Collision (madeBy v) (madeBy w) (a .first) (a .second)
+
+-- two accepted answers of proving that agree and tell different ids
+pub record Alike (x y : Proved) : Type 0 where
+  pub position : ℕ
+  pub layers : ℕ
+  pub first : x .judged ≡ Accepted position layers
+  pub second : y .judged ≡ Accepted position layers
+  pub root : x .root ≡ y .root
+  pub differ : x .id ≡ y .id → ⊥
+
+answer-built : (v w : Verdict) (p q : Proof) (t u : List ℕ) (a : Compared) → v ≡ proved p → w ≡ proved q → a ≡ comparedOf (pair t u) → (length t ≡ 64) × (length u ≡ 64) → Collision (p .made) (q .made) t u
+    → Answered v w a
+unfolding comparedOf madeBy
+answer-built v w p q t u a ev ew ea l c = rw (ev, ew, ea) (record { pair = refl; long = l; collision = c })
+
+-- only a pair is answered as one
+answer-pair : (r : Answer) → comparedOf r .comparison ≡ Comparison.Pair → (t : List ℕ) × (u : List ℕ) × (r ≡ pair t u)
+unfolding comparedOf refusedPair
+answer-pair (pair t u) e = (t, u, refl)
+answer-pair (told number place k q) e = let z : _≡_ {A = ℕ} 0 1 = cc in absurd (omega arith)
+
+alike-built : (v w : Verdict) (t u : List ℕ) (x y : Proved) → x ≡ provedOf v → y ≡ provedOf w → Colliding v w t u → Alike x y
+unfolding provedOf acceptedOf
+alike-built v w t u x y ex ey c =
+    let fx = ex ∙ ap provedOf (c .first) in
+    let fy = ey ∙ ap provedOf (c .second) in
+    record {
+      position = c .x .position;
+      layers = c .x .layers;
+      first = ap (λ (r : Proved). r .judged) fx;
+      second = ap (λ (r : Proved). r .judged) fy ∙ ap₂ Accepted (sym (c .position)) (sym (c .layers));
+      root = ap (λ (r : Proved). r .root) fx ∙ c .root ∙ sym (ap (λ (r : Proved). r .root) fy);
+      differ = λ e. c .differ (sym (ap (λ (r : Proved). r .id) fx) ∙ e ∙ ap (λ (r : Proved). r .id) fy);
+    }
+
+-- x and y are what proving answers, a is what comparing answers
+module _ (f g : Form) (s t id jd : List ℕ) (x y : Proved) (a : Compared)
+    (ex : x ≡ provedOf (judge (reading f s id))) (ey : y ≡ provedOf (judge (reading g t jd))) (ea : a ≡ comparedOf (compare (judge (reading f s id)) (judge (reading g t jd)))) where
+  pub answered : Alike x y → Answered (judge (reading f s id)) (judge (reading g t jd)) a
+  answered l =
+      let p = told-accepted x (judge (reading f s id)) (l .position) (l .layers) ex (l .first) in
+      let q = told-accepted y (judge (reading g t jd)) (l .position) (l .layers) ey (l .second) in
+      let c = demand3 f g s t id jd (p .0) (q .0) (p .1) (q .1) (p .2 ∙ l .root ∙ sym (q .2)) (p .3 ∙ sym (q .3)) (p .4 ∙ sym (q .4)) (λ e. l .differ (sym (p .5) ∙ e ∙ q .5)) in
+      answer-built (judge (reading f s id)) (judge (reading g t jd)) (p .0) (q .0) (c .t) (c .u) a (p .1) (q .1) (ea ∙ ap comparedOf (c .answer)) (c .long) (c .collision)
+
+  -- the other way
+  pub answered-back : a .comparison ≡ Comparison.Pair → Alike x y
+  answered-back e =
+      let r = answer-pair (compare (judge (reading f s id)) (judge (reading g t jd))) (sym (ap (λ (b : Compared). b .comparison) ea) ∙ e) in
+      alike-built (judge (reading f s id)) (judge (reading g t jd)) (r .0) (r .1) x y ex ey (demand3-back f g s t id jd (r .0) (r .1) (r .2))

@@ -1,0 +1,202 @@
+-- The proofs that each form gives, as its reading has them (01, "The climb", "Two climbs").
+use Prim.Native.Nat.{ℕ, _-_, _<_, _≤_}
+use mathlib.Core.Path.{_≡_, refl, sym, ap, _∙_}
+use mathlib.Core.Bool.{_&&_}
+use mathlib.Core.List.{List, []}
+use lib.ListN.{length, getD, take, drop, replicate, length-take, length-drop}
+use lib.Dec.{leb}
+use borrow.Author.Tests.{le-leb, lt-leb}
+use native.Mathlib.Omega.{arith}
+use Rattle.hash.specs.declared.Hashed.{Hashed}
+use Rattle.hash.specs.Sha256.{sha256d, hashed, hashed-accepted}
+use Rattle.format.specs.declared.level.Leaf.{Leaf}
+use Rattle.format.specs.declared.tsc.Subject.{Subject}
+use Rattle.format.specs.declared.path.Form.{Form}
+use Rattle.format.specs.declared.path.Start.{Start}
+use Rattle.format.specs.declared.path.Start.the-variants.{At, Nowhere}
+use Rattle.format.specs.declared.path.Path.{Path}
+use Rattle.format.specs.Parse.{Parse, got, bad, pick}
+use Rattle.format.specs.Refusals.{NOT-LISTED, MAX-INPUT}
+use Rattle.format.specs.Search.{hashAt, lookup, leastOffset}
+use Rattle.format.specs.Path.{leafIn, startIn, bumpPathOf, bumpPath, cmpPathOf, cmpPath}
+use Rattle.format.specs.BumpLaws.{BumpRead, bump-whole-told, CmpRead, cmp-whole-told}
+use Rattle.format.specs.PathLaws.{bump-leaf-in, bump-start-in, cmp-leaf-in, cmp-start-in}
+use Rattle.format.specs.Bump.{Bump, bumpWhole}
+use Rattle.format.specs.Cmp.{Cmp, cmpWhole}
+use Rattle.format.specs.Tsc.{Tsc, tscField, tscWhole, tellsRoot, targetRoot}
+use Rattle.format.specs.TscLaws.{TscRead, tsc-whole-told}
+use Rattle.format.specs.TscPath.{tscPathOf, tscPath}
+use Rattle.format.specs.TscPathLaws.{tsc-leaf-in}
+use Rattle.format.specs.TransactionLaws.{tx-told}
+use Rattle.format.specs.Whole.{whole-size}
+use Rattle.spv.specs.Climb.{Siblings, ascend-same}
+use Rattle.spv.specs.Compare.{Target, any, targetOf, Reading, unread, read, Proof, proved, judge, judge-climb}
+use Rattle.spv.specs.Siblings.{sibling, levelSiblings, nodeSiblings, pathSiblings}
+
+-- a refusal of reading is the proof's
+abbrev pub readAs : {A : Type 0} → Parse A → (A → Reading) → Reading
+readAs (got a next) f = f a
+readAs (bad number place) f = unread number place
+
+-- an id starts at the level-0 leaf that carries it; if none does it is not listed
+unfoldable pub starting : Siblings → ℕ → List ℕ → Start → Reading
+starting σ h id (At i) = read σ h i id any
+starting σ h id Nowhere = unread NOT-LISTED 0
+
+-- an id by the levels of a BUMP or CMP
+unfoldable pub levelsReading : List ℕ → ℕ → List (List Leaf) → List ℕ → Reading
+levelsReading s h levels id = starting (levelSiblings s levels) h id (leastOffset s id (getD levels 0 []))
+
+unfoldable pub bumpReading : List ℕ → List ℕ → Reading
+bumpReading s id = readAs (bumpWhole s) (λ b. levelsReading s (b .height) (b .levels) id)
+
+unfoldable pub cmpReading : List ℕ → List ℕ → Reading
+cmpReading s id = readAs (cmpWhole s) (λ p. levelsReading s (p .height) (p .levels) id)
+
+-- a TSC proof's own id: the one written, or its transaction's
+unfoldable pub subjectId : List ℕ → Subject → List ℕ
+subjectId s (Subject.Id p) = hashAt s p
+subjectId s (Subject.Transaction start end) = sha256d (take (end - start) (drop start s))
+
+-- a block hash is compared with nothing
+unfoldable pub tscTarget : List ℕ → Tsc → Target
+tscTarget s t = targetOf (tellsRoot (t .flags)) (targetRoot s (t .flags) (t .target))
+
+unfoldable pub tscReading : List ℕ → Reading
+tscReading s = readAs (tscWhole s) (λ t. read (nodeSiblings s (t .nodes)) (length (t .nodes)) (t .index) (subjectId s (t .subject)) (tscTarget s t))
+
+-- a proof of any form; a TSC proof has its own id, and the lent one is not looked at
+unfoldable pub reading : Form → List ℕ → List ℕ → Reading
+reading Form.Bump s id = bumpReading s id
+reading Form.Cmp s id = cmpReading s id
+reading Form.Tsc s id = tscReading s
+
+-- ---- laws
+
+-- an accepted proof was read
+pub read-proved : {A : Type 0} (x : Parse A) (f : A → Reading) (p : Proof) → judge (readAs x f) ≡ proved p → (a : A) × (q : ℕ) × (x ≡ got a q) × (judge (f a) ≡ proved p)
+unfolding judge
+read-proved (got a q) f p e = (a, q, refl, e)
+read-proved (bad number place) f p e = let z : _≡_ {A = ℕ} 0 1 = cc in absurd (omega arith)
+
+-- an id by a path's places
+unfoldable pub pathReading : List ℕ → Path → List ℕ → Reading
+pathReading s path id = starting (pathSiblings s path) (path .layers) id (startIn s path id)
+
+pub judge-same : (σ τ : Siblings) (h i : ℕ) (c : List ℕ) (w : Target) → ((k q : ℕ) → k < h → σ k q ≡ τ k q) → judge (read σ h i c w) ≡ judge (read τ h i c w)
+judge-same σ τ h i c w f = judge-climb σ τ h i c w (ascend-same σ τ h f i c)
+
+starting-same : (σ τ : Siblings) (h : ℕ) (id : List ℕ) (x : Start) → ((k q : ℕ) → k < h → σ k q ≡ τ k q) → judge (starting σ h id x) ≡ judge (starting τ h id x)
+unfolding starting
+starting-same σ τ h id (At i) f = judge-same σ τ h i id any f
+starting-same σ τ h id Nowhere f = refl
+
+-- a path whose places lead to the levels proves what the levels prove
+pub path-judge : (s : List ℕ) (path : Path) (h : ℕ) (levels : List (List Leaf)) (id : List ℕ) → path .layers ≡ h
+    → ((k q : ℕ) → k < h → leafIn s path k q ≡ lookup q (getD levels k []))
+    → startIn s path id ≡ leastOffset s id (getD levels 0 [])
+    → judge (pathReading s path id) ≡ judge (levelsReading s h levels id)
+unfolding pathReading levelsReading pathSiblings levelSiblings
+path-judge s path h levels id l f e =
+    ap (λ (n : ℕ). judge (starting (pathSiblings s path) n id (startIn s path id))) l
+    ∙ ap (λ (x : Start). judge (starting (pathSiblings s path) h id x)) e
+    ∙ starting-same (pathSiblings s path) (levelSiblings s levels) h id (leastOffset s id (getD levels 0 [])) (λ k q b. ap (sibling s) (f k q b))
+
+pub bump-refused : (s id : List ℕ) (number place : ℕ) → bumpWhole s ≡ bad number place → bumpReading s id ≡ unread number place
+unfolding bumpReading
+bump-refused s id number place e = rw e
+
+pub bump-read : (s id : List ℕ) (b : Bump) (q : ℕ) → bumpWhole s ≡ got b q → bumpReading s id ≡ levelsReading s (b .height) (b .levels) id
+unfolding bumpReading
+bump-read s id b q e = rw e
+
+pub cmp-refused : (s id : List ℕ) (number place : ℕ) → cmpWhole s ≡ bad number place → cmpReading s id ≡ unread number place
+unfolding cmpReading
+cmp-refused s id number place e = rw e
+
+pub cmp-read : (s id : List ℕ) (p : Cmp) (q : ℕ) → cmpWhole s ≡ got p q → cmpReading s id ≡ levelsReading s (p .height) (p .levels) id
+unfolding cmpReading
+cmp-read s id p q e = rw e
+
+-- a path has the layers that were read
+pub bump-layers : (s : List ℕ) {q : ℕ} (b : Bump) → BumpRead s q b → bumpPath s b .layers ≡ b .height
+unfolding bumpPathOf
+bump-layers s b r = let low = r .low in omega arith
+
+pub cmp-layers : (s : List ℕ) {q : ℕ} (p : Cmp) → CmpRead s q p → cmpPath s p .layers ≡ p .height
+unfolding cmpPathOf
+cmp-layers s p r = let low = r .low in omega arith
+
+-- a BUMP that was read, alone or in a bundle: its path proves what its levels prove
+pub bump-path-judge : (s id : List ℕ) {q : ℕ} (b : Bump) → BumpRead s q b → judge (pathReading s (bumpPath s b) id) ≡ judge (levelsReading s (b .height) (b .levels) id)
+bump-path-judge s id b r = path-judge s (bumpPath s b) (b .height) (b .levels) id (bump-layers s b r) (bump-leaf-in s b r) (bump-start-in s b r id)
+
+pub bump-judge : (s id : List ℕ) (b : Bump) (q : ℕ) → bumpWhole s ≡ got b q → judge (pathReading s (bumpPath s b) id) ≡ judge (bumpReading s id)
+bump-judge s id b q e = bump-path-judge s id b (bump-whole-told s e) ∙ sym (ap judge (bump-read s id b q e))
+
+pub cmp-judge : (s id : List ℕ) (p : Cmp) (q : ℕ) → cmpWhole s ≡ got p q → judge (pathReading s (cmpPath s p) id) ≡ judge (cmpReading s id)
+cmp-judge s id p q e =
+    let r = cmp-whole-told s e in
+    path-judge s (cmpPath s p) (p .height) (p .levels) id (cmp-layers s p r) (cmp-leaf-in s p r) (cmp-start-in s p r id) ∙ sym (ap judge (cmp-read s id p q e))
+
+pub tsc-refused : (s : List ℕ) (number place : ℕ) → tscWhole s ≡ bad number place → tscReading s ≡ unread number place
+unfolding tscReading
+tsc-refused s number place e = rw e
+
+pub tsc-read : (s : List ℕ) (t : Tsc) (q : ℕ) → tscWhole s ≡ got t q
+    → tscReading s ≡ read (nodeSiblings s (t .nodes)) (length (t .nodes)) (t .index) (subjectId s (t .subject)) (tscTarget s t)
+unfolding tscReading
+tsc-read s t q e = rw e
+
+-- 32 bytes of a part of the input: its hash, or zeros if it does not lie in the input
+unfoldable pub spanHash : List ℕ → ℕ → ℕ → List ℕ
+spanHash s start end = pick (leb start end && leb end (length s)) (hashed (take (end - start) (drop start s)) .digest) (replicate 32 0)
+
+unfoldable pub subjectHash : List ℕ → Subject → List ℕ
+subjectHash s (Subject.Id p) = hashAt s p
+subjectHash s (Subject.Transaction start end) = spanHash s start end
+
+module _ (s : List ℕ) (start end : ℕ) where
+  pub span-backward : end < start → spanHash s start end ≡ replicate 32 0
+  unfolding spanHash
+  span-backward h = rw (lt-leb start end h)
+
+  pub span-outside : start ≤ end → length s < end → spanHash s start end ≡ replicate 32 0
+  unfolding spanHash
+  span-outside h k = rw (le-leb start end h, lt-leb end (length s) k)
+
+  pub span-inside : start ≤ end → end ≤ length s → spanHash s start end ≡ hashed (take (end - start) (drop start s)) .digest
+  unfolding spanHash
+  span-inside h k = rw (le-leb start end h, le-leb end (length s) k)
+
+-- a part of an input that is not too long
+pub span-hash : (s : List ℕ) (start end : ℕ) → start ≤ end → end ≤ length s → length s ≤ MAX-INPUT → spanHash s start end ≡ sha256d (take (end - start) (drop start s))
+span-hash s start end a b c =
+    let few : length (take (end - start) (drop start s)) ≤ 16777216 = simp (length-take, length-drop) (omega arith) in
+    span-inside s start end a b ∙ ap (λ (h : Hashed). h .digest) (hashed-accepted (take (end - start) (drop start s)) few)
+
+subject-hash : (s : List ℕ) {q : ℕ} (t : Tsc) → TscRead s q t → length s ≤ MAX-INPUT → subjectHash s (t .subject) ≡ subjectId s (t .subject)
+unfolding subjectHash subjectId
+subject-hash s t r few = go (t .subject) refl
+  where
+    go : (x : Subject) → t .subject ≡ x → subjectHash s x ≡ subjectId s x
+    go (Subject.Id p) e = refl
+    go (Subject.Transaction start end) e =
+        let x = r .subject .transaction start end e in
+        let y = tx-told s start (x .1) in
+        span-hash s start end (omega (arith, y .forward)) (y .inside) few
+
+pub tsc-layers : (s : List ℕ) {q : ℕ} (t : Tsc) → TscRead s q t → tscPath s t .layers ≡ length (t .nodes)
+unfolding tscPathOf
+tsc-layers s t r = let low = r .low in omega arith
+
+pub tsc-judge : (s : List ℕ) (t : Tsc) (q : ℕ) → tscWhole s ≡ got t q
+    → judge (read (pathSiblings s (tscPath s t)) (tscPath s t .layers) (t .index) (subjectHash s (t .subject)) (tscTarget s t)) ≡ judge (tscReading s)
+unfolding pathSiblings nodeSiblings sibling
+tsc-judge s t q e =
+    let r = tsc-whole-told s e in
+    ap (λ (h : ℕ). judge (read (pathSiblings s (tscPath s t)) h (t .index) (subjectHash s (t .subject)) (tscTarget s t))) (tsc-layers s t r)
+    ∙ ap (λ (id : List ℕ). judge (read (pathSiblings s (tscPath s t)) (length (t .nodes)) (t .index) id (tscTarget s t))) (subject-hash s t r (whole-size tscField s e))
+    ∙ judge-same (pathSiblings s (tscPath s t)) (nodeSiblings s (t .nodes)) (length (t .nodes)) (t .index) (subjectId s (t .subject)) (tscTarget s t)
+    (λ k j b. ap (sibling s) (tsc-leaf-in s t r k j b))
+    ∙ sym (ap judge (tsc-read s t q e))

@@ -1,0 +1,50 @@
+-- What the forms give a climb: the leaf or node found, with its 32 bytes.
+use Prim.Native.Nat.{ℕ}
+use mathlib.Core.Path.{_≡_, sym, ap, _∙_}
+use mathlib.Core.List.{List, []}
+use lib.ListN.{length, getD}
+use native.Mathlib.Omega.{arith}
+use Rattle.format.specs.declared.level.Kind.{Kind}
+use Rattle.format.specs.declared.level.Kind.the-variants.{Plain, Copy, Client}
+use Rattle.format.specs.declared.level.Leaf.{Leaf}
+use Rattle.format.specs.declared.path.Found.{Found}
+use Rattle.format.specs.declared.path.Found.the-variants.{Here, Missing}
+use Rattle.format.specs.declared.path.Path.{Path}
+use Rattle.format.specs.Search.{hashAt, lookup}
+use Rattle.format.specs.SearchLaws.{hash-at-length}
+use Rattle.format.specs.Path.{leafIn}
+use Rattle.spv.specs.Climb.{Sibling, value, copied, absent, Siblings}
+use Rattle.spv.specs.Collide.{Whole}
+
+-- a leaf's 32 bytes, any flags, or a copy
+unfoldable pub written : List ℕ → Kind → Sibling
+written s (Plain p) = value (hashAt s p)
+written s Copy = copied
+written s (Client p) = value (hashAt s p)
+
+unfoldable pub sibling : List ℕ → Found → Sibling
+sibling s (Here kind) = written s kind
+sibling s Missing = absent
+
+-- of the levels of a BUMP or CMP: the leaf at the layer and position
+unfoldable pub levelSiblings : List ℕ → List (List Leaf) → Siblings
+levelSiblings s levels k q = sibling s (lookup q (getD levels k []))
+
+-- of the nodes of a TSC proof: one for each layer
+unfoldable pub nodeSiblings : List ℕ → List Kind → Siblings
+nodeSiblings s nodes k q = written s (getD nodes k Copy)
+
+-- of a path of any form, by its places
+unfoldable pub pathSiblings : List ℕ → Path → Siblings
+pathSiblings s path k q = sibling s (leafIn s path k q)
+
+pub written-whole : (s : List ℕ) (kind : Kind) → Whole (written s kind)
+unfolding Whole written
+written-whole s (Plain p) q e = let y : hashAt s p ≡ q = cc in ap length (sym y) ∙ hash-at-length s p
+written-whole s Copy q e = let z : _≡_ {A = ℕ} 0 1 = cc in absurd (omega arith)
+written-whole s (Client p) q e = let y : hashAt s p ≡ q = cc in ap length (sym y) ∙ hash-at-length s p
+
+pub sibling-whole : (s : List ℕ) (found : Found) → Whole (sibling s found)
+unfolding Whole sibling
+sibling-whole s (Here kind) q e = written-whole s kind q e
+sibling-whole s Missing q e = let z : _≡_ {A = ℕ} 0 1 = cc in absurd (omega arith)

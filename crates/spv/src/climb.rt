@@ -1,0 +1,192 @@
+// The climb of 01, the same for every form.
+use format::Found;
+use format::Kind;
+use format::Path;
+use format::refusal::MISSING;
+use format::refusal::TWIN;
+ghost use mathlib.Core.Path.{_≡_};
+ghost use Rattle.spv.specs.Climb.{joined, step, odd, beside, ascend, outcome, strings, absent, value, fails};
+ghost use Rattle.format.specs.Search.{hashAt};
+ghost use Rattle.spv.specs.Siblings.{written, sibling, pathSiblings};
+ghost use Rattle.spv.specs.Shapes.{nodeOf, siblingOf, joinedOf, climbedOf};
+
+// What stands beside the climb; the hash is zero unless there is a value.
+pub enum NodeKind {
+    Value,
+    Copied,
+    Absent,
+}
+
+pub struct Node {
+    pub kind: NodeKind,
+    pub hash: [u8; 32],
+}
+
+// One layer: the two halves of what is hashed, zero where the layer fails by a refusal's number.
+pub enum Fate {
+    Joins,
+    Fails(u8),
+}
+
+pub struct Joined {
+    pub fate: Fate,
+    pub left: [u8; 32],
+    pub right: [u8; 32],
+}
+
+// Where a climb ends: at the root, or refused by a number at a layer, with the sibling's position there. The root is zero if refused.
+pub enum End {
+    Root,
+    Stop {
+        number: u8,
+        layer: usize,
+        sibling: u64,
+    },
+}
+
+pub struct Climbed {
+    pub end: End,
+    pub root: [u8; 32],
+}
+
+fn absent_node() -> Node
+    ensures { λ r. ⌜ r ≡ nodeOf absent ⌝ }
+{
+    Node {
+        kind: NodeKind::Absent,
+        hash: [0u8; 32],
+    }
+}
+
+fn value_at(s: &[u8], place: usize) -> Node
+    ensures { λ r. ⌜ r ≡ nodeOf (value (hashAt (now (s .entry)) place)) ⌝ }
+{
+    let hash = format::hash_at(s, place);
+    Node {
+        kind: NodeKind::Value,
+        hash,
+    }
+}
+
+// What a leaf or node gives, by its kind.
+fn written_node(s: &[u8], kind: Kind) -> Node
+    ensures { λ r. ⌜ r ≡ nodeOf (written (now (s .entry)) kind) ⌝ }
+{
+    match kind {
+        Kind::Plain(place) => value_at(s, place),
+        Kind::Client(place) => value_at(s, place),
+        Kind::Copy => Node {
+            kind: NodeKind::Copied,
+            hash: [0u8; 32],
+        },
+    }
+}
+
+// What a path has at a layer and position.
+fn sibling_at(s: &[u8], path: Path, layer: usize, position: u64) -> Node
+    ensures { λ r. ⌜ r ≡ nodeOf (pathSiblings (now (s .entry)) path layer position) ⌝ }
+{
+    let found = format::find(s, path, layer, position);
+    match found {
+        Found::Here(kind) => written_node(s, kind),
+        Found::Missing => absent_node(),
+    }
+}
+
+fn failed(number: u8) -> Joined
+    ensures { λ r. ⌜ r ≡ joinedOf (fails number) ⌝ }
+{
+    Joined {
+        fate: Fate::Fails(number),
+        left: [0u8; 32],
+        right: [0u8; 32],
+    }
+}
+
+// The working hash c and its sibling p, in their order.
+fn placed(odd: bool, c: [u8; 32], p: [u8; 32]) -> Joined
+    ensures { λ r. ⌜ r ≡ joinedOf (joined odd c p) ⌝ }
+{
+    if odd {
+        if format::same_bytes(p, c) {
+            return failed(TWIN);
+        }
+        return Joined {
+            fate: Fate::Joins,
+            left: p,
+            right: c,
+        };
+    }
+    Joined {
+        fate: Fate::Joins,
+        left: c,
+        right: p,
+    }
+}
+
+fn fold(node: Node, odd: bool, c: [u8; 32]) -> Joined
+    ensures { λ r. ⌜ r ≡ joinedOf (step (siblingOf node) odd c) ⌝ }
+{
+    let kind = node.kind;
+    let p = node.hash;
+    match kind {
+        NodeKind::Value => placed(odd, c, p),
+        NodeKind::Copied => placed(odd, c, c),
+        NodeKind::Absent => failed(MISSING),
+    }
+}
+
+// The position beside j.
+fn beside_of(j: u64) -> u64
+    ensures { λ r. ⌜ r ≡ beside j ⌝ }
+{
+    if j % 2 == 1 { j - 1 } else { j + 1 }
+}
+
+// One layer of a climb in a path, from c at position j.
+pub fn layer_of(s: &[u8], path: Path, layer: usize, j: u64, c: [u8; 32]) -> Joined
+    ensures { λ r. ⌜ r ≡ joinedOf (step (pathSiblings (now (s .entry)) path layer (beside j)) (odd j) c) ⌝ }
+{
+    let q = beside_of(j);
+    let node = sibling_at(s, path, layer, q);
+    let o = j % 2 == 1;
+    fold(node, o, c)
+}
+
+// The climb from id at position i of a path.
+pub fn climb(s: &[u8], path: Path, i: u64, id: [u8; 32]) -> Climbed
+    ensures { λ r. ⌜ r ≡ climbedOf (outcome id (ascend (pathSiblings (now (s .entry)) path) 0 (path .layers) i id)) ⌝ }
+{
+    let h = path.layers;
+    let mut k: usize = 0;
+    let mut j = i;
+    let mut c = id;
+    while k < h {
+        let t = layer_of(s, path, k, j, c);
+        let fate = t.fate;
+        let left = t.left;
+        let right = t.right;
+        match fate {
+            Fate::Joins => {
+                c = hash::join(left, right);
+                j = j / 2;
+                k += 1;
+            }
+            Fate::Fails(number) => {
+                let q = beside_of(j);
+                return Climbed {
+                    end: End::Stop {
+                        number,
+                        layer: k,
+                        sibling: q,
+                    },
+                    root: [0u8; 32],
+                };
+            }
+        }
+    }
+    Climbed {
+        end: End::Root,
+        root: c,
+    }
+}

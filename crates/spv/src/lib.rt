@@ -1,0 +1,26 @@
+// Merkle root computation over the published forms of Merkle proof: proving an id, the all-clients check, comparing two proofs,
+// and judging a BEEF.
+mod bundle;
+mod clients;
+mod climb;
+mod comparing;
+mod prove;
+mod table;
+
+pub use bundle::Ruling;
+pub use bundle::Verdict;
+pub use bundle::judge_bundle;
+pub use clients::Agreement;
+pub use clients::Checked;
+pub use clients::check_clients;
+pub use comparing::Compared;
+pub use comparing::Comparison;
+pub use comparing::compare;
+pub use prove::Judged;
+pub use prove::Proved;
+pub use prove::prove_bump;
+pub use prove::prove_cmp;
+pub use prove::prove_tsc;
+pub use table::Record;
+pub use table::blank;
+pub use table::judge_beef;
