@@ -130,6 +130,28 @@ uint32_t barrowtide_compare(uint32_t first_form, const uint8_t *first, size_t fi
                             uint64_t *carried, uint8_t first_string[64],
                             uint8_t second_string[64]);
 
+/* ---- Judging ---- */
+
+/* What an accepted bundle says of one transaction. */
+typedef struct {
+    uint64_t start;    /* the place of its first byte in the bundle */
+    uint64_t length;   /* how many bytes it takes */
+    uint8_t id[32];    /* its id */
+    bool anchored;     /* whether a BUMP of the bundle anchors it in a trusted root */
+    uint64_t bump;     /* the number of that BUMP; 0 if not anchored */
+    uint32_t position; /* its position in the block; 0 if not anchored */
+} barrowtide_record;   /* 72 bytes */
+
+/* Judges a BEEF bundle against trusted roots, which stand end to end in roots_len bytes, possibly
+   none. Every transaction must climb in its BUMP to a trusted root, or have an earlier transaction
+   of the bundle as parent of each input. The table has room for table_len records; 256 are always
+   enough. On acceptance *transactions is their number n, the first n records are filled and the
+   others are zeroed; a refusal zeroes the whole table. Padding inside a record has no meaning.
+   Refused: 1, 21, reading as above with 22, then in judging 13, 14, 15, 17, 19, 20. */
+uint32_t barrowtide_judge_beef(const uint8_t *data, size_t len, const uint8_t *roots,
+                               size_t roots_len, barrowtide_record *table, size_t table_len,
+                               uint64_t *carried, uint64_t *transactions);
+
 #ifdef __cplusplus
 }
 #endif

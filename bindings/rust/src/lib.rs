@@ -8,6 +8,7 @@
 //! - [`read_transaction`], [`read_tsc`], [`read_beef`]: the same of transactions, proofs and bundles
 //! - [`prove_bump`], [`prove_cmp`], [`prove_tsc`], [`check_clients`]: the root that a proof leads to
 //! - [`compare`]: two proofs under one root that disagree on the id hold two strings of one hash
+//! - [`judge`], [`judge_beef`]: does every payment of a BEEF bundle rest on a trusted root?
 //!
 //! Every call answers a value or a [`Refusal`] with 01's number and the place that it blames.
 //!
@@ -23,6 +24,7 @@ mod compare;
 pub mod ffi;
 mod hash;
 pub mod hex;
+mod judge;
 mod prove;
 mod refusal;
 mod transaction;
@@ -34,6 +36,7 @@ pub use bump::{read_bump, Bump};
 pub use cmp::{read_cmp, Cmp};
 pub use compare::{compare, Claim, Collision};
 pub use hash::{join, sha256d, Hash, MAX_INPUT};
+pub use judge::{judge, judge_beef, Record, Verdict, MAX_TRANSACTIONS};
 pub use prove::{check_clients, prove_bump, prove_cmp, prove_tsc, Proof};
 pub use refusal::{Reason, Refusal};
 pub use transaction::{read_transaction, Transaction};

@@ -144,7 +144,7 @@ fn beside_of(j: u64) -> u64
 }
 
 // One layer of a climb in a path, from c at position j.
-pub fn layer_of(s: &[u8], path: Path, layer: usize, j: u64, c: [u8; 32]) -> Joined
+pub(crate) fn layer_of(s: &[u8], path: Path, layer: usize, j: u64, c: [u8; 32]) -> Joined
     ensures { λ r. ⌜ r ≡ joinedOf (step (pathSiblings (now (s .entry)) path layer (beside j)) (odd j) c) ⌝ }
 {
     let q = beside_of(j);

@@ -198,7 +198,7 @@ fn settle_pair(
 }
 
 // Two proofs as they were read: the first's refusal, the second's, then what the accepted ones give.
-pub fn compare_claims(a: &[u8], x: Claim, b: &[u8], y: Claim) -> Compared
+fn compare_claims(a: &[u8], x: Claim, b: &[u8], y: Claim) -> Compared
     ensures { λ r. ⌜ r ≡ comparedOf (compare (judge (claimed (now (a .entry)) x)) (judge (claimed (now (b .entry)) y))) ⌝ }
 {
     let p = judge_claim(a, x);

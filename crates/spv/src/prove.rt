@@ -45,7 +45,7 @@ pub struct Proved {
 }
 
 // A refusal as it is answered: the layer and the sibling of 14 and 15 are left out.
-pub fn refusal_of(number: u8, place: usize, layer: usize, sibling: u64) -> Refusal
+pub(crate) fn refusal_of(number: u8, place: usize, layer: usize, sibling: u64) -> Refusal
     ensures { λ r. ⌜ r ≡ refusalOf number place layer sibling ⌝ }
 {
     Refusal { number, place }
@@ -82,7 +82,7 @@ fn accepted(position: u64, layers: usize, id: [u8; 32], root: [u8; 32]) -> Prove
 }
 
 // The climb of a proof that was read, and its target.
-pub fn settle(s: &[u8], x: Claim) -> Proved
+pub(crate) fn settle(s: &[u8], x: Claim) -> Proved
     ensures { λ r. ⌜ r ≡ provedOf (judge (opened (now (s .entry)) x)) ⌝ }
 {
     let path = x.path;
@@ -108,7 +108,7 @@ pub fn settle(s: &[u8], x: Claim) -> Proved
 }
 
 // A proof as it was read, judged.
-pub fn judge_claim(s: &[u8], x: Claim) -> Proved
+pub(crate) fn judge_claim(s: &[u8], x: Claim) -> Proved
     ensures { λ r. ⌜ r ≡ provedOf (judge (claimed (now (s .entry)) x)) ⌝ }
 {
     let status = x.status;
@@ -136,7 +136,7 @@ fn unread_claim(refusal: Refusal) -> Claim
 }
 
 // An id by a path, from the least offset that carries it.
-pub fn claim_in(s: &[u8], path: Path, id: [u8; 32]) -> Claim
+fn claim_in(s: &[u8], path: Path, id: [u8; 32]) -> Claim
     ensures { λ r. ⌜ claimed (now (s .entry)) r ≡ pathReading (now (s .entry)) path id ⌝ }
 {
     let start = format::find_id(s, path, id);
@@ -156,7 +156,7 @@ pub fn claim_in(s: &[u8], path: Path, id: [u8; 32]) -> Claim
     }
 }
 
-pub fn claim_bump(s: &[u8], id: [u8; 32]) -> Claim
+fn claim_bump(s: &[u8], id: [u8; 32]) -> Claim
     ensures { λ r. ⌜ judge (claimed (now (s .entry)) r) ≡ judge (bumpReading (now (s .entry)) id) ⌝ }
 {
     let answer = format::read_bump(s);
@@ -167,7 +167,7 @@ pub fn claim_bump(s: &[u8], id: [u8; 32]) -> Claim
     claim_in(s, path, id)
 }
 
-pub fn claim_cmp(s: &[u8], id: [u8; 32]) -> Claim
+fn claim_cmp(s: &[u8], id: [u8; 32]) -> Claim
     ensures { λ r. ⌜ judge (claimed (now (s .entry)) r) ≡ judge (cmpReading (now (s .entry)) id) ⌝ }
 {
     let answer = format::read_cmp(s);
@@ -201,7 +201,7 @@ fn subject_hash(s: &[u8], subject: Subject) -> [u8; 32]
     }
 }
 
-pub fn claim_tsc(s: &[u8]) -> Claim
+fn claim_tsc(s: &[u8]) -> Claim
     ensures { λ r. ⌜ judge (claimed (now (s .entry)) r) ≡ judge (tscReading (now (s .entry))) ⌝ }
 {
     let answer = format::read_tsc(s);
@@ -252,7 +252,7 @@ pub fn prove_tsc(s: &[u8]) -> Proved
 }
 
 // A proof of any form as it is read. A TSC proof has its own id: the lent one is not looked at.
-pub fn claim_of(s: &[u8], form: Form, id: [u8; 32]) -> Claim
+pub(crate) fn claim_of(s: &[u8], form: Form, id: [u8; 32]) -> Claim
     ensures { λ r. ⌜ judge (claimed (now (s .entry)) r) ≡ judge (reading form (now (s .entry)) id) ⌝ }
 {
     match form {

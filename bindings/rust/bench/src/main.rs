@@ -5,6 +5,7 @@
 //! ```
 
 mod hash;
+mod judge;
 mod measure;
 mod prove;
 mod read;
@@ -22,4 +23,5 @@ fn main() {
     hash::run();
     read::run();
     prove::run();
+    judge::run();
 }

@@ -12,11 +12,13 @@
 mod bundle;
 mod compare;
 mod hash;
+mod judge;
 mod path;
 mod prove;
 
 pub use bundle::{read_beef, read_transaction, read_tsc};
 pub use compare::{compare, Lent};
 pub use hash::{join, sha256d};
+pub use judge::judge_beef;
 pub use path::{read_bump, read_cmp, read_varint};
 pub use prove::{check_clients, prove_bump, prove_cmp, prove_tsc};

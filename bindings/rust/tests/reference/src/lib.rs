@@ -15,6 +15,7 @@ pub mod compare;
 pub mod fields;
 pub mod generate;
 pub mod hex;
+pub mod judge;
 pub mod path;
 pub mod prove;
 pub mod refusal;

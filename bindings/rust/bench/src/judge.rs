@@ -1,0 +1,120 @@
+//! Judging bundles.
+
+use barrowtide::{join, sha256d, Hash, Record};
+use reference::generate::bundle::Plan;
+use reference::generate::random::Random;
+use reference::generate::tree::Tree;
+use reference::generate::{path, transaction};
+use reference::judge::judge;
+use reference::{beef, hex};
+
+use crate::measure::{seconds, subject, time};
+use crate::prove::buried;
+use crate::read::{falling, heading, row, seconds_of};
+
+/// Prints the tables of bundles.
+pub fn run() {
+    println!("\nBundles judged");
+    println!(
+        "{:<34} {:>12} {:>12} {:>6} {:>22}",
+        "", "library", "reference", "ratio", "hashing, of all time"
+    );
+    let published = hex::decode(include_str!("../../tests/data/004-bundle.hex"));
+    let root = reference::prove::all_clients(&published[5..290]).expect("004's BUMP");
+    compare("004's, 2 transactions", &published, &root);
+
+    let mut random = Random::of("judge");
+    let chain = chain(&mut random, 256);
+    compare("256 transactions, one anchored", &chain.draft().bytes, &chain.root_list());
+    let forest = Plan::random(&mut random, 256);
+    compare("256 transactions, some anchored", &forest.draft().bytes, &forest.root_list());
+
+    heading("Worst cases of judging");
+    worst("256 transactions in one BUMP of 32 full levels", &anchored_in_one(&mut random));
+    worst("400,000 inputs, parent the last of 255", &many_inputs(&mut random));
+    worst("64 BUMPs of 1,024 falling leaves a level", &many_bumps(&mut random));
+}
+
+fn compare(name: &str, bundle: &[u8], roots: &[u8]) {
+    let read = beef::read(bundle).expect("a well-formed bundle");
+    let count = read.entries.len();
+    let mut table = vec![Record::default(); count];
+    let answer = barrowtide::judge_beef(bundle, roots, &mut table);
+    assert_eq!(answer.ok(), judge(bundle, roots, count).0.ok());
+
+    let transactions: Vec<&[u8]> = read
+        .entries
+        .iter()
+        .map(|entry| &bundle[entry.transaction.start..][..entry.transaction.length])
+        .collect();
+    let height = |number: u64| read.bumps[number as usize].path.tree_height();
+    let joins: u64 = read.entries.iter().filter_map(|entry| entry.anchor).map(height).sum();
+    let node = [7; 32];
+    let times = seconds(vec![
+        subject(|| barrowtide::judge_beef(bundle, roots, &mut table)),
+        subject(|| judge(bundle, roots, count)),
+        subject(|| transactions.iter().filter_map(|bytes| sha256d(bytes).ok()).count()),
+        subject(|| join(&node, &node)),
+    ]);
+    println!(
+        "{name:<34} {:>12} {:>12} {:>6.2} {:>20.0} %",
+        time(times[0]),
+        time(times[1]),
+        times[0] / times[1],
+        100.0 * (times[2] + joins as f64 * times[3]) / times[0]
+    );
+}
+
+fn worst(name: &str, plan: &Plan) {
+    let (bundle, roots) = (plan.draft().bytes, plan.root_list());
+    let count = plan.entries.len();
+    let mut table = vec![Record::default(); count];
+    row(
+        name,
+        bundle.len(),
+        seconds_of(|| barrowtide::judge_beef(&bundle, &roots, &mut table).expect("a sound bundle")),
+        seconds_of(|| judge(&bundle, &roots, count).0.expect("a sound bundle")),
+    );
+}
+
+/// A bundle with one anchored transaction and a chain of others that spend from it.
+fn chain(random: &mut Random, count: usize) -> Plan {
+    let first = transaction::Plan::random(random);
+    let mut ids: Vec<Hash> = (0..1_000).map(|_| random.hash()).collect();
+    ids[500] = first.id();
+    let tree = Tree::new(ids);
+    let mut last = first.id();
+    let mut entries = vec![(first, Some(0))];
+    while entries.len() < count {
+        let next = transaction::Plan::spending(random, &[last]);
+        last = next.id();
+        entries.push((next, None));
+    }
+    Plan { bumps: vec![path::Plan::of(&tree, &[500])], entries, roots: vec![tree.root()] }
+}
+
+/// 256 transactions anchored in one BUMP of 32 full levels.
+fn anchored_in_one(random: &mut Random) -> Plan {
+    let entries: Vec<_> = (0..256).map(|_| (transaction::Plan::random(random), Some(0))).collect();
+    let tree = Tree::new(entries.iter().map(|entry| entry.0.id()).collect());
+    let positions: Vec<u64> = (0..256).collect();
+    let (bump, root) = buried(&tree, &positions);
+    Plan { bumps: vec![bump], entries, roots: vec![root] }
+}
+
+/// 255 transactions in a chain, and one whose 400,000 inputs all spend from the last of them.
+fn many_inputs(random: &mut Random) -> Plan {
+    let mut plan = chain(random, 255);
+    let parent = plan.entries[254].0.id();
+    let mut greedy = transaction::Plan::spending(random, &[parent]);
+    greedy.inputs = (0..400_000).map(|number| (parent, number, Vec::new(), 0)).collect();
+    plan.entries.push((greedy, None));
+    plan
+}
+
+/// A small sound bundle with 63 more BUMPs that no transaction names.
+fn many_bumps(random: &mut Random) -> Plan {
+    let mut plan = chain(random, 2);
+    plan.bumps.resize(64, falling(true));
+    plan
+}

@@ -1,0 +1,44 @@
+//! Judging a bundle.
+
+use crate::Record;
+
+extern "C" {
+    fn barrowtide_judge_beef(
+        data: *const u8,
+        len: usize,
+        roots: *const u8,
+        roots_len: usize,
+        table: *mut Record,
+        table_len: usize,
+        carried: *mut u64,
+        transactions: *mut u64,
+    ) -> u32;
+}
+
+/// The size of `barrowtide_record`.
+const _: () = assert!(size_of::<Record>() == 72);
+
+/// `barrowtide_judge_beef`: a bundle against a list of roots, into a lent table.
+pub fn judge_beef(
+    data: &[u8],
+    roots: &[u8],
+    table: &mut [Record],
+    carried: &mut u64,
+    transactions: &mut u64,
+) -> u32 {
+    // SAFETY: the call reads `data` and `roots` within their lengths and writes two u64 and the
+    // table's records, whose layout is C's and whose bool it sets to 0 or 1; all of it is borrowed
+    // for the call.
+    unsafe {
+        barrowtide_judge_beef(
+            data.as_ptr(),
+            data.len(),
+            roots.as_ptr(),
+            roots.len(),
+            table.as_mut_ptr(),
+            table.len(),
+            carried,
+            transactions,
+        )
+    }
+}

@@ -1,0 +1,75 @@
+//! Judging a BEEF bundle.
+
+use crate::ffi;
+use crate::refusal::{answer, Refusal};
+use crate::Hash;
+
+/// The greatest number of transactions in a bundle.
+pub const MAX_TRANSACTIONS: usize = 256;
+
+/// What an accepted bundle says of one of its transactions.
+#[derive(Debug, Clone, Copy, Default, PartialEq, Eq)]
+#[repr(C)]
+pub struct Record {
+    /// The place of its first byte in the bundle.
+    pub start: u64,
+    /// How many bytes it takes.
+    pub length: u64,
+    /// Its id.
+    pub id: Hash,
+    /// Whether a BUMP of the bundle anchors it in a trusted root.
+    pub anchored: bool,
+    /// The number of that BUMP, counted from 0; 0 if it is not anchored.
+    pub bump: u64,
+    /// Its position in the block; 0 if it is not anchored.
+    pub position: u32,
+}
+
+/// Judges a bundle against a list of trusted roots, and fills a lent table.
+///
+/// The roots stand end to end, 32 bytes each. The table has room for the bundle's transactions or
+/// more ([`MAX_TRANSACTIONS`] always do). The answer is their number n: the first n records are
+/// filled, the others are zero. A refusal zeroes the whole table.
+///
+/// ```
+/// use barrowtide::{judge_beef, Reason, Record};
+/// let mut table = [Record { length: 7, ..Record::default() }];
+/// let refusal = judge_beef(&[0x01, 0x00, 0xbe, 0xef, 0x00, 0x00], &[], &mut table).unwrap_err();
+/// assert_eq!((refusal.reason, refusal.carried), (Reason::Empty, 5));
+/// assert_eq!(table, [Record::default()]);
+/// ```
+pub fn judge_beef(data: &[u8], roots: &[u8], table: &mut [Record]) -> Result<u64, Refusal> {
+    let (mut carried, mut transactions) = (0, 0);
+    let number = ffi::judge_beef(data, roots, table, &mut carried, &mut transactions);
+    answer(number, carried, transactions)
+}
+
+/// A bundle that was accepted.
+#[derive(Debug, Clone, PartialEq, Eq)]
+pub struct Verdict {
+    /// A record for each transaction, in the bundle's order; the last is the payment itself.
+    pub records: Vec<Record>,
+}
+
+/// Judges a bundle against trusted roots, with a table of its own.
+///
+/// ```
+/// use barrowtide::{hex, judge};
+///
+/// // The example bundle of BRC-62, and the Merkle root of the block that its parent is in.
+/// let bundle = hex::decode(&std::fs::read_to_string("tests/data/004-bundle.hex")?).unwrap();
+/// let root = "bb6f640cc4ee56bf38eb5a1969ac0c16caa2d3d202b22bf3735d10eec0ca6e00";
+/// let root = hex::parse_printed(root).unwrap();
+///
+/// let verdict = judge(&bundle, &[root]).expect("a sound bundle");
+/// assert_eq!(verdict.records.len(), 2);
+/// assert_eq!((verdict.records[0].anchored, verdict.records[0].position), (true, 21));
+/// assert!(!verdict.records[1].anchored);
+/// # Ok::<(), std::io::Error>(())
+/// ```
+pub fn judge(data: &[u8], roots: &[Hash]) -> Result<Verdict, Refusal> {
+    let mut records = vec![Record::default(); MAX_TRANSACTIONS];
+    let count = judge_beef(data, roots.as_flattened(), &mut records)?;
+    records.truncate(count as usize);
+    Ok(Verdict { records })
+}

@@ -1,0 +1,260 @@
+//! Judging bundles: the library against the reference, the table included.
+
+mod common;
+
+use barrowtide::{ffi, Record, MAX_INPUT, MAX_TRANSACTIONS};
+use common::{expected, plain, FILL};
+use reference::generate::bundle::Plan;
+use reference::generate::damage::{field_edits, random_edit, truncations};
+use reference::generate::random::{rounds, Random};
+use reference::generate::tally::Tally;
+use reference::generate::tree::Tree;
+use reference::generate::{path, transaction};
+use reference::hex::{decode, expand, printed, show};
+use reference::judge;
+use reference::refusal::Refusal;
+use reference::sha256::{join, sha256d};
+use reference::Hash;
+
+/// What every record of a lent table holds before the call.
+const FILLED: Record =
+    Record { start: FILL, length: FILL, id: [0xa5; 32], anchored: true, bump: FILL, position: 7 };
+
+/// Compares the verdict, the count and every record of a table of `room` records.
+fn check(data: &[u8], roots: &[u8], room: usize) -> Result<Vec<Record>, Refusal> {
+    let (told, left) = judge::judge(data, roots, room);
+    let left: Vec<Record> = left.into_iter().map(record).collect();
+    let describe = || format!("{}; roots {}; room {room}", show(data), show(roots));
+
+    let (mut carried, mut transactions) = (FILL, FILL);
+    let mut table = vec![FILLED; room];
+    let number = ffi::judge_beef(data, roots, &mut table, &mut carried, &mut transactions);
+    assert_eq!((number, carried, transactions), expected(told, FILL), "{}", describe());
+    assert_eq!(table, left, "{}", describe());
+
+    table.fill(FILLED);
+    let safe = barrowtide::judge_beef(data, roots, &mut table).map_err(plain);
+    assert_eq!(safe, told, "{}", describe());
+    assert_eq!(table, left, "{}", describe());
+    told.map(|count| left[..count as usize].to_vec())
+}
+
+fn record(told: judge::Record) -> Record {
+    let judge::Record { start, length, id, anchored, bump, position } = told;
+    Record { start, length, id, anchored, bump, position }
+}
+
+/// Judges a plan with room enough.
+fn check_plan(plan: &Plan) -> Result<Vec<Record>, Refusal> {
+    check(&plan.draft().bytes, &plan.root_list(), plan.entries.len())
+}
+
+fn refused(number: u32, carried: u64) -> Result<Vec<Record>, Refusal> {
+    Err(Refusal { number, carried })
+}
+
+#[test]
+fn published_bundle() {
+    let bundle = decode(include_str!("data/004-bundle.hex"));
+    let root = reference::prove::all_clients(&bundle[5..290]).unwrap();
+    let records = check(&bundle, &root, 2).unwrap();
+    let summary = |record: &Record| {
+        (record.start, record.length, record.anchored, record.bump, record.position)
+    };
+    assert_eq!(summary(&records[0]), (291, 192, true, 0, 21));
+    assert_eq!(summary(&records[1]), (485, 191, false, 0, 0));
+    let parent = "3ecead27a44d013ad1aae40038acbb1883ac9242406808bb4667c15b4f164eac";
+    assert_eq!(printed(&records[0].id), parent);
+    assert_eq!(records[1].id, sha256d(&bundle[485..676]));
+
+    assert_eq!(check(&bundle, &[], 2), refused(17, 0));
+    assert_eq!(check(&bundle, &[0; 64], 2), refused(17, 0));
+    assert_eq!(check(&bundle, &root[1..], 2), refused(21, 0));
+    assert_eq!(check(&bundle, &root, 1), refused(22, 290));
+    assert_eq!(check(&bundle, &[[7; 32], root, root].concat(), 5), Ok(records));
+    // Printed order is not stored order.
+    let reversed: Hash = std::array::from_fn(|i| root[31 - i]);
+    assert_eq!(check(&bundle, &reversed, 2), refused(17, 0));
+    for cut in truncations(&bundle) {
+        assert!(check(cut, &root, 2).is_err());
+    }
+}
+
+/// A transaction of 60 bytes, and one of 65.
+const T60: &str = "01 00 00 00 01 [aa] 00 00 00 00 00 ff{4} 01 e8 03 00{6} 00 00{4}";
+const T65: &str = "01 00 00 00 01 [aa] 00 00 00 00 05 51{5} ff{4} 01 e8 03 00{6} 00 00{4}";
+
+#[test]
+fn examples() {
+    let id = sha256d(&expand(T60));
+    let root = join(&id, &[0xbb; 32]);
+    let hex: String = id.iter().map(|byte| format!("{byte:02x}")).collect();
+    let judged = |text: &str, roots: &[u8], room| {
+        let text = text.replace("HEAD", "01 00 be ef 01 00 01 02 00 02 I60 01 00 [bb]");
+        let text = text.replace("I60", &hex).replace("T60", T60).replace("T65", T65);
+        check(&expand(&text), roots, room)
+    };
+    // 5, 12 and 22 on the count, in that order; then what follows it.
+    assert_eq!(judged("01 00 be ef 00 fd 01 01", &[], 0), refused(5, 5));
+    assert_eq!(judged("01 00 be ef 00 00", &[], 0), refused(12, 5));
+    assert_eq!(judged("01 00 be ef 00 01 ff", &[], 0), refused(22, 5));
+    assert_eq!(judged("01 00 be ef 00 01", &[], 1), refused(2, 6));
+    // 1, 21, then the fields.
+    assert_eq!(judged("02 00 be ef", &[0], 1), refused(21, 0));
+    assert_eq!(judged("02 00 be ef", &[], 1), refused(10, 0));
+    // Judging.
+    assert!(judged("HEAD 01 T60 01 00", &root, 1).is_ok());
+    assert_eq!(judged("HEAD 02 T60 01 00 T60 00", &root, 2), refused(19, 1));
+    assert_eq!(judged("HEAD 02 T60 01 00 T60 01 00", &root, 2), refused(19, 1));
+    assert_eq!(judged("HEAD 02 T60 01 00 T65 01 00", &root, 2), refused(13, 1));
+    assert_eq!(judged("HEAD 01 T60 02", &root, 2), refused(7, 137));
+    assert_eq!(judged("HEAD 01 T60 01 01", &root, 2), refused(18, 138));
+    assert_eq!(judged("HEAD 01 T60 00", &root, 2), refused(20, 0));
+    // A fault in reading beats any in judging.
+    assert_eq!(judged("HEAD 02 T60 00 T65 01 07", &root, 2), refused(18, 204));
+    assert_eq!(judged("HEAD 01 T60 00 00", &root, 2), refused(9, 138));
+}
+
+/// Sound bundles of every small size, and of the greatest.
+#[test]
+fn sound_bundles() {
+    let mut random = Random::of("sound_bundles");
+    for count in (1..=40).chain([255, 256]) {
+        let mut plan = Plan::random(&mut random, count);
+        let records = check_plan(&plan).expect("a sound bundle");
+        for (record, (transaction, anchor)) in records.iter().zip(&plan.entries) {
+            assert_eq!(record.id, transaction.id());
+            assert_eq!(record.anchored.then_some(record.bump), *anchor);
+        }
+        let verdict = barrowtide::judge(&plan.draft().bytes, &plan.roots).unwrap();
+        assert_eq!(verdict.records, records);
+        // The last of several is not anchored; its last input must have a parent, too.
+        if count > 1 {
+            plan.entries[count as usize - 1].0.inputs.push((random.hash(), 0, Vec::new(), 0));
+            assert_eq!(check_plan(&plan), refused(20, count - 1));
+        }
+    }
+}
+
+/// Tables of every size, and lists of roots of every shape.
+#[test]
+fn tables_and_lists() {
+    let mut random = Random::of("tables_and_lists");
+    for count in [1, 2, 5, 9] {
+        let plan = Plan::random(&mut random, count);
+        let (bytes, roots) = (plan.draft().bytes, plan.root_list());
+        for room in (0..=count as usize + 3).chain([MAX_TRANSACTIONS, 300]) {
+            assert_eq!(check(&bytes, &roots, room).is_ok(), room >= count as usize);
+        }
+        for length in 0..=roots.len() {
+            let _ = check(&bytes, &roots[..length], count as usize);
+            let _ = check(&bytes, &roots[roots.len() - length..], 0);
+        }
+        let many: Vec<u8> = [random.bytes(32 * 1_000), roots.clone(), roots].concat();
+        assert!(check(&bytes, &many, count as usize).is_ok());
+        assert!(check(&bytes, &many[32..], count as usize).is_ok());
+        assert_eq!(check(&bytes, &many[1..], count as usize), refused(21, 0));
+    }
+}
+
+/// The slips of the course, each in a bundle of its own.
+#[test]
+fn slips() {
+    let mut random = Random::of("slips");
+    let parent = transaction::Plan::random(&mut random);
+    let child = transaction::Plan::spending(&mut random, &[parent.id()]);
+    let mut ids: Vec<Hash> = (0..11).map(|_| random.hash()).collect();
+    ids[9] = parent.id();
+    let tree = Tree::new(ids);
+    let sound = Plan {
+        bumps: vec![path::Plan::of(&tree, &[9])],
+        entries: vec![(parent, Some(0)), (child, None)],
+        roots: vec![tree.root()],
+    };
+    assert_eq!(check_plan(&sound).unwrap()[0].position, 9);
+
+    // A leaf with flags 00 serves as well as a client's.
+    let mut plain = sound.clone();
+    plain.bumps[0].levels[0].iter_mut().for_each(|leaf| leaf.flags = 0);
+    assert_eq!(check_plan(&plain), check_plan(&sound));
+
+    // A parent that comes later.
+    let mut later = sound.clone();
+    later.entries.swap(0, 1);
+    assert_eq!(check_plan(&later), refused(20, 0));
+
+    // Position 9 in a tree of three layers does not pass as 1.
+    let mut shallow = sound.clone();
+    shallow.bumps[0].levels.pop();
+    let first_offset = 4 + 1 + 5 + 1 + 1;
+    assert_eq!(check_plan(&shallow), refused(6, first_offset));
+
+    // A sibling that is not written, and one that equals the working hash at an odd position.
+    let mut missing = sound.clone();
+    missing.bumps[0].levels[2].clear();
+    assert_eq!(check_plan(&missing), refused(14, 0));
+    let mut twin = sound.clone();
+    twin.bumps[0].levels[3][0].hash = tree.hash(3, 1);
+    assert_eq!(check_plan(&twin), refused(15, 0));
+
+    // A BUMP that no transaction names is only read.
+    let mut unused = sound.clone();
+    unused.bumps.push(path::Plan { block_height: 0, levels: vec![Vec::new()] });
+    assert_eq!(check_plan(&unused).unwrap().len(), 2);
+
+    // Nothing is asked of the inputs of an anchored transaction, but all of one that is not.
+    let mut orphan = sound.clone();
+    let stranger = (random.hash(), 0, Vec::new(), 0);
+    orphan.entries[1].0.inputs.push(stranger);
+    assert_eq!(check_plan(&orphan), refused(20, 1));
+}
+
+/// Every change of one field and every truncation of some bundles.
+#[test]
+fn damaged_fields() {
+    let mut random = Random::of("damaged_fields");
+    let mut tally = Tally::default();
+    for count in [1, 2, 4] {
+        let plan = Plan::random(&mut random, count);
+        let (draft, roots) = (plan.draft(), plan.root_list());
+        for edit in field_edits(&draft) {
+            tally.note(check(&edit, &roots, count as usize));
+        }
+        for cut in truncations(&draft.bytes) {
+            tally.note(check(cut, &roots, count as usize));
+        }
+    }
+    tally.assert_met(&[0, 2, 3, 4, 5, 6, 7, 8, 9, 10, 11, 12, 13, 17, 18, 20, 22]);
+}
+
+/// Bundles with transactions dropped, repeated, swapped or changed, and paths spoilt.
+#[test]
+fn spoilt_bundles() {
+    let mut random = Random::of("spoilt_bundles");
+    let mut tally = Tally::default();
+    for _ in 0..rounds() {
+        let count = random.within(2..=8);
+        let mut plan = Plan::random(&mut random, count);
+        for _ in 0..random.within(1..=2) {
+            plan.spoil(&mut random);
+        }
+        tally.note(check_plan(&plan));
+        let edit = random_edit(&mut random, &plan.draft());
+        let room = random.within(count - 2..=count + 2) as usize;
+        tally.note(check(&edit, &plan.root_list(), room));
+    }
+    if rounds() >= 1_000 {
+        tally.assert_met(&[0, 2, 3, 6, 7, 8, 9, 11, 13, 14, 17, 18, 19, 20, 22]);
+    }
+}
+
+#[test]
+fn sizes() {
+    let mut longer = vec![0; MAX_INPUT + 1];
+    longer[..4].copy_from_slice(&[0x01, 0x00, 0xbe, 0xef]);
+    assert_eq!(check(&longer, &[], 3), refused(1, 0));
+    assert_eq!(check(&longer, &[0], 3), refused(1, 0));
+    longer.pop();
+    assert_eq!(check(&longer, &[0], 3), refused(21, 0));
+    assert_eq!(check(&longer, &[], 3), refused(12, 5));
+}

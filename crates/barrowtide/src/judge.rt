@@ -1,0 +1,39 @@
+// Judging a BEEF bundle.
+use spv::Record;
+use spv::Verdict;
+ghost use mathlib.Core.Path.{_≡_};
+ghost use lib.ListN.{length};
+ghost use Rattle.spv.specs.Bundle.{judgeBeef, tableOf};
+ghost use Rattle.barrowtide.specs.Judging.{numberOf, carriedOf, countOf, numberIn, carriedIn, countIn};
+
+// The number of a verdict; what a refusal carries, or how many transactions were accepted, is written.
+fn tell(verdict: Verdict, carried: &mut u64, transactions: &mut u64) -> u32
+    ensures { λ r. ⌜ (r ≡ numberIn verdict) × (now (carried .exit) ≡ carriedIn verdict (now (carried .entry))) × (now (transactions .exit) ≡ countIn verdict (now (transactions .entry))) ⌝ }
+{
+    match verdict {
+        Verdict::Accepted(count) => {
+            *transactions = count as u64;
+            0
+        }
+        Verdict::Refused(refusal) => {
+            *carried = refusal.place as u64;
+            refusal.number as u32
+        }
+    }
+}
+
+// uint32_t barrowtide_judge_beef(const uint8_t *message, size_t length, const uint8_t *roots, size_t roots_len, barrowtide_record *table, size_t table_len,
+//                                uint64_t *carried, uint64_t *transactions);
+#[no_mangle]
+pub extern "C" fn barrowtide_judge_beef(
+    message: &[u8],
+    roots: &[u8],
+    table: &mut [Record],
+    carried: &mut u64,
+    transactions: &mut u64,
+) -> u32
+    ensures { λ r. ⌜ (r ≡ numberOf (judgeBeef (now (message .entry)) (now (roots .entry)) (length (now (table .entry))))) × (now (table .exit) ≡ tableOf (judgeBeef (now (message .entry)) (now (roots .entry)) (length (now (table .entry)))) (length (now (table .entry)))) × (now (carried .exit) ≡ carriedOf (judgeBeef (now (message .entry)) (now (roots .entry)) (length (now (table .entry)))) (now (carried .entry))) × (now (transactions .exit) ≡ countOf (judgeBeef (now (message .entry)) (now (roots .entry)) (length (now (table .entry)))) (now (transactions .entry))) ⌝ }
+{
+    let verdict = spv::judge_beef(message, roots, table);
+    tell(verdict, carried, transactions)
+}

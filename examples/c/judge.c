@@ -1,0 +1,114 @@
+/*
+ * Judges a BEEF bundle against one trusted root and prints the verdict and the table.
+ *
+ *   judge BUNDLE ROOT
+ *
+ * BUNDLE is a file with the bundle in hex, ROOT the Merkle root in printed order. From the top of
+ * the repository, after `rt staticlib barrowtide`:
+ *
+ *   gcc -std=c11 -O2 -Iinclude examples/c/judge.c target/staticlib/libbarrowtide.a -o target/judge
+ *   target/judge bindings/rust/tests/data/004-bundle.hex \
+ *     bb6f640cc4ee56bf38eb5a1969ac0c16caa2d3d202b22bf3735d10eec0ca6e00
+ */
+#include <ctype.h>
+#include <stdio.h>
+#include <stdlib.h>
+#include <string.h>
+
+#include "barrowtide.h"
+
+enum { MAX_INPUT = 16777216, MAX_TRANSACTIONS = 256 };
+
+/* The value of a hex digit, or -1. */
+static int digit(int c)
+{
+    static const char digits[] = "0123456789abcdef";
+    const char *found = c ? strchr(digits, tolower(c)) : NULL;
+    return found ? (int)(found - digits) : -1;
+}
+
+/* Reads hex bytes, white space between digits passed over; one byte more than the size of an input
+   is enough to have it refused. Returns false if anything else is met. */
+static bool read_hex(FILE *file, uint8_t *bytes, size_t *len)
+{
+    int c, high = -1;
+    for (*len = 0; *len <= MAX_INPUT && (c = getc(file)) != EOF;) {
+        int value = digit(c);
+        if (value < 0 && isspace(c))
+            continue;
+        if (value < 0)
+            return false;
+        if (high < 0) {
+            high = value;
+        } else {
+            bytes[(*len)++] = (uint8_t)(high << 4 | value);
+            high = -1;
+        }
+    }
+    return high < 0;
+}
+
+/* Turns 64 digits in printed order into 32 bytes in stored order. */
+static bool parse_root(const char *text, uint8_t root[32])
+{
+    if (strlen(text) != 64)
+        return false;
+    for (int i = 0; i < 32; i++) {
+        int high = digit(text[2 * i]), low = digit(text[2 * i + 1]);
+        if (high < 0 || low < 0)
+            return false;
+        root[31 - i] = (uint8_t)(high << 4 | low);
+    }
+    return true;
+}
+
+static void print_record(uint64_t number, const barrowtide_record *record)
+{
+    printf("%3llu  start %llu  length %llu  id ", (unsigned long long)number,
+           (unsigned long long)record->start, (unsigned long long)record->length);
+    for (int i = 31; i >= 0; i--)
+        printf("%02x", record->id[i]);
+    if (record->anchored)
+        printf("  anchored by BUMP %llu at position %u", (unsigned long long)record->bump,
+               (unsigned)record->position);
+    printf("\n");
+}
+
+static int judge(FILE *file, const uint8_t root[32])
+{
+    static uint8_t bundle[MAX_INPUT + 1];
+    static barrowtide_record table[MAX_TRANSACTIONS];
+    size_t len;
+    if (!read_hex(file, bundle, &len)) {
+        fprintf(stderr, "the bundle is not hex\n");
+        return 2;
+    }
+    uint64_t carried = 0, transactions = 0;
+    uint32_t refusal = barrowtide_judge_beef(bundle, len, root, 32, table, MAX_TRANSACTIONS,
+                                             &carried, &transactions);
+    if (refusal != 0) {
+        printf("refused %u at %llu\n", (unsigned)refusal, (unsigned long long)carried);
+        return 1;
+    }
+    printf("accepted, transactions: %llu\n", (unsigned long long)transactions);
+    for (uint64_t i = 0; i < transactions; i++)
+        print_record(i, &table[i]);
+    return 0;
+}
+
+int main(int argc, char **argv)
+{
+    uint8_t root[32];
+    if (argc != 3 || !parse_root(argv[2], root)) {
+        fprintf(stderr, "usage: judge BUNDLE ROOT\n");
+        return 2;
+    }
+    FILE *file = fopen(argv[1], "r");
+    if (!file) {
+        perror(argv[1]);
+        return 2;
+    }
+    int status = judge(file, root);
+    fclose(file);
+    return status;
+}
