@@ -1,5 +1,5 @@
 -- The bundle rule (01, "The bundle rule").
-use Prim.Native.Nat.{ℕ, zero, suc, _+_, _-_, _/_, _%_}
+use Prim.Native.Nat.{ℕ, zero, suc, _-_, _/_, _%_}
 use mathlib.Core.Bool.{Bool, true, false, _&&_, _||_}
 use mathlib.Core.List.{List, [], _∷_, _++_}
 use lib.Dec.{leb, eqb}
@@ -12,6 +12,7 @@ use Rattle.format.specs.Parse.{Parse, got, bad, pick}
 use Rattle.format.specs.Bytes.{same}
 use Rattle.format.specs.Search.{hashAt}
 use Rattle.format.specs.Bump.{Bump}
+use Rattle.format.specs.Gather.{padded}
 use Rattle.format.specs.Transaction.{Transaction}
 use Rattle.format.specs.Beef.{Entry, Beef, beefWhole}
 use Rattle.format.specs.Refusals.{TOO-LONG, UNTRUSTED, SAME-TX, NO-PARENT, BAD-ROOTS, MAX-INPUT}
@@ -44,8 +45,8 @@ unfoldable pub rests : List ℕ → List (List ℕ) → List Input → Bool
 rests s ids [] = true
 rests s ids (input ∷ l) = among (hashAt s (input .parent)) ids && rests s ids l
 
--- how a transaction stands after the earlier ones: refused by a number, or passed with what its record says of its anchor: 1, the BUMP's number and
--- the position in the block, or 0, 0, 0
+-- how a transaction stands after the earlier ones: refused by a number, or passed with what its record says of its anchor: 1, the number of its BUMP and
+-- its position in the block, or 0, 0, 0
 pub data Standing : Type 0 where
   refuses : ℕ → Standing
   passes : ℕ → ℕ → ℕ → Standing
@@ -60,11 +61,11 @@ unfoldable pub proving : List ℕ → Bump → List ℕ → Proving
 proving s b id = judge (levelsReading s (b .height) (b .levels) id)
 
 -- the n-th BUMP; n is below their count by the reading (18)
-abbrev pub noBump : Bump
-noBump = record { block = 0; height = 0; start = 0; levels = [] }
+abbrev pub emptyBump : Bump
+emptyBump = record { block = 0; height = 0; start = 0; levels = [] }
 
 abbrev pub nthBump : List Bump → ℕ → Bump
-nthBump bumps n = getD bumps n noBump
+nthBump bumps n = getD bumps n emptyBump
 
 abbrev pub entryId : List ℕ → Entry → List ℕ
 entryId s e = txid s (e .transaction)
@@ -124,4 +125,4 @@ verdictOf (accepted records) = Accepted (length records)
 -- the table of n rows: on acceptance the first are filled and the others zero; a refusal zeroes the whole table
 unfoldable pub tableOf : Judgement → ℕ → List Record
 tableOf (refusedAs number carried) n = replicate n blankRecord
-tableOf (accepted records) n = records ++ replicate (n - length records) blankRecord
+tableOf (accepted records) n = padded n blankRecord records

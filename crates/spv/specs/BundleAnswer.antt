@@ -11,12 +11,13 @@ use Rattle.spv.specs.declared.bundle.Ruling.{Ruling}
 use Rattle.spv.specs.Table.{blankRecord, recordOf, rows}
 use Rattle.spv.specs.TableLaws.{rows-padded}
 use Rattle.format.specs.Parse.{Parse, got, bad, pick}
+use Rattle.format.specs.Gather.{padded}
 use Rattle.format.specs.Beef.{Beef, beefWhole}
 use Rattle.format.specs.BeefLaws.{BeefRead, beef-told}
 use Rattle.format.specs.Refusals.{TOO-LONG, BAD-ROOTS, MAX-INPUT}
 use Rattle.spv.specs.Bundle.{entryId, standing, entryRow, Judgement, refusedAs, accepted, judgeEntries, judgeRead, judgeBeef, verdictOf, tableOf}
 use Rattle.spv.specs.BundleLaws.{accepted-length}
-use Rattle.spv.specs.BundleTheorems.{noEntry}
+use Rattle.spv.specs.BundleTheorems.{emptyEntry}
 
 unfoldable pub rulingOf : Judgement → Ruling
 rulingOf j = record { verdict = verdictOf j; records = tableOf j 256 }
@@ -31,7 +32,7 @@ Fits (refusedAs number carried) n = Unit {0}
 Fits (accepted records) n = (length records ≤ 256) × (length records ≤ n)
 
 table-rows : (j : Judgement) (n : ℕ) → Fits j n → rows (recordOf (rulingOf j)) n ≡ tableOf j n
-unfolding rulingOf tableOf Fits
+unfolding rulingOf tableOf Fits padded
 table-rows (refusedAs number carried) n h = rows-padded (rulingOf (refusedAs number carried)) [] zero-le refl n zero-le ∙ ap (λ (k : ℕ). replicate k blankRecord) (sub-zero n)
 table-rows (accepted records) n h = rows-padded (rulingOf (accepted records)) records (h .0) refl n (h .1)
 
@@ -42,7 +43,7 @@ entries-fit s roots n b read = go (judgeEntries s roots b) refl
     go : (j : Judgement) → judgeEntries s roots b ≡ j → Fits j n
     go (refusedAs number carried) e = tt
     go (accepted records) e =
-        let same = accepted-length (entryId s) (standing s roots (b .bumps)) (entryRow s) noEntry blankRecord [] (b .entries) records e in
+        let same = accepted-length (entryId s) (standing s roots (b .bumps)) (entryRow s) emptyEntry blankRecord [] (b .entries) records e in
         let few = read .entries-low in
         let room = read .fits in
         (omega arith, omega arith)

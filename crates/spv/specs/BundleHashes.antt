@@ -7,9 +7,13 @@ use native.Mathlib.Nat.{sub-zero, mul-zero}
 use native.Mathlib.Omega.{arith}
 use native.Mathlib.Numerals.{add-one}
 use lib.ListN.{length, take, drop, getD, length-append, length-take, length-drop}
-use lib.Seq.{ext-getD, getD-take, getD-drop, drop-drop, take-append-le, drop-append-le, take-all, drop-at, take-at}
+use lib.Seq.{ext-getD, getD-take, getD-drop, drop-drop, take-append-le, drop-append-le, take-all}
 use Rattle.format.specs.Bytes.{same, eq-same, ne-same}
 use Rattle.spv.specs.Bundle.{hashes, hashesOf, among}
+
+-- a loop that has passed i of n has one fewer to pass after the next
+pub one-less : (n i : ℕ) → i < n → n - i ≡ suc (n - (i + 1))
+one-less n i low = omega (arith, add-one (n - (i + 1)))
 
 -- 32 bytes from a place, byte by byte
 module _ (l x : List ℕ) (at : ℕ) where
@@ -35,18 +39,15 @@ module _ (x l : List ℕ) where
   search-start = simp (sub-zero, mul-zero)
 
   module _ (i : ℕ) where
-    one-less : i < length l / 32 → length l / 32 - i ≡ suc (length l / 32 - (i + 1))
-    one-less h = omega (arith, add-one (length l / 32 - (i + 1)))
-
     pub search-here : i < length l / 32 → same (take 32 (drop (32 * i) l)) x ≡ true → searching x l i ≡ true
     unfolding searching among hashes
-    search-here h e = rw (one-less h) (rw e)
+    search-here h e = rw (one-less (length l / 32) i h) (rw e)
 
     pub search-on : i < length l / 32 → same (take 32 (drop (32 * i) l)) x ≡ false → searching x l i ≡ searching x l (i + 1)
     unfolding searching among hashes
     search-on h e =
         let next : 32 * (i + 1) ≡ 32 * i + 32 = omega arith in
-        rw (one-less h, next) (rw (e, drop-drop 32 (32 * i) l))
+        rw (one-less (length l / 32) i h, next) (rw (e, drop-drop 32 (32 * i) l))
 
     pub search-end : length l / 32 ≤ i → searching x l i ≡ false
     unfolding searching among hashes

@@ -1,10 +1,9 @@
 -- Laws of the bundle rule over heads.
-use Prim.Native.Nat.{ℕ, zero, suc, _+_, _-_, _<_, _≤_}
+use Prim.Native.Nat.{ℕ, _+_, _-_, _<_, _≤_}
 use mathlib.Core.Path.{_≡_, refl, sym, ap, _∙_}
 use mathlib.Core.Bool.{Bool, true, false, _&&_}
 use mathlib.Core.List.{List}
 use native.Mathlib.Omega.{arith}
-use native.Mathlib.Numerals.{add-one}
 use lib.Dec.{ltb, leb}
 use lib.ListN.{length, getD, take, drop, replicate}
 use borrow.Author.Tests.{lt-ltb, le-ltb, ltb-true, ltb-false}
@@ -13,7 +12,6 @@ use Rattle.format.specs.declared.tx.Input.{Input}
 use Rattle.format.specs.declared.refusal.Refusal.{Refusal}
 use Rattle.format.specs.declared.bump.BumpHead.{BumpHead}
 use Rattle.format.specs.declared.path.Path.{Path}
-use Rattle.format.specs.declared.beef.Anchor.{Anchor}
 use Rattle.format.specs.declared.beef.Anchor.the-variants.{Unanchored, Bump as InBump}
 use Rattle.format.specs.declared.beef.EntryHead.{EntryHead}
 use Rattle.format.specs.Parse.{got, bad, pick}
@@ -28,27 +26,25 @@ use Rattle.spv.specs.declared.prove.Judged.the-variants.{Accepted, Refus
 use Rattle.spv.specs.Compare.{denied, proved, judge, Verdict as Proving}
 use Rattle.spv.specs.Readings.{pathReading, spanHash}
 use Rattle.spv.specs.Shapes.{provedOf, acceptedOf, refusalOf}
-use Rattle.spv.specs.Bundle.{hashesOf, among, Standing, refuses, passes, trusted}
+use Rattle.spv.specs.Bundle.{hashesOf, among, refuses, passes, trusted}
+use Rattle.spv.specs.BundleHashes.{one-less}
 use Rattle.spv.specs.BundleHeads.{restsFrom, headProving, headAnchoring, headStanding, headId, headStands, standingOf}
 
 -- a search for parents that has passed i of n inputs
 module _ (s : List ℕ) (ids : List (List ℕ)) (n i at : ℕ) where
-  one-less : i < n → n - i ≡ suc (n - (i + 1))
-  one-less low = omega (arith, add-one (n - (i + 1)))
-
   pub parents-refused : {k q : ℕ} → i < n → inputField s at ≡ bad k q → restsFrom s ids (n - i) at ≡ false
   unfolding restsFrom
-  parents-refused low e = rw (one-less low) (rw e)
+  parents-refused low e = rw (one-less n i low) (rw e)
 
   pub parents-missing : {input : Input} {q : ℕ} {x : List ℕ} → i < n → inputField s at ≡ got input q → x ≡ hashAt s (input .parent) → among x ids ≡ false
       → restsFrom s ids (n - i) at ≡ false
   unfolding restsFrom
-  parents-missing low e is h = rw (one-less low) (rw (e, ← is) (rw h))
+  parents-missing low e is h = rw (one-less n i low) (rw (e, ← is) (rw h))
 
   pub parents-on : {input : Input} {q : ℕ} {x : List ℕ} → i < n → inputField s at ≡ got input q → x ≡ hashAt s (input .parent) → among x ids ≡ true
       → restsFrom s ids (n - i) at ≡ restsFrom s ids (n - (i + 1)) q
   unfolding restsFrom
-  parents-on low e is h = rw (one-less low) (rw (e, ← is) (rw h))
+  parents-on low e is h = rw (one-less n i low) (rw (e, ← is) (rw h))
 
   pub parents-end : n ≤ i → restsFrom s ids (n - i) at ≡ true
   unfolding restsFrom

@@ -1,10 +1,9 @@
 -- The bundle rule over what the code holds of a bundle that was read: heads, by places in the bytes.
-use Prim.Native.Nat.{ℕ, zero, suc, _+_, _-_, _*_, _%_, _<_, _≤_}
-use mathlib.Core.Path.{_≡_, refl, sym, ap, _∙_}
-use mathlib.Core.Bool.{Bool, true, false, _&&_}
-use mathlib.Core.List.{List, [], _∷_, _++_}
-use lib.Dec.{leb, ltb, eqb}
-use lib.ListN.{length, take, drop, getD, replicate}
+use Prim.Native.Nat.{ℕ, zero, suc, _-_, _%_}
+use mathlib.Core.Bool.{Bool, true, false}
+use mathlib.Core.List.{List}
+use lib.Dec.{ltb}
+use lib.ListN.{length, getD}
 use Rattle.format.specs.declared.tx.TxHead.{TxHead}
 use Rattle.format.specs.declared.bump.BumpHead.{BumpHead}
 use Rattle.format.specs.declared.beef.Anchor.{Anchor}

@@ -1,28 +1,30 @@
 -- What the bundle rule promises: a bundle is accepted exactly when every transaction is new in it and is mined under a listed root or has each parent
 -- earlier in the bundle; so every chain of parents inside an accepted bundle ends at transactions mined under listed roots.
-use Prim.Native.Nat.{ℕ, zero, suc, _+_, _-_, _<_, _≤_}
+use Prim.Native.Nat.{ℕ, zero, suc, _%_, _<_, _≤_}
 use mathlib.Core.Path.{_≡_, refl, sym, ap, _∙_}
 use mathlib.Core.Bool.{Bool, true, false, _&&_, _||_}
-use mathlib.Core.List.{List, [], _∷_, _++_, map}
+use mathlib.Core.List.{List, [], _∷_, map}
 use mathlib.Core.Logic.{_⊎_, inl, inr}
 use native.Mathlib.Decide.{decLt}
 use native.Mathlib.Omega.{arith}
-use lib.ListN.{length, getD, take, drop, length-take, length-map, List·getD-map}
+use lib.Dec.{leb, eqb}
+use lib.ListN.{length, getD, take, length-take, length-map}
 use lib.Seq.{getD-take}
 use Rattle.format.specs.declared.tx.Input.{Input}
 use Rattle.format.specs.declared.beef.Anchor.{Anchor}
 use Rattle.format.specs.declared.beef.Anchor.the-variants.{Unanchored, Bump as InBump}
-use Rattle.format.specs.Parse.{pick}
+use Rattle.format.specs.Parse.{Parse, got, bad, pick, whole}
+use Rattle.format.specs.Field.{bytes}
 use Rattle.format.specs.Bytes.{same, same-eq, eq-same}
 use Rattle.format.specs.Search.{hashAt}
 use Rattle.format.specs.Bump.{Bump}
-use Rattle.format.specs.Beef.{Entry, Beef}
-use Rattle.format.specs.Refusals.{UNTRUSTED, SAME-TX, NO-PARENT}
+use Rattle.format.specs.Beef.{Entry, Beef, versionField, beefField, beefWhole}
+use Rattle.format.specs.Refusals.{TOO-LONG, UNTRUSTED, SAME-TX, NO-PARENT, BAD-ROOTS, MAX-INPUT}
 use Rattle.spv.specs.declared.table.Record.{Record}
 use Rattle.spv.specs.Compare.{Proof, denied, proved, Verdict as Proving}
 use Rattle.spv.specs.Table.{blankRecord}
-use Rattle.spv.specs.Bundle.{hashesOf, among, rests, Standing, refuses, passes, trusted, proving, nthBump, entryId, anchoring, standing, entryRow, Judgement, accepted, judgeFrom, judgeEntries}
-use Rattle.spv.specs.BundleLaws.{from-same, Passed, accepted-length, accepted-passed, all-accepted}
+use Rattle.spv.specs.Bundle.{hashesOf, among, rests, refuses, passes, trusted, proving, nthBump, entryId, anchoring, standing, entryRow, refusedAs, accepted, judgeFrom, judgeEntries, judgeRead, judgeBeef}
+use Rattle.spv.specs.BundleLaws.{from-same, accepted-passed, all-accepted}
 
 -- ---- being among hashes
 
@@ -110,12 +112,12 @@ told-trusted roots m v p e h = rw e (rw h)
 
 -- ---- a bundle
 
-abbrev pub noEntry : Entry
-noEntry = record { transaction = record { start = 0; end = 0; inputsAt = 0; inputs = []; outputsAt = 0; outputs = [] }; anchor = Unanchored }
+abbrev pub emptyEntry : Entry
+emptyEntry = record { transaction = record { start = 0; end = 0; inputsAt = 0; inputs = []; outputsAt = 0; outputs = [] }; anchor = Unanchored }
 
 module _ (s roots : List ℕ) (b : Beef) where
   abbrev pub nth : ℕ → Entry
-  nth k = getD (b .entries) k noEntry
+  nth k = getD (b .entries) k emptyEntry
 
   abbrev pub idAt : ℕ → List ℕ
   idAt k = entryId s (nth k)
@@ -161,7 +163,7 @@ module _ (s roots : List ℕ) (b : Beef) where
   }
     where
       found : (m : ℕ) → m < length (inputsAt k) → (j : ℕ) × (j < k) × (idAt j ≡ hashAt s (getD (inputsAt k) m noInput .parent))
-      found m h = earlier-told (entryId s) (b .entries) noEntry k (omega arith) (hashAt s (getD (inputsAt k) m noInput .parent)) (rests-told s (ids k) (inputsAt k) e m h)
+      found m h = earlier-told (entryId s) (b .entries) emptyEntry k (omega arith) (hashAt s (getD (inputsAt k) m noInput .parent)) (rests-told s (ids k) (inputsAt k) e m h)
 
       find : (m : ℕ) → Dec (m < length (inputsAt k)) → ℕ
       find m (yes h) = found m h .0
@@ -175,27 +177,32 @@ module _ (s roots : List ℕ) (b : Beef) where
       same-id m h (yes g) = found m g .2
       same-id m h (no g) = absurd (g h)
 
-  passed-stands : (k : ℕ) → k < length (b .entries) → Passes k → Stands k
+  -- how it passed: by its BUMP and its position there, or as a child
+  abbrev As : (k a n i : ℕ) → Mined k ⊎ Child k → Type 0
+  As k a n i (inl m) = (a ≡ 1) × (n ≡ m .bump) × (i ≡ m .proof .position)
+  As k a n i (inr c) = (a ≡ 0) × (n ≡ 0) × (i ≡ 0)
+
+  passed-stands : (k a n i : ℕ) → k < length (b .entries) → standing s roots (b .bumps) (ids k) (nth k) ≡ passes a n i → New k × ((w : Mined k ⊎ Child k) × As k a n i w)
   unfolding standing anchoring
-  passed-stands k low (a, n, i, e) = go (among (idAt k) (ids k)) refl e
+  passed-stands k a n i low e = go (among (idAt k) (ids k)) refl e
     where
       new : among (idAt k) (ids k) ≡ false → New k
       new h j l m =
-          let t = told-earlier (entryId s) (b .entries) noEntry k (omega arith) (idAt k) j l m in
+          let t = told-earlier (entryId s) (b .entries) emptyEntry k (omega arith) (idAt k) j l m in
           let z : _≡_ {A = ℕ} 0 1 = cc in
           omega arith
 
-      by-anchor : (x : Anchor) → nth k .anchor ≡ x → anchoring s roots (b .bumps) (ids k) (nth k) x ≡ passes a n i → Mined k ⊎ Child k
+      child : nth k .anchor ≡ Unanchored → (t : Bool) → rests s (ids k) (inputsAt k) ≡ t → pick t (passes 0 0 0) (refuses NO-PARENT) ≡ passes a n i → (w : Mined k ⊎ Child k) × As k a n i w
+      child u true q h = (inr (parent-of k low u q), (cc, cc, cc))
+      child u false q h = absurd (let z : _≡_ {A = ℕ} 0 1 = cc in omega arith)
+
+      by-anchor : (x : Anchor) → nth k .anchor ≡ x → anchoring s roots (b .bumps) (ids k) (nth k) x ≡ passes a n i → (w : Mined k ⊎ Child k) × As k a n i w
       by-anchor (InBump m) u h =
           let w = trusted-told roots m (proving s (nthBump (b .bumps) m) (idAt k)) a n i h in
-          inl (record { bump = m; proof = w .0; anchored = u; climbs = w .1; listed = among-told (w .0 .root) (hashesOf roots) (w .2) })
-      by-anchor Unanchored u h = go′ (rests s (ids k) (inputsAt k)) refl h
-        where
-          go′ : (t : Bool) → rests s (ids k) (inputsAt k) ≡ t → pick t (passes 0 0 0) (refuses NO-PARENT) ≡ passes a n i → Mined k ⊎ Child k
-          go′ true q h = inr (parent-of k low u q)
-          go′ false q h = absurd (let z : _≡_ {A = ℕ} 0 1 = cc in omega arith)
+          (inl (record { bump = m; proof = w .0; anchored = u; climbs = w .1; listed = among-told (w .0 .root) (hashesOf roots) (w .2) }), (w .3, w .4, w .5))
+      by-anchor Unanchored u h = child u (rests s (ids k) (inputsAt k)) refl h
 
-      go : (t : Bool) → among (idAt k) (ids k) ≡ t → pick t (refuses SAME-TX) (anchoring s roots (b .bumps) (ids k) (nth k) (nth k .anchor)) ≡ passes a n i → Stands k
+      go : (t : Bool) → among (idAt k) (ids k) ≡ t → pick t (refuses SAME-TX) (anchoring s roots (b .bumps) (ids k) (nth k) (nth k .anchor)) ≡ passes a n i → New k × ((w : Mined k ⊎ Child k) × As k a n i w)
       go true h m = absurd (let z : _≡_ {A = ℕ} 0 1 = cc in omega arith)
       go false h m = (new h, by-anchor (nth k .anchor) refl m)
 
@@ -205,7 +212,7 @@ module _ (s roots : List ℕ) (b : Beef) where
     where
       by : (t : Bool) → among (idAt k) (ids k) ≡ t → Mined k ⊎ Child k → Passes k
       by true h w =
-          let t = earlier-told (entryId s) (b .entries) noEntry k (omega arith) (idAt k) h in
+          let t = earlier-told (entryId s) (b .entries) emptyEntry k (omega arith) (idAt k) h in
           absurd (new (t .0) (t .1) (t .2))
       by false h (inl m) = (
         1,
@@ -214,19 +221,33 @@ module _ (s roots : List ℕ) (b : Beef) where
         rw (h, m .anchored) (told-trusted roots (m .bump) (proving s (nthBump (b .bumps) (m .bump)) (idAt k)) (m .proof) (m .climbs) (told-among (m .proof .root) (hashesOf roots) (m .listed .0) (m .listed .1) (m .listed .2))),
       )
       by false h (inr c) =
-          let all : rests s (ids k) (inputsAt k) ≡ true = told-rests s (ids k) (inputsAt k) (λ m l. told-earlier (entryId s) (b .entries) noEntry k (omega arith) (hashAt s (getD (inputsAt k) m noInput .parent)) (c .parent m) (c .earlier m l) (c .named m l)) in
+          let all : rests s (ids k) (inputsAt k) ≡ true = told-rests s (ids k) (inputsAt k) (λ m l. told-earlier (entryId s) (b .entries) emptyEntry k (omega arith) (hashAt s (getD (inputsAt k) m noInput .parent)) (c .parent m) (c .earlier m l) (c .named m l)) in
           (0, 0, 0, rw (h, c .unanchored) (rw all))
 
-  -- accepted exactly when every transaction stands
-  pub accepted-stands : (records : List Record) → judgeEntries s roots b ≡ accepted records → (k : ℕ) → k < length (b .entries) → Stands k
+  -- what the k-th record says
+  abbrev pub Recorded : List Record → (k : ℕ) → Mined k ⊎ Child k → Type 0
+  Recorded records k (inl m) = getD records k blankRecord ≡ entryRow s (nth k) 1 (m .bump) (m .proof .position)
+  Recorded records k (inr c) = getD records k blankRecord ≡ entryRow s (nth k) 0 0 0
+
+  -- accepted exactly when every transaction stands, and its record then says how
+  pub accepted-recorded : (records : List Record) → judgeEntries s roots b ≡ accepted records → (k : ℕ) → k < length (b .entries)
+      → New k × ((w : Mined k ⊎ Child k) × Recorded records k w)
   unfolding judgeEntries
-  accepted-stands records e k low =
-      let w = accepted-passed (entryId s) (standing s roots (b .bumps)) (entryRow s) noEntry blankRecord [] (b .entries) records e k low in
-      passed-stands k low (w .flag, w .bump, w .position, w .passed)
+  accepted-recorded records e k low =
+      let w = accepted-passed (entryId s) (standing s roots (b .bumps)) (entryRow s) emptyEntry blankRecord [] (b .entries) records e k low in
+      let x = passed-stands k (w .flag) (w .bump) (w .position) low (w .passed) in
+      (x .0, (x .1 .0, said (w .flag) (w .bump) (w .position) (x .1 .0) (x .1 .1) (w .recorded)))
+    where
+      said : (a n i : ℕ) (w : Mined k ⊎ Child k) → As k a n i w → getD records k blankRecord ≡ entryRow s (nth k) a n i → Recorded records k w
+      said a n i (inl m) (x, y, z) r = rw (x, y, z) at r
+      said a n i (inr c) (x, y, z) r = rw (x, y, z) at r
+
+  pub accepted-stands : (records : List Record) → judgeEntries s roots b ≡ accepted records → (k : ℕ) → k < length (b .entries) → Stands k
+  accepted-stands records e k low = let x = accepted-recorded records e k low in (x .0, x .1 .0)
 
   pub stands-accepted : ((k : ℕ) → k < length (b .entries) → Stands k) → (records : List Record) × (judgeEntries s roots b ≡ accepted records)
   unfolding judgeEntries
-  stands-accepted f = all-accepted (entryId s) (standing s roots (b .bumps)) (entryRow s) noEntry blankRecord [] (b .entries) (λ k low. stands-passed k low (f k low))
+  stands-accepted f = all-accepted (entryId s) (standing s roots (b .bumps)) (entryRow s) emptyEntry blankRecord [] (b .entries) (λ k low. stands-passed k low (f k low))
 
   -- mined under a listed root, or every parent is supported
   pub data Supported : ℕ → Type 0 where
@@ -251,7 +272,7 @@ pub unused-bump : (s roots : List ℕ) (b c : Beef) → b .entries ≡ c .entrie
     → judgeEntries s roots b ≡ judgeEntries s roots c
 unfolding judgeEntries standing anchoring
 unused-bump s roots b c e f =
-    from-same (entryId s) (entryId s) (standing s roots (b .bumps)) (standing s roots (c .bumps)) (entryRow s) (entryRow s) noEntry [] (b .entries)
+    from-same (entryId s) (entryId s) (standing s roots (b .bumps)) (standing s roots (c .bumps)) (entryRow s) (entryRow s) emptyEntry [] (b .entries)
     (λ k low. record { ids = refl; standings = λ earlier. ap (pick (among (entryId s (nth s roots b k)) earlier) (refuses SAME-TX)) (agrees k low earlier (nth s roots b k .anchor) refl); rows = λ earlier a n i h. refl })
     ∙ ap (judgeFrom (entryId s) (standing s roots (c .bumps)) (entryRow s) []) e
   where
@@ -259,3 +280,27 @@ unused-bump s roots b c e f =
         → anchoring s roots (b .bumps) earlier (nth s roots b k) x ≡ anchoring s roots (c .bumps) earlier (nth s roots b k) x
     agrees k low earlier (InBump n) h = ap (λ (m : Bump). trusted roots n (proving s m (entryId s (nth s roots b k)))) (f k n low h)
     agrees k low earlier Unanchored h = refl
+
+-- ---- an input
+
+-- what was accepted was read, and its transactions were accepted
+pub accepted-read : (s roots : List ℕ) (room : ℕ) (records : List Record) → judgeBeef s roots room ≡ accepted records
+    → (b : Beef) × (q : ℕ) × (beefWhole room s ≡ got b q) × (judgeEntries s roots b ≡ accepted records)
+unfolding judgeBeef judgeRead
+accepted-read s roots room records e = go (leb (length s) MAX-INPUT) (eqb (length roots % 32) 0) (beefWhole room s) refl e
+  where
+    go : (t u : Bool) (p : Parse Beef) → beefWhole room s ≡ p → pick t (pick u (judgeRead s roots p) (refusedAs BAD-ROOTS 0)) (refusedAs TOO-LONG 0) ≡ accepted records
+        → (b : Beef) × (q : ℕ) × (beefWhole room s ≡ got b q) × (judgeEntries s roots b ≡ accepted records)
+    go false u p h m = absurd (let z : _≡_ {A = ℕ} 0 1 = cc in omega arith)
+    go true false p h m = absurd (let z : _≡_ {A = ℕ} 0 1 = cc in omega arith)
+    go true true (bad number place) h m = absurd (let z : _≡_ {A = ℕ} 0 1 = cc in omega arith)
+    go true true (got b q) h m = (b, q, h, m)
+
+-- 21 comes before the first field, which is 2
+roots-first : judgeBeef [] (0 ∷ []) 0 ≡ refusedAs 21 0
+unfolding judgeBeef
+roots-first = refl
+
+then-fields : judgeBeef [] [] 0 ≡ refusedAs 2 0
+unfolding judgeBeef judgeRead beefField versionField bytes whole
+then-fields = refl

@@ -1,19 +1,18 @@
 -- A loop that judges transactions from the first: what holds after i of n.
-use Prim.Native.Nat.{ℕ, zero, suc, _+_, _-_, _*_, _<_, _≤_}
+use Prim.Native.Nat.{ℕ, suc, _+_, _-_, _*_, _<_, _≤_}
 use mathlib.Core.Path.{_≡_, refl, sym, ap, _∙_}
-use mathlib.Core.Bool.{Bool, true, false}
 use mathlib.Core.List.{List, [], _∷_, _++_, map, map-append, append-nil}
 use native.Mathlib.Omega.{arith}
 use native.Mathlib.Numerals.{add-one}
-use native.Mathlib.Nat.{sub-zero}
 use lib.ListN.{length, getD, take, drop, set, replicate, length-map, length-set, length-take, length-replicate, take-append-drop, drop-of-length-le}
-use lib.Seq.{take-suc, take-suc-set, drop-cons, drop-drop, drop-set-lt, getD-take, length-take-le, take-take, paste, take-paste, length-paste, take-all}
+use lib.Seq.{take-suc, take-suc-set, drop-cons, drop-drop, drop-set-lt, getD-take, length-take-le, paste, take-paste, length-paste, take-all}
+use Rattle.format.specs.Gather.{padded}
 use Rattle.spv.specs.declared.table.Record.{Record}
 use Rattle.spv.specs.declared.bundle.Ruling.{Ruling}
 use Rattle.spv.specs.declared.bundle.Verdict.the-variants.{Accepted}
 use Rattle.spv.specs.Table.{blankRecord}
 use Rattle.spv.specs.Bundle.{hashesOf, Standing, refuses, passes, Judgement, refusedAs, accepted, ahead, judgeFrom, verdictOf, tableOf}
-use Rattle.spv.specs.BundleHashes.{hashes-more, hashes-empty}
+use Rattle.spv.specs.BundleHashes.{one-less, hashes-more, hashes-empty}
 use Rattle.spv.specs.BundleLaws.{followed, followed-ahead, followed-none, from-refuses, from-passes, from-none}
 use Rattle.spv.specs.BundleAnswer.{rulingOf}
 
@@ -86,7 +85,7 @@ module _ {A : Type 0} (id : A → List ℕ) (stands : List (List ℕ) → A → 
             drop-set-lt (i + 1) records i r (omega arith)
             ∙ sym (drop-drop 1 i records)
             ∙ ap (drop 1) (j .blank)
-            ∙ ap (λ (k : ℕ). drop 1 (replicate k blankRecord)) one-less;
+            ∙ ap (λ (k : ℕ). drop 1 (replicate k blankRecord)) (one-less 256 i (omega arith));
         kept =
             ap (λ (l : List Record). followed l (left (i + 1))) (ap (λ (k : ℕ). take k (set records i r)) (add-one i) ∙ take-suc-set records i r (omega (arith, j .size)))
             ∙ sym (followed-ahead (take i records) r (left (i + 1)))
@@ -103,9 +102,6 @@ module _ {A : Type 0} (id : A → List ℕ) (stands : List (List ℕ) → A → 
           one-more : 32 * (i + 1) ≡ 32 * i + 32
           one-more = omega arith
 
-          one-less : 256 - i ≡ suc (256 - (i + 1))
-          one-less = omega (arith, add-one (256 - (i + 1)))
-
           first : left i ≡ ahead r (left (i + 1))
           first =
               ap (judgeFrom id stands row (map id (take i entries))) next
@@ -118,7 +114,7 @@ module _ {A : Type 0} (id : A → List ℕ) (stands : List (List ℕ) → A → 
       judging-passes {x = x} wide is e more-ids its = rw (more-ids, its, is) (passes-on wide e)
 
     pub judging-done : n ≤ i → record { verdict = Accepted n; records = records } ≡ rulingOf whole
-    unfolding rulingOf verdictOf tableOf followed
+    unfolding rulingOf verdictOf tableOf followed padded
     judging-done past =
         let all : accepted (take i records) ≡ whole =
         ap accepted (sym (append-nil (take i records)))

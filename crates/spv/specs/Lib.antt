@@ -20,4 +20,5 @@ pub mod BundleLaws
 pub mod BundleTheorems
 pub mod BundleAnswer
 pub mod BundleTurns
+pub mod BundlePosition
 pub mod BundleRead

@@ -82,7 +82,7 @@ levels-below layout height (suc n) i s at {ls} e j h =
 
 -- ---- level 0
 
-bump-below : (s : List ℕ) {q : ℕ} (b : Bump) → BumpRead s q b → Below (2 ^ b .height) (getD (b .levels) 0 [])
+pub bump-below : (s : List ℕ) {q : ℕ} (b : Bump) → BumpRead s q b → Below (2 ^ b .height) (getD (b .levels) 0 [])
 unfolding written
 bump-below s b r =
     let e : b .height - written Layout.Bump (b .height) (0 + 0) ≡ b .height = omega arith in

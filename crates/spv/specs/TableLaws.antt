@@ -7,10 +7,11 @@ use native.Mathlib.Numerals.{add-one}
 use native.Mathlib.Omega.{arith}
 use mathlib.Core.Bool.{Bool, true, false}
 use lib.Dec.{ltb}
-use lib.ListN.{length, getD, replicate, length-append, length-replicate, List·getD-append, List·getD-eq-default}
+use lib.ListN.{length, getD, replicate, length-append, List·getD-append, List·getD-eq-default}
 use lib.Seq.{ext-getD, getD-at}
-use borrow.Author.Tests.{lt-ltb, le-ltb, ltb-true, ltb-false}
+use borrow.Author.Tests.{le-ltb, ltb-true, ltb-false}
 use Rattle.format.specs.Parse.{pick}
+use Rattle.format.specs.Gather.{padded, padded-length}
 use Rattle.spv.specs.declared.table.Record.{Record}
 use Rattle.spv.specs.declared.bundle.Ruling.{Ruling}
 use Rattle.spv.specs.Table.{blankRecord, noRecord, recordOf, heldRows, rows}
@@ -47,30 +48,24 @@ getD-padded [] n i d = getD-replicate-same n i d
 getD-padded (x ∷ l) n zero d = refl
 getD-padded (x ∷ l) n (suc i) d = getD-padded l n i d
 
--- a list with blank records after it, up to n in all
-abbrev pub padded : List Record → ℕ → List Record
-padded l n = l ++ replicate (n - length l) blankRecord
-
-pub padded-length : (l : List Record) (n : ℕ) → length l ≤ n → length (padded l n) ≡ n
-padded-length l n h = omega (arith, length-append l (replicate (n - length l) blankRecord), length-replicate (n - length l) blankRecord)
-
 -- the records that the code holds, row by row, are the table
-module _ (j : Ruling) (l : List Record) (few : length l ≤ 256) (held : j .records ≡ padded l 256) where
+module _ (j : Ruling) (l : List Record) (few : length l ≤ 256) (held : j .records ≡ padded 256 blankRecord l) where
   row-is : (i : ℕ) → recordOf j i ≡ getD l i blankRecord
-  unfolding recordOf
+  unfolding recordOf padded
   row-is i = go (ltb i 256) refl
     where
       go : (b : Bool) → ltb i 256 ≡ b → recordOf j i ≡ getD l i blankRecord
       go true e =
-          let below : i < length (padded l 256) = rw padded-length (ltb-true i 256 e) in
-          rw (e, held) (getD-any (padded l 256) i noRecord blankRecord below ∙ getD-padded l (256 - length l) i blankRecord)
+          let below : i < length (padded 256 blankRecord l) = rw (padded-length 256 blankRecord l few) (ltb-true i 256 e) in
+          rw (e, held) (getD-any (padded 256 blankRecord l) i noRecord blankRecord below ∙ getD-padded l (256 - length l) i blankRecord)
       go false e =
           let past : length l ≤ i = omega (arith, ltb-false i 256 e) in
           rw e (sym (List·getD-eq-default l blankRecord past))
 
-  pub rows-padded : (n : ℕ) → length l ≤ n → rows (recordOf j) n ≡ padded l n
+  pub rows-padded : (n : ℕ) → length l ≤ n → rows (recordOf j) n ≡ padded n blankRecord l
+  unfolding padded
   rows-padded n h =
-      ext-getD blankRecord (rows (recordOf j) n) (padded l n) (rows-length (recordOf j) n ∙ sym (padded-length l n h))
+      ext-getD blankRecord (rows (recordOf j) n) (padded n blankRecord l) (rows-length (recordOf j) n ∙ sym (padded-length n blankRecord l h))
       (λ i b. rows-at (recordOf j) n i blankRecord (rw (rows-length (recordOf j) n) at b) ∙ row-is i ∙ sym (getD-padded l (n - length l) i blankRecord))
 
 pub held-le : (n : ℕ) → heldRows n ≤ n
