@@ -132,7 +132,8 @@ uint32_t barrowtide_compare(uint32_t first_form, const uint8_t *first, size_t fi
 
 /* ---- Judging ---- */
 
-/* What an accepted bundle says of one transaction. */
+/* What an accepted bundle says of one transaction. Only the fields are written, not the bytes between
+   them. */
 typedef struct {
     uint64_t start;    /* the place of its first byte in the bundle */
     uint64_t length;   /* how many bytes it takes */
