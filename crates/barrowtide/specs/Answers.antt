@@ -1,9 +1,13 @@
--- The answers of proving, of the all-clients check and of comparing as readings: 01's number and what it carries, or the values of an acceptance.
+-- The answers of hashing, proving, the all-clients check, comparing and judging as readings: 01's number and what it carries, or the
+-- values of an acceptance.
 use mathlib.Core.Path.{_≡_, ap}
 use mathlib.Core.List.{List}
 use Prim.Native.Nat.{ℕ}
 use Rattle.format.specs.declared.refusal.Refusal.{Refusal}
-use Rattle.format.specs.Parse.{Parse, got, bad}
+use lib.Dec.{eqb}
+use borrow.Author.Tests.{eq-eqb, ne-eqb}
+use Rattle.hash.specs.declared.Hashed.{Hashed}
+use Rattle.format.specs.Parse.{Parse, got, bad, pick}
 use Rattle.spv.specs.declared.prove.Judged.{Judged}
 use Rattle.spv.specs.declared.prove.Judged.the-variants.{Accepted, Refused}
 use Rattle.spv.specs.declared.prove.Proved.{Proved}
@@ -11,6 +15,11 @@ use Rattle.spv.specs.declared.clients.Agreement.{Agreement}
 use Rattle.spv.specs.declared.clients.Checked.{Checked}
 use Rattle.spv.specs.declared.comparing.Comparison.{Comparison}
 use Rattle.spv.specs.declared.comparing.Compared.{Compared}
+use Rattle.spv.specs.declared.bundle.Verdict.{Verdict}
+
+-- The digest, where the number is 0.
+unfoldable pub ofHashed : Hashed → Parse (List ℕ)
+ofHashed h = pick (eqb (h .number) 0) (got (h .digest) 0) (bad (h .number) (h .place))
 
 -- What a proof proves.
 pub record Accepting : Type 0 where
@@ -45,6 +54,20 @@ ofComparison t u (Comparison.Refused f) = bad (f .number) (f .place)
 
 unfoldable pub ofCompared : Compared → Parse Strings
 ofCompared c = ofComparison (c .first) (c .second) (c .comparison)
+
+-- The number of transactions.
+unfoldable pub ofVerdict : Verdict → Parse ℕ
+ofVerdict (Verdict.Accepted n) = got n 0
+ofVerdict (Verdict.Refused f) = bad (f .number) (f .place)
+
+module _ (h : Hashed) where
+  pub hashed-given : h .number ≡ 0 → ofHashed h ≡ got (h .digest) 0
+  unfolding ofHashed
+  hashed-given e = rw (eq-eqb (h .number) 0 e)
+
+  pub hashed-denied : (h .number ≡ 0 → ⊥) → ofHashed h ≡ bad (h .number) (h .place)
+  unfolding ofHashed
+  hashed-denied e = rw (ne-eqb (h .number) 0 e)
 
 module _ (p : Proved) where
   pub proved-accepted : (i h : ℕ) → p .judged ≡ Accepted i h → ofProved p ≡ got (record { id = p .id; position = i; layers = h; root = p .root }) 0

@@ -1,40 +1,14 @@
--- What a call leaves in memory that C lends, by the number that it returns: 0 on acceptance, else that of the refusal. Assumes nothing.
-use mathlib.Core.Bool.{Bool, cond}
+-- What a call returns and leaves in memory that C lends, by what it comes to: a reading, or an answer put as one (`Answers`).
 use mathlib.Core.Path.{_≡_}
 use Prim.Native.Nat.{ℕ, _≤_, _<_}
 use mathlib.Core.List.{List}
-use lib.Dec.{eqb, leb}
+use lib.Dec.{leb}
 use lib.ListN.{length}
-use borrow.Author.Tests.{eq-eqb, ne-eqb, le-leb, lt-leb}
+use borrow.Author.Tests.{le-leb, lt-leb}
 use Rattle.format.specs.Parse.{Parse, got, bad, pick, each}
 use Rattle.format.specs.Field.{varint}
 use Rattle.format.specs.Refusals.{TOO-LONG, MAX-INPUT}
-use Rattle.format.specs.ParseLaws.{each-got, each-bad}
-
--- Memory for what an acceptance gives: a refusal leaves it as it was.
-unfoldable pub given : {A : Type 0} → ℕ → A → A → A
-given number new old = cond (eqb number 0) new old
-
--- Memory for what a refusal carries: an acceptance leaves it as it was.
-unfoldable pub carried : {A : Type 0} → ℕ → A → A → A
-carried number new old = cond (eqb number 0) old new
-
-module _ {A : Type 0} (number : ℕ) (new old : A) where
-  pub given-accepted : number ≡ 0 → given number new old ≡ new
-  unfolding given
-  given-accepted h = rw (eq-eqb number 0 h)
-
-  pub given-refused : (number ≡ 0 → ⊥) → given number new old ≡ old
-  unfolding given
-  given-refused h = rw (ne-eqb number 0 h)
-
-  pub carried-accepted : number ≡ 0 → carried number new old ≡ old
-  unfolding carried
-  carried-accepted h = rw (eq-eqb number 0 h)
-
-  pub carried-refused : (number ≡ 0 → ⊥) → carried number new old ≡ new
-  unfolding carried
-  carried-refused h = rw (ne-eqb number 0 h)
+use Rattle.format.specs.ParseLaws.{each-got}
 
 -- A VarInt at the start of an input of at most the input size.
 unfoldable pub firstVarint : List ℕ → Parse ℕ
@@ -48,8 +22,8 @@ pub first-too-long : (s : List ℕ) → MAX-INPUT < length s → firstVarint s �
 unfolding firstVarint
 first-too-long s h = rw (lt-leb (length s) MAX-INPUT h)
 
--- The same of a reading: the number that is returned, and what becomes of memory for what a refusal carries, for a value of
--- what was read, and for the place after it.
+-- The number that is returned, 0 on acceptance, and what becomes of memory for what a refusal carries, for a value that an
+-- acceptance gives, and for the place after it.
 unfoldable pub refusal : {A : Type 0} → Parse A → ℕ
 refusal (got a at) = 0
 refusal (bad n at) = n

@@ -1,4 +1,3 @@
 pub mod Interface
 pub mod Forms
 pub mod Answers
-pub mod Judging

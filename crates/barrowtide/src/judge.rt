@@ -3,12 +3,13 @@ use spv::Record;
 use spv::Verdict;
 ghost use mathlib.Core.Path.{_≡_};
 ghost use lib.ListN.{length};
-ghost use Rattle.spv.specs.Bundle.{judgeBeef, tableOf};
-ghost use Rattle.barrowtide.specs.Judging.{numberOf, carriedOf, countOf, numberIn, carriedIn, countIn};
+ghost use Rattle.spv.specs.Bundle.{judgeBeef, verdictOf, tableOf};
+ghost use Rattle.barrowtide.specs.Interface as I;
+ghost use Rattle.barrowtide.specs.Answers.{ofVerdict};
 
 // The number of a verdict; what a refusal carries, or how many transactions were accepted, is written.
 fn tell(verdict: Verdict, carried: &mut u64, transactions: &mut u64) -> u32
-    ensures { λ r. ⌜ (r ≡ numberIn verdict) × (now (carried .exit) ≡ carriedIn verdict (now (carried .entry))) × (now (transactions .exit) ≡ countIn verdict (now (transactions .entry))) ⌝ }
+    ensures { λ r. ⌜ (r ≡ I.refusal (ofVerdict verdict)) × (now (carried .exit) ≡ I.place (ofVerdict verdict) (now (carried .entry))) × (now (transactions .exit) ≡ I.taken (λ n. n) (ofVerdict verdict) (now (transactions .entry))) ⌝ }
 {
     match verdict {
         Verdict::Accepted(count) => {
@@ -32,7 +33,7 @@ pub extern "C" fn barrowtide_judge_beef(
     carried: &mut u64,
     transactions: &mut u64,
 ) -> u32
-    ensures { λ r. ⌜ (r ≡ numberOf (judgeBeef (now (message .entry)) (now (roots .entry)) (length (now (table .entry))))) × (now (table .exit) ≡ tableOf (judgeBeef (now (message .entry)) (now (roots .entry)) (length (now (table .entry)))) (length (now (table .entry)))) × (now (carried .exit) ≡ carriedOf (judgeBeef (now (message .entry)) (now (roots .entry)) (length (now (table .entry)))) (now (carried .entry))) × (now (transactions .exit) ≡ countOf (judgeBeef (now (message .entry)) (now (roots .entry)) (length (now (table .entry)))) (now (transactions .entry))) ⌝ }
+    ensures { λ r. ⌜ (r ≡ I.refusal (ofVerdict (verdictOf (judgeBeef (now (message .entry)) (now (roots .entry)) (length (now (table .entry))))))) × (now (table .exit) ≡ tableOf (judgeBeef (now (message .entry)) (now (roots .entry)) (length (now (table .entry)))) (length (now (table .entry)))) × (now (carried .exit) ≡ I.place (ofVerdict (verdictOf (judgeBeef (now (message .entry)) (now (roots .entry)) (length (now (table .entry)))))) (now (carried .entry))) × (now (transactions .exit) ≡ I.taken (λ n. n) (ofVerdict (verdictOf (judgeBeef (now (message .entry)) (now (roots .entry)) (length (now (table .entry)))))) (now (transactions .entry))) ⌝ }
 {
     let verdict = spv::judge_beef(message, roots, table);
     tell(verdict, carried, transactions)

@@ -7,6 +7,7 @@ ghost use mathlib.Core.Path.{_≡_};
 ghost use mathlib.Core.List.{_++_};
 ghost use Rattle.hash.specs.Sha256 as S;
 ghost use Rattle.barrowtide.specs.Interface as I;
+ghost use Rattle.barrowtide.specs.Answers.{ofHashed};
 
 // uint32_t barrowtide_sha256d(const uint8_t *message, size_t length, uint64_t *carried, uint8_t digest[32]);
 #[no_mangle]
@@ -15,9 +16,9 @@ pub extern "C" fn barrowtide_sha256d(
     carried: &mut u64,
     digest: &mut [u8; 32],
 ) -> u32
-    ensures { λ r. ⌜ r ≡ S.hashed (now (message .entry)) .number ⌝ }
-    ensures { λ _. ⌜ now (carried .exit) ≡ I.carried (S.hashed (now (message .entry)) .number) (S.hashed (now (message .entry)) .place) (now (carried .entry)) ⌝ }
-    ensures { λ _. ⌜ now (digest .exit) ≡ I.given (S.hashed (now (message .entry)) .number) (S.hashed (now (message .entry)) .digest) (now (digest .entry)) ⌝ }
+    ensures { λ r. ⌜ r ≡ I.refusal (ofHashed (S.hashed (now (message .entry)))) ⌝ }
+    ensures { λ _. ⌜ now (carried .exit) ≡ I.place (ofHashed (S.hashed (now (message .entry)))) (now (carried .entry)) ⌝ }
+    ensures { λ _. ⌜ now (digest .exit) ≡ I.taken (λ d. d) (ofHashed (S.hashed (now (message .entry)))) (now (digest .entry)) ⌝ }
 {
     let hashed = hash::sha256d(message);
     let number = hashed.number as u32;

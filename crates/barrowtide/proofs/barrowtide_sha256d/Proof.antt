@@ -1,6 +1,7 @@
 use borrow.Author.Needs.{needs}
-use mathlib.Core.Path.{refl, sym}
-use Rattle.barrowtide.specs.Interface.{given-accepted, given-refused, carried-accepted, carried-refused}
+use mathlib.Core.Path.{_∙_}
+use Rattle.barrowtide.specs.Interface.{refused-number, refused-place, refused-taken, read-number, read-place, read-taken}
+use Rattle.barrowtide.specs.Answers.{hashed-given, hashed-denied}
 use Rattle.barrowtide.proofs.barrowtide_sha256d.Statement.{statement}
 use Rattle.barrowtide.proofs.barrowtide_sha256d.Tie as tie
 
@@ -12,17 +13,15 @@ cast-number c = search needs
 
 returns : tie.Need-returns
 returns c =
-    let r = c .before .before .before .sha256d .result in
-    let b = c .before .before .before .before .before .args in
+    let e = hashed-given (c .before .before .before .sha256d .result) (c .before .if1 .taken) in
     rw (← c .before .before .before .sha256d .ensures)
-    (refl, (sym (carried-accepted (r .number) (r .place) (b .carried .now) (c .before .if1 .taken)), sym (given-accepted (r .number) (r .digest) (b .digest .now) (c .before .if1 .taken))))
+    (c .before .if1 .taken ∙ read-number _ e, (read-place _ _ e, read-taken _ _ _ e))
 
 returns-2 : tie.Need-returns-2
 returns-2 c =
-    let r = c .before .before .sha256d .result in
-    let b = c .before .before .before .before .args in
+    let e = hashed-denied (c .before .before .sha256d .result) (c .if1 .left) in
     rw (← c .before .before .sha256d .ensures)
-    (refl, (sym (carried-refused (r .number) (r .place) (b .carried .now) (c .if1 .left)), sym (given-refused (r .number) (r .digest) (b .digest .now) (c .if1 .left))))
+    (refused-number _ e, (refused-place _ _ e, refused-taken _ _ _ e))
 
 pub barrowtide-sha256d-spec : {M : Type 1} → statement M
 barrowtide-sha256d-spec = tie.close (tie.spec sha256d-requires cast-number returns returns-2)

@@ -41,7 +41,8 @@ use denote.Exit.{yes}
 use Rattle.spv.specs.declared.table.Record.{Record}
 use Rattle.spv.specs.declared.bundle.Verdict.{Verdict}
 use Rattle.spv.specs.Bundle.{Judgement, judgeBeef, verdictOf, tableOf}
-use Rattle.barrowtide.specs.Judging.{numberIn, carriedIn, countIn, number-is, carried-is, count-is}
+use Rattle.barrowtide.specs.Interface.{refusal, place, taken}
+use Rattle.barrowtide.specs.Answers.{ofVerdict}
 use Rattle.spv.proofs.table.Record as T
 use Rattle.spv.proofs.bundle.Verdict as E
 use Rattle.spv.proofs.bundle.Verdict.Laws as E′
@@ -169,14 +170,14 @@ module _ {M : Type 1} (𝓤 : URA M) (H : Heap 𝓤) (A : Atoms 𝓤) (W : Given
   Judged v zs = (v ≡ verdictOf wanted) × (zs ≡ tableOf wanted len)
 
   abbrev Told : Verdict → ℕ → ℕ → ℕ → Type 0
-  Told v n c m = (n ≡ numberIn v) × (c ≡ carriedIn v (carried .now)) × (m ≡ countIn v (count .now))
+  Told v n c m = (n ≡ refusal (ofVerdict v)) × (c ≡ place (ofVerdict v) (carried .now)) × (m ≡ taken (λ x. x) (ofVerdict v) (count .now))
 
   exits : (v : Verdict) (zs : List Record) (n c m : ℕ) (u : Val) → length zs ≡ len → Judged v zs → Told v n c m
       → ent 𝓤 (⋆ 𝓤 H A (‵ (u32 .own n (u ∷ [])) ∷ (‵ (flft κ₃ q₃) ⊛ ‵ (flft κ₄ q₄) ⊛ ‵ ftrue) ∷ ‵ (fres (count .name) (u64 .coded .code m)) ∷ ‵ (fres (carried .name) (u64 .coded .code c)) ∷ (‵ (flft κ₀ q₀) ⊛ ‵ (flft κ₁ q₁) ⊛ ‵ (flft κ₂ q₂) ⊛ ‵ ftrue) ∷ ‵ (finally R γ zs) ∷ ‵ N ∷ ‵ I ∷ [])) (Post u)
   exits v zs n c m u l d e =
       qed W (‵ (u32 .own n (u ∷ [])) ∷ (‵ (flft κ₃ q₃) ⊛ ‵ (flft κ₄ q₄) ⊛ ‵ ftrue) ∷ ‵ (fres (count .name) (u64 .coded .code m)) ∷ ‵ (fres (carried .name) (u64 .coded .code c)) ∷ (‵ (flft κ₀ q₀) ⊛ ‵ (flft κ₁ q₁) ⊛ ‵ (flft κ₂ q₂) ⊛ ‵ ftrue) ∷ ‵ (finally R γ zs) ∷ ‵ N ∷ ‵ I ∷ []) ∵
       suffices ! _ (ends-at 𝓤 H A f.ended stayed (f.clauses 𝓤 H A mem run) W (((κ₀, (κ₁, (κ₂, (κ₃, (κ₄, tt))))), (q₀, (q₁, (q₂, (q₃, (q₄, tt))))), tt, a, vals), tt) u n (tt, (tt, (zs, (c, (m, tt))))) (tt, (tt, (l, (tt, (tt, tt)))))) $
-      says ! (e .0 ∙ ap numberIn (d .0) ∙ number-is wanted, d .1, e .1 ∙ ap (λ (y : Verdict). carriedIn y (carried .now)) (d .0) ∙ carried-is wanted (carried .now), e .2 ∙ ap (λ (y : Verdict). countIn y (count .now)) (d .0) ∙ count-is wanted (count .now)) $
+      says ! (e .0 ∙ ap (λ (y : Verdict). refusal (ofVerdict y)) (d .0), d .1, e .1 ∙ ap (λ (y : Verdict). place (ofVerdict y) (carried .now)) (d .0), e .2 ∙ ap (λ (y : Verdict). taken (λ x. x) (ofVerdict y) (count .now)) (d .0)) $
       -- the tokens
       move ! (4 ∷ []) $ split ! $ move ! (1 ∷ []) $ split ! $ move ! (1 ∷ []) $ split ! $ move ! (1 ∷ []) $ drop ! $ move ! (0 ∷ 4 ∷ []) $ join ! $ move ! (1 ∷ 0 ∷ []) $ join ! $ move ! (1 ∷ 0 ∷ []) $ join ! $ frame ! $
       -- [the result; count; carried; the last list; roots; input]
