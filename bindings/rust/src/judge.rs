@@ -8,6 +8,9 @@ use crate::Hash;
 pub const MAX_TRANSACTIONS: usize = 256;
 
 /// What an accepted bundle says of one of its transactions.
+///
+/// The layout is C's and has no padding: any 64 bytes are a record, and a zeroed one is zero byte for
+/// byte.
 #[derive(Debug, Clone, Copy, Default, PartialEq, Eq)]
 #[repr(C)]
 pub struct Record {
@@ -17,12 +20,19 @@ pub struct Record {
     pub length: u64,
     /// Its id.
     pub id: Hash,
-    /// Whether a BUMP of the bundle anchors it in a trusted root.
-    pub anchored: bool,
-    /// The number of that BUMP, counted from 0; 0 if it is not anchored.
+    /// The number of the BUMP that anchors it, counted from 0; 0 if it is not anchored.
     pub bump: u64,
+    /// 1 if a BUMP of the bundle anchors it in a trusted root, else 0.
+    pub anchored: u32,
     /// Its position in the block; 0 if it is not anchored.
     pub position: u32,
+}
+
+impl Record {
+    /// Whether a BUMP of the bundle anchors it in a trusted root.
+    pub fn is_anchored(&self) -> bool {
+        self.anchored != 0
+    }
 }
 
 /// Judges a bundle against a list of trusted roots, and fills a lent table.
@@ -63,8 +73,8 @@ pub struct Verdict {
 ///
 /// let verdict = judge(&bundle, &[root]).expect("a sound bundle");
 /// assert_eq!(verdict.records.len(), 2);
-/// assert_eq!((verdict.records[0].anchored, verdict.records[0].position), (true, 21));
-/// assert!(!verdict.records[1].anchored);
+/// assert_eq!((verdict.records[0].is_anchored(), verdict.records[0].position), (true, 21));
+/// assert!(!verdict.records[1].is_anchored());
 /// # Ok::<(), std::io::Error>(())
 /// ```
 pub fn judge(data: &[u8], roots: &[Hash]) -> Result<Verdict, Refusal> {

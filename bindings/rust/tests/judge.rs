@@ -16,9 +16,23 @@ use reference::refusal::Refusal;
 use reference::sha256::{join, sha256d};
 use reference::Hash;
 
-/// What every record of a lent table holds before the call.
-const FILLED: Record =
-    Record { start: FILL, length: FILL, id: [0xa5; 32], anchored: true, bump: FILL, position: 7 };
+/// What every byte of a lent table holds before the call.
+const PRESET: u8 = 0xa5;
+
+const FILLED: Record = Record {
+    start: FILL,
+    length: FILL,
+    id: [PRESET; 32],
+    bump: FILL,
+    anchored: 0xa5a5_a5a5,
+    position: 0xa5a5_a5a5,
+};
+
+/// The bytes of a table, as a C caller sees them.
+fn bytes(table: &[Record]) -> &[u8] {
+    // SAFETY: a record has no padding, so every byte of the table is initialised.
+    unsafe { std::slice::from_raw_parts(table.as_ptr().cast(), size_of_val(table)) }
+}
 
 /// Compares the verdict, the count and every record of a table of `room` records.
 fn check(data: &[u8], roots: &[u8], room: usize) -> Result<Vec<Record>, Refusal> {
@@ -31,6 +45,7 @@ fn check(data: &[u8], roots: &[u8], room: usize) -> Result<Vec<Record>, Refusal>
     let number = ffi::judge_beef(data, roots, &mut table, &mut carried, &mut transactions);
     assert_eq!((number, carried, transactions), expected(told, FILL), "{}", describe());
     assert_eq!(table, left, "{}", describe());
+    assert_eq!(bytes(&table), bytes(&left), "{}", describe());
 
     table.fill(FILLED);
     let safe = barrowtide::judge_beef(data, roots, &mut table).map_err(plain);
@@ -41,7 +56,7 @@ fn check(data: &[u8], roots: &[u8], room: usize) -> Result<Vec<Record>, Refusal>
 
 fn record(told: judge::Record) -> Record {
     let judge::Record { start, length, id, anchored, bump, position } = told;
-    Record { start, length, id, anchored, bump, position }
+    Record { start, length, id, bump, anchored: anchored.into(), position }
 }
 
 /// Judges a plan with room enough.
@@ -59,7 +74,7 @@ fn published_bundle() {
     let root = reference::prove::all_clients(&bundle[5..290]).unwrap();
     let records = check(&bundle, &root, 2).unwrap();
     let summary = |record: &Record| {
-        (record.start, record.length, record.anchored, record.bump, record.position)
+        (record.start, record.length, record.is_anchored(), record.bump, record.position)
     };
     assert_eq!(summary(&records[0]), (291, 192, true, 0, 21));
     assert_eq!(summary(&records[1]), (485, 191, false, 0, 0));
@@ -124,7 +139,7 @@ fn sound_bundles() {
         let records = check_plan(&plan).expect("a sound bundle");
         for (record, (transaction, anchor)) in records.iter().zip(&plan.entries) {
             assert_eq!(record.id, transaction.id());
-            assert_eq!(record.anchored.then_some(record.bump), *anchor);
+            assert_eq!(record.is_anchored().then_some(record.bump), *anchor);
         }
         let verdict = barrowtide::judge(&plan.draft().bytes, &plan.roots).unwrap();
         assert_eq!(verdict.records, records);
@@ -257,4 +272,22 @@ fn sizes() {
     longer.pop();
     assert_eq!(check(&longer, &[0], 3), refused(21, 0));
     assert_eq!(check(&longer, &[], 3), refused(12, 5));
+}
+
+/// A table longer than any bundle: a refusal zeroes every byte, an acceptance every byte past the
+/// records.
+#[test]
+fn longer_table() {
+    let room = MAX_TRANSACTIONS + 1;
+    assert_eq!(check(&[], &[0], room), refused(21, 0));
+    let bundle = decode(include_str!("data/004-bundle.hex"));
+    let root = reference::prove::all_clients(&bundle[5..290]).unwrap();
+    assert_eq!(check(&bundle, &root, room).map(|records| records.len()), Ok(2));
+
+    let mut table = vec![FILLED; room];
+    assert!(barrowtide::judge_beef(&[], &[0], &mut table).is_err());
+    assert!(bytes(&table).iter().all(|&byte| byte == 0));
+    table.fill(FILLED);
+    assert_eq!(barrowtide::judge_beef(&bundle, &root, &mut table), Ok(2));
+    assert!(bytes(&table[2..]).iter().all(|&byte| byte == 0));
 }

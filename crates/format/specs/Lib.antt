@@ -30,6 +30,8 @@ pub mod TscAnswer
 pub mod TscLaws
 pub mod TscPath
 pub mod TscPathLaws
+pub mod Id
+pub mod IdLaws
 pub mod Beef
 pub mod BeefAnswer
 pub mod BeefLaws

@@ -33,9 +33,9 @@ leafAtPlace s Form.Bump at j = leafOfLevel Layout.Bump s at j
 leafAtPlace s Form.Cmp at j = leafOfLevel Layout.Cmp s at j
 leafAtPlace s Form.Tsc at j = nodeAt s at
 
--- what a path has at a layer and position
+-- what a path has at a layer and position: nothing past its layers
 unfoldable pub leafIn : List ℕ → Path → ℕ → ℕ → Found
-leafIn s path k j = pick (ltb k LAYERS) (leafAtPlace s (path .form) (getD (path .at) k 0) j) Missing
+leafIn s path k j = pick (ltb k (path .layers)) (pick (ltb k LAYERS) (leafAtPlace s (path .form) (getD (path .at) k 0) j) Missing) Missing
 
 unfoldable pub startAtPlace : List ℕ → Form → ℕ → List ℕ → Start
 startAtPlace s Form.Bump at id = startOfLevel Layout.Bump s at id

@@ -9,9 +9,11 @@ use lib.Dec.{ltb}
 use native.Mathlib.Omega.{arith}
 use native.Mathlib.Numerals.{add-one}
 use native.Mathlib.Nat.{add-zero, zero-add}
-use borrow.Author.Tests.{lt-ltb, ltb-true, ltb-false}
+use borrow.Author.Tests.{lt-ltb, le-ltb, ltb-true, ltb-false}
 use Rattle.format.specs.declared.level.Layout.{Layout}
 use Rattle.format.specs.declared.level.Leaf.{Leaf}
+use Rattle.format.specs.declared.path.Path.{Path}
+use Rattle.format.specs.declared.path.Found.the-variants.{Missing}
 use Rattle.format.specs.Parse.{Parse, many, otherwise, got, bad}
 use Rattle.format.specs.ParseLaws.{many-told, many-length}
 use Rattle.format.specs.Level.{written, levelInTurn, nextTurn, levelFields}
@@ -21,7 +23,7 @@ use Rattle.format.specs.Cmp.{Cmp}
 use Rattle.format.specs.BumpLaws.{BumpRead, CmpRead}
 use Rattle.format.specs.Search.{lookup, leastOffset, looseLevel}
 use Rattle.format.specs.SearchLaws.{level-loose, leaf-of-level, start-of-level}
-use Rattle.format.specs.Path.{LAYERS, leafAtPlace, leafIn, startAtPlace, startIn, placing, places, bumpPathOf, cmpPathOf, bumpPath, cmpPath}
+use Rattle.format.specs.Path.{LAYERS, layersOf, leafAtPlace, leafIn, startAtPlace, startIn, placing, places, bumpPathOf, cmpPathOf, bumpPath, cmpPath}
 
 module _ (layout : Layout) (height : ℕ) (s : List ℕ) where
   pub placing-end : (r i at : ℕ) (known : List ℕ) → r ≡ 0 → placing layout height r i s at known ≡ known
@@ -101,6 +103,11 @@ getD-reverse {A = A} (x ∷ l) k d h = ap (λ (m : List A). getD m k d) (reverse
         let n : suc (length l) - (k + 1) ≡ 0 = omega arith in
         getD-at (reverse l) x [] d k (length-reverse l ∙ last) ∙ ap (λ (m : ℕ). getD (x ∷ l) m d) (sym n)
 
+-- past its layers a path has nothing
+pub past-layers : (s : List ℕ) (path : Path) (k j : ℕ) → path .layers ≤ k → leafIn s path k j ≡ Missing
+unfolding leafIn
+past-layers s path k j h = rw (le-ltb k (path .layers) h)
+
 -- the searches in a BUMP's path find what was read
 module _ (s : List ℕ) {q : ℕ} (b : Bump) (r : BumpRead s q b) where
   bump-level : (k : ℕ) → k < b .height → (t : ℕ) × (looseLevel Layout.Bump s (getD (bumpPath s b .at) k 0) ≡ got (getD (b .levels) k []) t)
@@ -113,7 +120,8 @@ module _ (s : List ℕ) {q : ℕ} (b : Bump) (r : BumpRead s q b) where
   unfolding leafIn leafAtPlace bumpPathOf
   bump-leaf-in k j h =
       let small : k < LAYERS = let low = r .low in omega arith in
-      rw (lt-ltb k LAYERS small) (leaf-of-level Layout.Bump s _ (bump-level k h .1) j)
+      let inside : k < layersOf (b .height) = omega arith in
+      rw (lt-ltb k (layersOf (b .height)) inside, lt-ltb k LAYERS small) (leaf-of-level Layout.Bump s _ (bump-level k h .1) j)
 
   pub bump-start-in : (id : List ℕ) → startIn s (bumpPath s b) id ≡ leastOffset s id (getD (b .levels) 0 [])
   unfolding startIn startAtPlace bumpPathOf
@@ -136,7 +144,8 @@ module _ (s : List ℕ) {q : ℕ} (p : Cmp) (r : CmpRead s q p) where
   unfolding leafIn leafAtPlace cmpPathOf
   cmp-leaf-in k j h =
       let small : k < LAYERS = let low = r .low in omega arith in
-      rw (lt-ltb k LAYERS small) (leaf-of-level Layout.Cmp s _ (cmp-level k h .1) j)
+      let inside : k < layersOf (p .height) = omega arith in
+      rw (lt-ltb k (layersOf (p .height)) inside, lt-ltb k LAYERS small) (leaf-of-level Layout.Cmp s _ (cmp-level k h .1) j)
 
   pub cmp-start-in : (id : List ℕ) → startIn s (cmpPath s p) id ≡ leastOffset s id (getD (p .levels) 0 [])
   unfolding startIn startAtPlace cmpPathOf

@@ -1,5 +1,6 @@
 -- Refusals by their numbers, as 01's table "Numbers of refusal" has them, and the sizes of 01.
 use Prim.Native.Nat.{ℕ}
+use Rattle.hash.specs.Sha256 as S
 
 -- input over its size
 abbrev pub TOO-LONG : ℕ
@@ -99,9 +100,9 @@ SAME-ID = 24
 
 -- 01, "Sizes"
 
--- bytes of an input
+-- bytes of an input, as for the hash
 abbrev pub MAX-INPUT : ℕ
-MAX-INPUT = 16777216
+MAX-INPUT = S.MAX-INPUT
 
 -- layers of a BUMP or CMP, nodes of a TSC proof
 abbrev pub MAX-HEIGHT : ℕ

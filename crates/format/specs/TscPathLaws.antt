@@ -75,4 +75,5 @@ tsc-leaf-in s t {q} r k j h =
     found : Placed (length (t .nodes)) s (t .nodesAt) q (t .nodes) → layersOf (length (t .nodes)) ≡ length (t .nodes) → k < 64 → leafIn s (tscPath s t) k j ≡ Here (getD (t .nodes) k Kind.Copy)
     found p all low =
         let there : k < length (p .places) = let e = p .all in omega arith in
-        rw (lt-ltb k 64 low, all, p .read, padded-here 64 0 (p .places) k there) (p .node k h)
+        let inside : k < layersOf (length (t .nodes)) = omega arith in
+        rw (lt-ltb k (layersOf (length (t .nodes))) inside, lt-ltb k 64 low, all, p .read, padded-here 64 0 (p .places) k there) (p .node k h)

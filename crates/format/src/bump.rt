@@ -1,6 +1,5 @@
 // BUMP (document 003).
 use super::field::Cursor;
-use super::field::MAX_INPUT;
 use super::field::Number;
 use super::field::one_byte;
 use super::field::read_varint;
@@ -11,6 +10,7 @@ use super::refusal::EXTRA;
 use super::refusal::OVER_LIMIT;
 use super::refusal::Refusal;
 use super::refusal::TOO_LONG;
+use hash::MAX_INPUT;
 ghost use mathlib.Core.Path.{_≡_};
 ghost use Rattle.format.specs.Parse.{each};
 ghost use Rattle.format.specs.FieldAnswer.{numberOf};

@@ -1,6 +1,5 @@
 // CMP, the compound path (document 001).
 use super::field::Cursor;
-use super::field::MAX_INPUT;
 use super::field::Number;
 use super::field::one_byte;
 use super::level::Layout;
@@ -9,6 +8,7 @@ use super::refusal::BAD_HEIGHT;
 use super::refusal::EXTRA;
 use super::refusal::Refusal;
 use super::refusal::TOO_LONG;
+use hash::MAX_INPUT;
 ghost use mathlib.Core.Path.{_≡_};
 ghost use Rattle.format.specs.Parse.{each};
 ghost use Rattle.format.specs.FieldAnswer.{numberOf};

@@ -9,9 +9,6 @@ ghost use Rattle.format.specs.Parse.{at-start};
 ghost use Rattle.format.specs.Field.{byte, bytes, varint, announced, number, le2, le4, le8};
 ghost use Rattle.format.specs.FieldAnswer.{numberOf, runOf, refusalOfNumber, refusalOfRun};
 
-// Bytes of an input (01, "Sizes").
-pub const MAX_INPUT: usize = 16777216;
-
 pub struct Cursor {
     pub at: usize,
 }

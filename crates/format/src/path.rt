@@ -94,10 +94,13 @@ fn find_node(s: &[u8], c: Cursor) -> Found
     Found::Here(kind)
 }
 
-// What a path has at a layer and position.
+// What a path has at a layer and position: nothing past its layers.
 pub fn find(s: &[u8], path: Path, layer: usize, position: u64) -> Found
     ensures { λ r. ⌜ r ≡ leafIn (now (s .entry)) path layer position ⌝ }
 {
+    if path.layers <= layer {
+        return Found::Missing;
+    }
     if LAYERS <= layer {
         return Found::Missing;
     }

@@ -1,7 +1,6 @@
 // TSC binary proofs (document 000).
 use super::bytes::hash_at;
 use super::field::Cursor;
-use super::field::MAX_INPUT;
 use super::field::Number;
 use super::field::Run;
 use super::field::one_byte;
@@ -20,6 +19,7 @@ use super::tx::Items;
 use super::tx::ItemsAnswer;
 use super::tx::TxAnswer;
 use super::tx::tx_at;
+use hash::MAX_INPUT;
 ghost use mathlib.Core.Path.{_≡_};
 ghost use lib.ListN.{length};
 ghost use Rattle.format.specs.Parse.{each, times};

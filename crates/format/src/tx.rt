@@ -1,6 +1,5 @@
 // Raw transactions.
 use super::field::Cursor;
-use super::field::MAX_INPUT;
 use super::field::Number;
 use super::field::Run;
 use super::field::read_run;
@@ -9,6 +8,7 @@ use super::refusal::BAD_TX;
 use super::refusal::EXTRA;
 use super::refusal::Refusal;
 use super::refusal::TOO_LONG;
+use hash::MAX_INPUT;
 ghost use mathlib.Core.Path.{_≡_};
 ghost use lib.ListN.{length};
 ghost use Rattle.format.specs.Parse.{each, times};

@@ -4,7 +4,6 @@ use mathlib.Core.Bool.{Bool, true, false, _&&_, _||_}
 use mathlib.Core.List.{List, [], _∷_, _++_}
 use lib.Dec.{leb, eqb}
 use lib.ListN.{length, take, drop, getD, replicate}
-use Rattle.hash.specs.Sha256.{sha256d}
 use Rattle.format.specs.declared.tx.Input.{Input}
 use Rattle.format.specs.declared.beef.Anchor.{Anchor}
 use Rattle.format.specs.declared.beef.Anchor.the-variants.{Unanchored, Bump as InBump}
@@ -13,7 +12,7 @@ use Rattle.format.specs.Bytes.{same}
 use Rattle.format.specs.Search.{hashAt}
 use Rattle.format.specs.Bump.{Bump}
 use Rattle.format.specs.Gather.{padded}
-use Rattle.format.specs.Transaction.{Transaction}
+use Rattle.format.specs.Id.{txid}
 use Rattle.format.specs.Beef.{Entry, Beef, beefWhole}
 use Rattle.format.specs.Refusals.{TOO-LONG, UNTRUSTED, SAME-TX, NO-PARENT, BAD-ROOTS, MAX-INPUT}
 use Rattle.spv.specs.declared.table.Record.{Record}
@@ -35,10 +34,6 @@ hashesOf l = hashes (length l / 32) l
 unfoldable pub among : List ℕ → List (List ℕ) → Bool
 among x [] = false
 among x (y ∷ l) = same y x || among x l
-
--- the id of a transaction is the hash of exactly its bytes
-unfoldable pub txid : List ℕ → Transaction → List ℕ
-txid s t = sha256d (take (t .end - t .start) (drop (t .start) s))
 
 -- each input has its parent among the ids
 unfoldable pub rests : List ℕ → List (List ℕ) → List Input → Bool

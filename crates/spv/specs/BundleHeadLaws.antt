@@ -7,7 +7,6 @@ use native.Mathlib.Omega.{arith}
 use lib.Dec.{ltb, leb}
 use lib.ListN.{length, getD, take, drop, replicate}
 use borrow.Author.Tests.{lt-ltb, le-ltb, ltb-true, ltb-false}
-use Rattle.hash.specs.Sha256.{hashed, hashed-accepted, hashed-refused, sha256d-length}
 use Rattle.format.specs.declared.tx.Input.{Input}
 use Rattle.format.specs.declared.refusal.Refusal.{Refusal}
 use Rattle.format.specs.declared.bump.BumpHead.{BumpHead}
@@ -24,7 +23,7 @@ use Rattle.spv.specs.declared.bundle.Standing.{Standing as Found}
 use Rattle.spv.specs.declared.prove.Proved.{Proved}
 use Rattle.spv.specs.declared.prove.Judged.the-variants.{Accepted, Refused}
 use Rattle.spv.specs.Compare.{denied, proved, judge, Verdict as Proving}
-use Rattle.spv.specs.Readings.{pathReading, spanHash}
+use Rattle.spv.specs.Readings.{pathReading}
 use Rattle.spv.specs.Shapes.{provedOf, acceptedOf, refusalOf}
 use Rattle.spv.specs.Bundle.{hashesOf, among, refuses, passes, trusted}
 use Rattle.spv.specs.BundleHashes.{one-less}
@@ -105,19 +104,3 @@ module _ (s roots : List ℕ) (bumps : List BumpHead) (earlier : List (List ℕ)
 pub head-told : (s roots : List ℕ) (bumps : List BumpHead) (earlier : List (List ℕ)) (e : EntryHead) {id : List ℕ} {t x : Found}
     → id ≡ headId s e → standingOf t ≡ headStanding s roots bumps earlier id e → t ≡ x → headStands s roots bumps earlier e ≡ standingOf x
 head-told s roots bumps earlier e i h is = ap (λ (y : List ℕ). headStanding s roots bumps earlier y e) (sym i) ∙ sym h ∙ ap standingOf is
-
--- an id has 32 bytes
-hashed-length : (m : List ℕ) → length (hashed m .digest) ≡ 32
-hashed-length m = go (ltb 16777216 (length m)) refl
-  where
-    go : (t : Bool) → ltb 16777216 (length m) ≡ t → length (hashed m .digest) ≡ 32
-    go true e = rw (hashed-refused m (ltb-true _ _ e))
-    go false e = rw (hashed-accepted m (ltb-false _ _ e)) (sha256d-length m)
-
-pub span-length : (s : List ℕ) (start end : ℕ) → length (spanHash s start end) ≡ 32
-unfolding spanHash
-span-length s start end = go (leb start end && leb end (length s))
-  where
-    go : (t : Bool) → length (pick t (hashed (take (end - start) (drop start s)) .digest) (replicate 32 0)) ≡ 32
-    go true = hashed-length (take (end - start) (drop start s))
-    go false = refl

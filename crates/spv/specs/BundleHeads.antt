@@ -14,12 +14,13 @@ use Rattle.format.specs.Search.{hashAt}
 use Rattle.format.specs.Path.{bumpPathOf}
 use Rattle.format.specs.Transaction.{inputField}
 use Rattle.format.specs.BeefAnswer.{noBump}
+use Rattle.format.specs.IdLaws.{spanHash}
 use Rattle.format.specs.Refusals.{BAD-INDEX, SAME-TX, NO-PARENT}
 use Rattle.spv.specs.declared.table.Record.{Record}
 use Rattle.spv.specs.declared.bundle.Standing.the-variants.{Refuses, Passes}
 use Rattle.spv.specs.declared.bundle.Standing.{Standing as Found}
 use Rattle.spv.specs.Compare.{judge, Verdict as Proving}
-use Rattle.spv.specs.Readings.{pathReading, spanHash}
+use Rattle.spv.specs.Readings.{pathReading}
 use Rattle.spv.specs.Bundle.{among, Standing, refuses, passes, trusted}
 
 abbrev pub rowOf : TxHead → List ℕ → ℕ → ℕ → ℕ → Record

@@ -30,8 +30,9 @@ use Rattle.format.specs.Refusals.{MAX-BUMPS, MAX-TXS, MAX-INPUT, NO-PARENT, SAM
 use Rattle.format.specs.declared.tx.Input.{Input}
 use Rattle.format.specs.Transaction.{inputField, txHeadOf}
 use Rattle.spv.specs.declared.table.Record.{Record}
-use Rattle.spv.specs.Readings.{bump-path-judge, span-hash}
-use Rattle.spv.specs.Bundle.{among, rests, txid, refuses, passes, trusted, proving, nthBump, emptyBump, entryId, entryRow, anchoring, standing, refusedAs, judgeFrom, judgeEntries, judgeRead, judgeBeef}
+use Rattle.format.specs.IdLaws.{tx-hash}
+use Rattle.spv.specs.Readings.{bump-path-judge}
+use Rattle.spv.specs.Bundle.{among, rests, refuses, passes, trusted, proving, nthBump, emptyBump, entryId, entryRow, anchoring, standing, refusedAs, judgeFrom, judgeEntries, judgeRead, judgeBeef}
 use Rattle.spv.specs.BundleTheorems.{emptyEntry, trusted-told}
 use Rattle.spv.specs.BundlePosition.{bump-position}
 use Rattle.spv.specs.BundleLaws.{from-map, from-same}
@@ -74,8 +75,7 @@ module _ (s roots : List ℕ) (room : ℕ) (b : Beef) (read : BeefRead room s b)
     tx = tx-told s (nth k .transaction .start) (entry .transaction)
 
     same-id : headId s (entryHeadOf (nth k)) ≡ entryId s (nth k)
-    unfolding txid
-    same-id = span-hash s (nth k .transaction .start) (nth k .transaction .end) (let f = tx .forward in omega arith) (tx .inside) (read .size)
+    same-id = tx-hash s (nth k .transaction) tx (read .size)
 
     anchors-agree : (earlier : List (List ℕ)) (x : Anchor) → nth k .anchor ≡ x
         → headAnchoring s roots heads earlier (entryId s (nth k)) (txHeadOf (nth k .transaction)) x ≡ anchoring s roots (b .bumps) earlier (nth k) x

@@ -19,7 +19,8 @@ use Rattle.format.specs.Tsc.{tscWhole}
 use Rattle.spv.specs.Compare.{Reading, Proof, Verdict, denied, proved, judge, Answer, told, pair, compare, Collision}
 use Rattle.spv.specs.Collide.{WholeReading, Collided, demand3-whole, Colliding, compare-pair}
 use Rattle.spv.specs.Siblings.{levelSiblings, nodeSiblings, written-whole, sibling-whole}
-use Rattle.spv.specs.Readings.{readAs, starting, levelsReading, bumpReading, cmpReading, subjectId, tscReading, reading}
+use Rattle.format.specs.Id.{subjectId}
+use Rattle.spv.specs.Readings.{readAs, starting, levelsReading, bumpReading, cmpReading, tscReading, reading}
 use Rattle.spv.specs.Surplus.{Least, least-is}
 use Rattle.spv.specs.Position.{carrier}
 use Rattle.spv.specs.Shapes.{acceptedOf, provedOf, refusedPair, comparedOf, told-accepted}

@@ -30,7 +30,8 @@ use Rattle.format.specs.TscLaws.{TscRead, tsc-whole-told}
 use Rattle.format.specs.BumpLaws.{BumpRead, bump-whole-told, CmpRead, cmp-whole-told}
 use Rattle.spv.specs.Compare.{any, read, Proof, proved, judge, judge-proved}
 use Rattle.spv.specs.Siblings.{levelSiblings, nodeSiblings}
-use Rattle.spv.specs.Readings.{read-proved, starting, levelsReading, bumpReading, cmpReading, subjectId, tscTarget, tscReading, reading}
+use Rattle.format.specs.Id.{subjectId}
+use Rattle.spv.specs.Readings.{read-proved, starting, levelsReading, bumpReading, cmpReading, tscTarget, tscReading, reading}
 use Rattle.spv.specs.Surplus.{carriedAt, Least, least-is}
 
 -- every offset is below n

@@ -1,23 +1,17 @@
 -- The proofs that each form gives, as its reading has them (01, "The climb", "Two climbs").
-use Prim.Native.Nat.{ℕ, _-_, _<_, _≤_}
+use Prim.Native.Nat.{ℕ, _<_}
 use mathlib.Core.Path.{_≡_, refl, sym, ap, _∙_}
-use mathlib.Core.Bool.{_&&_}
 use mathlib.Core.List.{List, []}
-use lib.ListN.{length, getD, take, drop, replicate, length-take, length-drop}
-use lib.Dec.{leb}
-use borrow.Author.Tests.{le-leb, lt-leb}
+use lib.ListN.{length, getD}
 use native.Mathlib.Omega.{arith}
-use Rattle.hash.specs.declared.Hashed.{Hashed}
-use Rattle.hash.specs.Sha256.{sha256d, hashed, hashed-accepted}
 use Rattle.format.specs.declared.level.Leaf.{Leaf}
-use Rattle.format.specs.declared.tsc.Subject.{Subject}
 use Rattle.format.specs.declared.path.Form.{Form}
 use Rattle.format.specs.declared.path.Start.{Start}
 use Rattle.format.specs.declared.path.Start.the-variants.{At, Nowhere}
 use Rattle.format.specs.declared.path.Path.{Path}
-use Rattle.format.specs.Parse.{Parse, got, bad, pick}
-use Rattle.format.specs.Refusals.{NOT-LISTED, MAX-INPUT}
-use Rattle.format.specs.Search.{hashAt, lookup, leastOffset}
+use Rattle.format.specs.Parse.{Parse, got, bad}
+use Rattle.format.specs.Refusals.{NOT-LISTED}
+use Rattle.format.specs.Search.{lookup, leastOffset}
 use Rattle.format.specs.Path.{leafIn, startIn, bumpPathOf, bumpPath, cmpPathOf, cmpPath}
 use Rattle.format.specs.BumpLaws.{BumpRead, bump-whole-told, CmpRead, cmp-whole-told}
 use Rattle.format.specs.PathLaws.{bump-leaf-in, bump-start-in, cmp-leaf-in, cmp-start-in}
@@ -27,7 +21,8 @@ use Rattle.format.specs.Tsc.{Tsc, tscField, tscWhole, tellsRoot, targetRoot}
 use Rattle.format.specs.TscLaws.{TscRead, tsc-whole-told}
 use Rattle.format.specs.TscPath.{tscPathOf, tscPath}
 use Rattle.format.specs.TscPathLaws.{tsc-leaf-in}
-use Rattle.format.specs.TransactionLaws.{tx-told}
+use Rattle.format.specs.Id.{subjectId}
+use Rattle.format.specs.IdLaws.{subjectHash, subject-hash}
 use Rattle.format.specs.Whole.{whole-size}
 use Rattle.spv.specs.Climb.{Siblings, ascend-same}
 use Rattle.spv.specs.Compare.{Target, any, targetOf, Reading, unread, read, Proof, proved, judge, judge-climb}
@@ -52,11 +47,6 @@ bumpReading s id = readAs (bumpWhole s) (λ b. levelsReading s (b .height) (b .l
 
 unfoldable pub cmpReading : List ℕ → List ℕ → Reading
 cmpReading s id = readAs (cmpWhole s) (λ p. levelsReading s (p .height) (p .levels) id)
-
--- a TSC proof's own id: the one written, or its transaction's
-unfoldable pub subjectId : List ℕ → Subject → List ℕ
-subjectId s (Subject.Id p) = hashAt s p
-subjectId s (Subject.Transaction start end) = sha256d (take (end - start) (drop start s))
 
 -- a block hash is compared with nothing
 unfoldable pub tscTarget : List ℕ → Tsc → Target
@@ -147,44 +137,6 @@ pub tsc-read : (s : List ℕ) (t : Tsc) (q : ℕ) → tscWhole s ≡ got t q
     → tscReading s ≡ read (nodeSiblings s (t .nodes)) (length (t .nodes)) (t .index) (subjectId s (t .subject)) (tscTarget s t)
 unfolding tscReading
 tsc-read s t q e = rw e
-
--- 32 bytes of a part of the input: its hash, or zeros if it does not lie in the input
-unfoldable pub spanHash : List ℕ → ℕ → ℕ → List ℕ
-spanHash s start end = pick (leb start end && leb end (length s)) (hashed (take (end - start) (drop start s)) .digest) (replicate 32 0)
-
-unfoldable pub subjectHash : List ℕ → Subject → List ℕ
-subjectHash s (Subject.Id p) = hashAt s p
-subjectHash s (Subject.Transaction start end) = spanHash s start end
-
-module _ (s : List ℕ) (start end : ℕ) where
-  pub span-backward : end < start → spanHash s start end ≡ replicate 32 0
-  unfolding spanHash
-  span-backward h = rw (lt-leb start end h)
-
-  pub span-outside : start ≤ end → length s < end → spanHash s start end ≡ replicate 32 0
-  unfolding spanHash
-  span-outside h k = rw (le-leb start end h, lt-leb end (length s) k)
-
-  pub span-inside : start ≤ end → end ≤ length s → spanHash s start end ≡ hashed (take (end - start) (drop start s)) .digest
-  unfolding spanHash
-  span-inside h k = rw (le-leb start end h, le-leb end (length s) k)
-
--- a part of an input that is not too long
-pub span-hash : (s : List ℕ) (start end : ℕ) → start ≤ end → end ≤ length s → length s ≤ MAX-INPUT → spanHash s start end ≡ sha256d (take (end - start) (drop start s))
-span-hash s start end a b c =
-    let few : length (take (end - start) (drop start s)) ≤ 16777216 = simp (length-take, length-drop) (omega arith) in
-    span-inside s start end a b ∙ ap (λ (h : Hashed). h .digest) (hashed-accepted (take (end - start) (drop start s)) few)
-
-subject-hash : (s : List ℕ) {q : ℕ} (t : Tsc) → TscRead s q t → length s ≤ MAX-INPUT → subjectHash s (t .subject) ≡ subjectId s (t .subject)
-unfolding subjectHash subjectId
-subject-hash s t r few = go (t .subject) refl
-  where
-    go : (x : Subject) → t .subject ≡ x → subjectHash s x ≡ subjectId s x
-    go (Subject.Id p) e = refl
-    go (Subject.Transaction start end) e =
-        let x = r .subject .transaction start end e in
-        let y = tx-told s start (x .1) in
-        span-hash s start end (omega (arith, y .forward)) (y .inside) few
 
 pub tsc-layers : (s : List ℕ) {q : ℕ} (t : Tsc) → TscRead s q t → tscPath s t .layers ≡ length (t .nodes)
 unfolding tscPathOf

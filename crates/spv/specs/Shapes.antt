@@ -16,7 +16,8 @@ use Rattle.format.specs.Bytes.{same}
 use Rattle.spv.specs.Climb.{Sibling, value, copied, absent, Step, joins, fails, Outcome, rooted, refused, ascend, strings}
 use Rattle.spv.specs.Compare.{targetOf, Reading, unread, read, Proof, Verdict, denied, proved, Met, at, never, hits, judge, proofOf, Answer, told, pair, answerOf, alike, against, compare, meet, judge-proved, alike-told, against-unlike, against-same, against-meet, compare-second, compare-both}
 use Rattle.spv.specs.Siblings.{pathSiblings}
-use Rattle.spv.specs.Readings.{subjectHash, tscTarget, tscReading, tsc-judge}
+use Rattle.format.specs.IdLaws.{subjectHash}
+use Rattle.spv.specs.Readings.{tscTarget, tscReading, tsc-judge}
 use Rattle.spv.specs.declared.prove.Status.{Status}
 use Rattle.spv.specs.declared.prove.Status.the-variants.{Read, Unread}
 use Rattle.spv.specs.declared.prove.Claim.{Claim}

@@ -1,7 +1,6 @@
 // Judging a BEEF against a list of trusted roots (paper 01, "The bundle rule").
 use super::prove::Judged;
 use super::prove::prove_in;
-use super::prove::span_hash;
 use super::table::Record;
 use super::table::blank;
 use format::Anchor;
@@ -45,7 +44,7 @@ pub struct Ruling {
 pub enum Standing {
     Refuses(u8),
     Passes {
-        anchored: u8,
+        anchored: u32,
         bump: u64,
         position: u64,
     },
@@ -103,7 +102,7 @@ fn with_id(ids: [u8; 8192], i: usize, id: [u8; 32]) -> [u8; 8192]
 }
 
 // The record of a transaction that passes.
-fn row_of(tx: TxHead, id: [u8; 32], anchored: u8, bump: u64, position: u64) -> Record
+fn row_of(tx: TxHead, id: [u8; 32], anchored: u32, bump: u64, position: u64) -> Record
     ensures { λ r. ⌜ r ≡ rowOf tx id anchored bump position ⌝ }
 {
     let start = tx.start;
@@ -113,8 +112,8 @@ fn row_of(tx: TxHead, id: [u8; 32], anchored: u8, bump: u64, position: u64) -> R
         start: start as u64,
         length: length as u64,
         id,
-        anchored,
         bump,
+        anchored,
         position: (position % 4294967296) as u32,
     }
 }
@@ -238,7 +237,7 @@ fn judge_heads(
     while i < n {
         let e = entries[i];
         let tx = e.transaction;
-        let id = span_hash(s, tx.start, tx.end);
+        let id = format::tx_id(s, tx);
         let standing = judge_entry(s, roots, bumps, &ids[..32 * i], id, e);
         match standing {
             Standing::Refuses(number) => {

@@ -7,13 +7,12 @@ use format::Form;
 use format::Path;
 use format::Refusal;
 use format::Start;
-use format::Subject;
 use format::TscAnswer;
 use format::refusal::NOT_LISTED;
 use format::refusal::ROOTS_DIFFER;
 ghost use mathlib.Core.Path.{_≡_};
 ghost use Rattle.spv.specs.Compare.{targetOf, judge, denied, hits};
-ghost use Rattle.spv.specs.Readings.{pathReading, bumpReading, cmpReading, tscReading, reading, spanHash, subjectHash};
+ghost use Rattle.spv.specs.Readings.{pathReading, bumpReading, cmpReading, tscReading, reading};
 ghost use Rattle.spv.specs.Shapes.{refusalOf, opened, claimed, acceptedOf, provedOf};
 
 // Whether a proof was read.
@@ -178,29 +177,6 @@ fn claim_cmp(s: &[u8], id: [u8; 32]) -> Claim
     claim_in(s, path, id)
 }
 
-// The hash of a part of the input; zero if it does not lie in it.
-pub fn span_hash(s: &[u8], start: usize, end: usize) -> [u8; 32]
-    ensures { λ r. ⌜ r ≡ spanHash (now (s .entry)) start end ⌝ }
-{
-    if end < start {
-        return [0u8; 32];
-    }
-    if s.len() < end {
-        return [0u8; 32];
-    }
-    let hashed = hash::sha256d(&s[start..end]);
-    hashed.digest
-}
-
-fn subject_hash(s: &[u8], subject: Subject) -> [u8; 32]
-    ensures { λ r. ⌜ r ≡ subjectHash (now (s .entry)) subject ⌝ }
-{
-    match subject {
-        Subject::Id(place) => format::hash_at(s, place),
-        Subject::Transaction(start, end) => span_hash(s, start, end),
-    }
-}
-
 fn claim_tsc(s: &[u8]) -> Claim
     ensures { λ r. ⌜ judge (claimed (now (s .entry)) r) ≡ judge (tscReading (now (s .entry))) ⌝ }
 {
@@ -210,7 +186,7 @@ fn claim_tsc(s: &[u8]) -> Claim
     };
     let path = format::tsc_path(s, head);
     let subject = head.subject;
-    let id = subject_hash(s, subject);
+    let id = format::subject_id(s, subject);
     let bound = head.tells_root();
     let target = format::target_root(s, head);
     Claim {

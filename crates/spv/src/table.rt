@@ -7,15 +7,16 @@ ghost use lib.ListN.{length};
 ghost use Rattle.spv.specs.Bundle.{judgeBeef, verdictOf, tableOf};
 ghost use Rattle.spv.specs.Table.{blankRecord, recordOf, heldRows, rows};
 
-// A transaction of a bundle: where it starts and its length, its id, 1 if it is anchored and else 0, and the number of its BUMP and its position in the
-// block, which are 0 if it is not anchored. Any bytes are a value of each field, so that a caller may lend any memory.
+// A transaction of a bundle: where it starts and its length, its id, the number of its BUMP, 1 if it is anchored and else 0, and its position in the
+// block; BUMP and position are 0 if it is not anchored. Any bytes are a value of each field, so that a caller may lend any memory, and no byte lies
+// between the fields, so that a record that is zero is zero byte for byte.
 #[repr(C)]
 pub struct Record {
     pub start: u64,
     pub length: u64,
     pub id: [u8; 32],
-    pub anchored: u8,
     pub bump: u64,
+    pub anchored: u32,
     pub position: u32,
 }
 
@@ -28,8 +29,8 @@ pub fn blank() -> Record
         start: 0,
         length: 0,
         id: id,
-        anchored: 0,
         bump: 0,
+        anchored: 0,
         position: 0,
     }
 }

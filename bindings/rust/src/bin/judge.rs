@@ -64,7 +64,7 @@ fn report(answer: Result<Verdict, Refusal>) -> ExitCode {
 }
 
 fn row(number: usize, record: &Record) -> String {
-    let (anchored, bump, position) = if record.anchored {
+    let (anchored, bump, position) = if record.is_anchored() {
         ("yes", record.bump.to_string(), record.position.to_string())
     } else {
         ("no", "-".to_string(), "-".to_string())

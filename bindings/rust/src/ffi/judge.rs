@@ -16,7 +16,7 @@ extern "C" {
 }
 
 /// The size of `barrowtide_record`.
-const _: () = assert!(size_of::<Record>() == 72);
+const _: () = assert!(size_of::<Record>() == 64);
 
 /// `barrowtide_judge_beef`: a bundle against a list of roots, into a lent table.
 pub fn judge_beef(
@@ -27,8 +27,7 @@ pub fn judge_beef(
     transactions: &mut u64,
 ) -> u32 {
     // SAFETY: the call reads `data` and `roots` within their lengths and writes two u64 and the
-    // table's records, whose layout is C's and whose bool it sets to 0 or 1; all of it is borrowed
-    // for the call.
+    // table's records, whose layout is C's; all of it is borrowed for the call.
     unsafe {
         barrowtide_judge_beef(
             data.as_ptr(),

@@ -1,5 +1,6 @@
 use Rattle.spv.specs.BundleHeads.{headId, headStands, headRow, rowOf}
-use Rattle.spv.specs.BundleHeadLaws.{head-told, span-length}
+use Rattle.format.specs.IdLaws.{span-length}
+use Rattle.spv.specs.BundleHeadLaws.{head-told}
 use lib.ListN.{length, getD, take}
 use Rattle.format.specs.declared.beef.EntryHead.{EntryHead}
 use mathlib.Core.List.{List}
@@ -36,8 +37,8 @@ mul-e c = search needs
 array-copy-out-e : tie.Need-array-copy-out-e Inv-loop μ-loop
 array-copy-out-e c = search needs
 
-span-hash-requires : tie.Need-span-hash-requires Inv-loop μ-loop
-span-hash-requires c κs = search needs
+tx-id-requires : tie.Need-tx-id-requires Inv-loop μ-loop
+tx-id-requires c κs = search needs
 
 mul-ids : tie.Need-mul-ids Inv-loop μ-loop
 mul-ids c = search needs
@@ -71,7 +72,7 @@ returns c =
     c .refused .ensures
     ∙ ap rulingOf
     (judging-refused _ _ _ (a .t4) (a .n) few long noEntry (l .inv .1) low
-    (head-told (a .s .now) (a .roots .now) (a .bumps) (hashesOf (take (32 * l .i) (l .ids))) (getD (a .t4) (l .i) noEntry) (t .before .before .span-hash .ensures) (t .judge-entry .ensures) (c .before .before .standing .given .1)))
+    (head-told (a .s .now) (a .roots .now) (a .bumps) (hashesOf (take (32 * l .i) (l .ids))) (getD (a .t4) (l .i) noEntry) (t .before .before .tx-id .ensures) (t .judge-entry .ensures) (c .before .before .standing .given .1)))
 
 enum-known-standing-2 : tie.Need-enum-known-standing-2 Inv-loop μ-loop
 enum-known-standing-2 c = search needs
@@ -107,10 +108,10 @@ loop-again c =
       l .inv .0,
       judging-passes (headId (a .s .now)) (headStands (a .s .now) (a .roots .now) (a .bumps)) (headRow (a .s .now)) (a .t4) (a .n) few long noEntry (l .inv .1) low
           (span-length (a .s .now) (e .transaction .start) (e .transaction .end))
-          (t .before .before .span-hash .ensures)
-          (head-told (a .s .now) (a .roots .now) (a .bumps) (hashesOf (take (32 * l .i) (l .ids))) e (t .before .before .span-hash .ensures) (t .judge-entry .ensures) (g .1))
+          (t .before .before .tx-id .ensures)
+          (head-told (a .s .now) (a .roots .now) (a .bumps) (hashesOf (take (32 * l .i) (l .ids))) e (t .before .before .tx-id .ensures) (t .judge-entry .ensures) (g .1))
           (c .with-id .ensures)
-          (c .before .row-of .ensures ∙ ap (λ (x : List ℕ). rowOf (e .transaction) x (g .0 .0) (g .0 .1 .0) (g .0 .1 .1 .0)) (t .before .before .span-hash .ensures)),
+          (c .before .row-of .ensures ∙ ap (λ (x : List ℕ). rowOf (e .transaction) x (g .0 .0) (g .0 .1 .0) (g .0 .1 .1 .0)) (t .before .before .tx-id .ensures)),
     )
 
 returns-2 : tie.Need-returns-2 Inv-loop μ-loop
@@ -131,7 +132,7 @@ judge-heads-spec =
     loop-holds
     mul-e
     array-copy-out-e
-    span-hash-requires
+    tx-id-requires
     mul-ids
     array-share-prefix-ids
     slice-aggregate-judge-entry

@@ -33,8 +33,8 @@ returns c =
 tsc-path-requires : tie.Need-tsc-path-requires
 tsc-path-requires c κs = search needs
 
-subject-hash-requires : tie.Need-subject-hash-requires
-subject-hash-requires c κs = search needs
+subject-id-requires : tie.Need-subject-id-requires
+subject-id-requires c κs = search needs
 
 tells-root-requires : tie.Need-tells-root-requires
 tells-root-requires c κs = search needs
@@ -46,7 +46,7 @@ returns-2 : tie.Need-returns-2
 returns-2 c =
     let s = c .before .before .before .before .before .before .before .before .before .args .s .now in
     let e = each-got tscHeadOf (tscWhole s) (answered tscAnswer (c .before .before .before .before .before .before .before .read-tsc .ensures) (c .before .before .before .before .before .answer .given .1)) in
-    tsc-claim s _ _ (e .0) _ (e .1) (e .2) refl (c .before .before .before .tsc-path .ensures) refl (c .before .before .subject-hash .ensures) (c .before .tells-root .ensures) (c .target-root .ensures)
+    tsc-claim s _ _ (e .0) _ (e .1) (e .2) refl (c .before .before .before .tsc-path .ensures) refl (c .before .before .subject-id .ensures) (c .before .tells-root .ensures) (c .target-root .ensures)
 
 pub claim-tsc-spec : {M : Type 1} → statement M
 claim-tsc-spec =
@@ -59,7 +59,7 @@ claim-tsc-spec =
     unread-claim-requires
     returns
     tsc-path-requires
-    subject-hash-requires
+    subject-id-requires
     tells-root-requires
     target-root-requires
     returns-2)

@@ -107,7 +107,11 @@ after (call f xs d) = skip
 abbrev stayed : Stays (f.ended .signature .params) (f.ended .kept)
 stayed = (stay-slice (0 ∷ []) tt (plain (λ _. R)), (stay-none (λ _. F.the-row) yes, tt))
 
-offset-fits : (i n : ℕ) → i < n → n * 72 < 2 ^ 63 → i * 72 < 2 ^ 64
+-- how many bytes a record takes
+abbrev size : ℕ
+size = 64
+
+offset-fits : (i n : ℕ) → i < n → n * size < 2 ^ 63 → i * size < 2 ^ 64
 offset-fits i n l g = omega arith
 
 -- the contracts that the proof cites
@@ -262,7 +266,7 @@ module _ {M : Type 1} (𝓤 : URA M) (H : Heap 𝓤) (A : Atoms 𝓤) (W : Given
         -- as before the call, and _12 holds the record
         assigns ! (bin ! (load ! (from ! (stop !)) (look ! 22 refl)) (lit ! tt) (record { fits = offset-fits (i .0) len (within less) (room .1) })) (from ! (stop !)) (store ! 10 refl (tt, record { fits = offset-fits (i .0) len (within less) (room .1) })) $
         assigns ! (bin ! (load ! (from ! (fld ! refl (stop !))) (look-in ! 28 (sub ! 0 refl (whole !)))) (load ! (from ! (stop !)) (look ! 10 refl)) tt) (from ! (stop !)) (init ! 4 refl (tt, tt)) $
-        rewrite ! 4 (λ (p : ℕ). ‵ (fat fullShare tyPtr l₁₃ 0 (vptr b p))) (sym (place-is 72 o (i .0))) refl $
+        rewrite ! 4 (λ (p : ℕ). ‵ (fat fullShare tyPtr l₁₃ 0 (vptr b p))) (sym (place-is size o (i .0))) refl $
         elem-out ! R (Is R) (shows 𝓤 H A R) (LL.vals T.the-type T′.the-laws) (LL.tells T.the-type T′.the-laws) fullShare (L (i .0)) (i .0) r b o (inside (i .0) (within less)) (λ _.
         -- [table[i]; what it owns; the others; the open borrow; …]: two more in front
         assigns ! (of-opd ! (load ! (from ! (stop !)) (look ! 8 refl))) (from ! (hop ! (look ! 6 refl) (stop !))) (store-raw ! 0 refl (LL.lawful T.the-type T′.the-laws 𝓤 H A W .typed r _ (made r w is) .0)) $
@@ -308,7 +312,7 @@ module _ {M : Type 1} (𝓤 : URA M) (H : Heap 𝓤) (A : Atoms 𝓤) (W : Given
         -- as before the call, and _7 holds the record
         assigns ! (bin ! (load ! (from ! (stop !)) (look ! 22 refl)) (lit ! tt) (record { fits = offset-fits (i .0) len (within less) (room .1) })) (from ! (stop !)) (init ! 14 refl (tt, record { fits = offset-fits (i .0) len (within less) (room .1) })) $
         assigns ! (bin ! (load ! (from ! (fld ! refl (stop !))) (look-in ! 28 (sub ! 0 refl (whole !)))) (load ! (from ! (stop !)) (look ! 14 refl)) tt) (from ! (stop !)) (init ! 12 refl (tt, tt)) $
-        rewrite ! 12 (λ (p : ℕ). ‵ (fat fullShare tyPtr l₉ 0 (vptr b p))) (sym (place-is 72 o (i .0))) refl $
+        rewrite ! 12 (λ (p : ℕ). ‵ (fat fullShare tyPtr l₉ 0 (vptr b p))) (sym (place-is size o (i .0))) refl $
         elem-out ! R (Is R) (shows 𝓤 H A R) (LL.vals T.the-type T′.the-laws) (LL.tells T.the-type T′.the-laws) fullShare (L (i .0)) (i .0) r b o (inside (i .0) (within less)) (λ _.
         assigns ! (of-opd ! (load ! (from ! (stop !)) (look ! 18 refl))) (from ! (hop ! (look ! 14 refl) (stop !))) (store-raw ! 0 refl (LL.lawful T.the-type T′.the-laws 𝓤 H A W .typed r _ (made r w is) .0)) $
         move ! (1 ∷ []) $ drop ! $ owned ! R (Is R) (LL.makes T.the-type T′.the-plain 𝓤 H A) r _ (made r w is) $ move ! (1 ∷ 0 ∷ []) $ elem-put ! R fullShare (L (i .0)) (i .0) r (mach r ∷ []) b o (inside (i .0) (within less)) $

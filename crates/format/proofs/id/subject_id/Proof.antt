@@ -1,8 +1,8 @@
 use mathlib.Core.Path.{sym, ap, _∙_}
 use borrow.Author.Needs.{needs}
-use Rattle.spv.specs.Readings.{subjectHash}
-use Rattle.spv.proofs.prove.subject_hash.Statement.{statement}
-use Rattle.spv.proofs.prove.subject_hash.Tie as tie
+use Rattle.format.specs.IdLaws.{subjectHash}
+use Rattle.format.proofs.id.subject_id.Statement.{statement}
+use Rattle.format.proofs.id.subject_id.Tie as tie
 
 enum-known-subject : tie.Need-enum-known-subject
 enum-known-subject c = search needs
@@ -24,8 +24,8 @@ returns-2 : tie.Need-returns-2
 unfolding subjectHash
 returns-2 c = c .span-hash .ensures ∙ sym (ap (subjectHash (c .before .before .before .before .before .args .s .now)) (c .before .before .subject2 .given .1))
 
-pub subject-hash-spec : {M : Type 1} → statement M
-subject-hash-spec =
+pub subject-id-spec : {M : Type 1} → statement M
+subject-id-spec =
     tie.close
     (tie.spec
     enum-known-subject

@@ -1,9 +1,9 @@
 use mathlib.Core.Path.{sym, ap, _∙_}
 use borrow.Author.Needs.{needs}
 use Rattle.hash.specs.declared.Hashed.{Hashed}
-use Rattle.spv.specs.Readings.{span-backward, span-outside, span-inside}
-use Rattle.spv.proofs.prove.span_hash.Statement.{statement}
-use Rattle.spv.proofs.prove.span_hash.Tie as tie
+use Rattle.format.specs.IdLaws.{span-backward, span-outside, span-inside}
+use Rattle.format.proofs.id.span_hash.Statement.{statement}
+use Rattle.format.proofs.id.span_hash.Tie as tie
 
 returns : tie.Need-returns
 returns c = sym (span-backward _ _ _ (c .if1 .taken))

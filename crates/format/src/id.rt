@@ -1,0 +1,37 @@
+// Ids of transactions (01, "Raw transaction").
+use super::bytes::hash_at;
+use super::tsc::Subject;
+use super::tx::TxHead;
+ghost use mathlib.Core.Path.{_≡_};
+ghost use Rattle.format.specs.IdLaws.{spanHash, subjectHash};
+
+// The hash of a part of the input; zero if it does not lie in it.
+fn span_hash(s: &[u8], start: usize, end: usize) -> [u8; 32]
+    ensures { λ r. ⌜ r ≡ spanHash (now (s .entry)) start end ⌝ }
+{
+    if end < start {
+        return [0u8; 32];
+    }
+    if s.len() < end {
+        return [0u8; 32];
+    }
+    let hashed = hash::sha256d(&s[start..end]);
+    hashed.digest
+}
+
+// The id of a transaction that was read.
+pub fn tx_id(s: &[u8], tx: TxHead) -> [u8; 32]
+    ensures { λ r. ⌜ r ≡ spanHash (now (s .entry)) (tx .start) (tx .end) ⌝ }
+{
+    span_hash(s, tx.start, tx.end)
+}
+
+// A TSC proof's own id: the one written, or its transaction's.
+pub fn subject_id(s: &[u8], subject: Subject) -> [u8; 32]
+    ensures { λ r. ⌜ r ≡ subjectHash (now (s .entry)) subject ⌝ }
+{
+    match subject {
+        Subject::Id(place) => hash_at(s, place),
+        Subject::Transaction(start, end) => span_hash(s, start, end),
+    }
+}
