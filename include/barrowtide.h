@@ -6,54 +6,109 @@
  *
  * Bytes. Ids, nodes and roots are 32 bytes in stored order; printed hex is the reverse.
  *
- * Answers. A call returns 0 if it accepts the input, and else the number of a refusal:
+ * Answers. A call returns 0 if it accepts the input, and else the number of a refusal, which
+ * carries one value: the place of a byte, counted from 0 at the input's first; the number of a
+ * transaction, counted from 0; or 0.
  *
- *    1 TOO_LONG      the input is over 16,777,216 bytes                      carries 0
- *    2 SHORT         the bytes end inside a field                            field start
- *    3 LONG_VARINT   a VarInt is not in its shortest form                    field start
- *    4 BAD_HEIGHT    a tree height is outside (BUMP 1 to 32, CMP 0 to 31)    field start
- *    5 OVER_LIMIT    a count or a block height is over its limit             field start
- *    6 BAD_OFFSET    an offset or a TSC index is outside the layer           field start
- *    7 BAD_FLAG      flags, a node type or a BEEF byte are not allowed       that byte's place
- *    8 REPEATED      an offset stands in its level already                   offset field
- *    9 EXTRA         bytes are left after the end                            first such byte
- *   10 BAD_VERSION   the first four bytes are not BEEF's                     0
- *   11 BAD_TX        no inputs or no outputs                                 count field
- *                    a TSC transaction is not exactly its stated length      transaction start
- *   12 EMPTY         a BEEF has no transaction                               count field
- *   13 NOT_LISTED    the id, or any client leaf, is not at level 0           transaction number
- *   14 MISSING       a sibling is not written                                transaction number
- *   15 TWIN          a sibling equals the working hash at an odd position    transaction number
- *   16 ROOTS_DIFFER  roots of clients differ, or a TSC target is another     transaction number
- *   17 UNTRUSTED     the root is not in the list                             transaction number
- *   18 BAD_INDEX     a BUMP number is not below the count                    field start
- *   19 SAME_TX       an id equals an earlier one                             transaction number
- *   20 NO_PARENT     an input has no earlier parent                          transaction number
- *   21 BAD_ROOTS     the list of roots is not a multiple of 32 bytes         0
- *   22 NO_ROOM       the table has fewer records than transactions           count field
- *   23 UNLIKE        two proofs differ in root, position or layers           0
- *   24 SAME_ID       two proofs agree and prove one id                       0
+ * Order. Of several refusals the first in this order is given:
+ *   - 1, then 21;
+ *   - in reading, fields as they come, and on one field 2, 3, then 4, 5, 7, 10, 11, 12 or 18, then
+ *     22; for an offset 2, 3, 6, 8. A TSC index is tested after the node count and before the
+ *     nodes, so 5 comes before 6. A length stated in a TSC proof that leads past the input's end is
+ *     2 at the transaction's start, and any other fault inside that transaction is 11. 9 is last;
+ *   - in proving 13, then 14 or 15 at the lowest layer, then 16; for all clients 14 or 15 and then
+ *     16 leaf by leaf;
+ *   - in judging, transaction by transaction, 19, then 13, 14 or 15, 17 if it names a BUMP, and 20
+ *     if not;
+ *   - in comparing the first proof's refusal, the second's, 23, 24.
  *
- * Places and transaction numbers count from 0. Refusals 13 to 17, 19 and 20 carry the number of a
- * transaction where a BEEF is judged, and 0 from all other calls.
+ * Memory. A pointer that comes with a length may be null if the length is 0: it is then not
+ * followed. All other pointers must be to memory of the size said, not null. What is lent by a
+ * pointer to const is only read; what is lent by another must not overlap with anything else lent
+ * to the same call. On a refusal *carried receives what the refusal carries and everything else
+ * stays as it was, but for a lent table, which is zeroed. On acceptance the values are written and
+ * *carried stays as it was.
  *
- * Memory. What is lent by a pointer to const is only read; it may be of length 0, and then the
- * pointer is not followed but must not be null. All other pointers must be to memory of the size
- * said, not null, and must not overlap with anything else lent to the same call.
- * On a refusal *carried receives what the refusal carries and everything else stays as it was, but
- * for a lent table, which is zeroed. On acceptance the values are written and *carried stays as it
- * was.
+ * Stack. As built by the kit a call needs at most
+ *   - 192 KiB  barrowtide_judge_beef
+ *   - 112 KiB  barrowtide_read_beef
+ *   -  24 KiB  barrowtide_compare
+ *   -  16 KiB  barrowtide_prove_bump, barrowtide_prove_cmp, barrowtide_check_clients,
+ *              barrowtide_read_bump, barrowtide_read_cmp
+ *   -   8 KiB  barrowtide_prove_tsc
+ *   -   4 KiB  every other call
+ * with the C library's memcpy and memset, which are all that it calls. Nothing recurses.
  */
 #ifndef BARROWTIDE_H
 #define BARROWTIDE_H
 
-#include <stdbool.h>
 #include <stddef.h>
 #include <stdint.h>
+
+#define BARROWTIDE_VERSION_MAJOR 0
+#define BARROWTIDE_VERSION_MINOR 1
+#define BARROWTIDE_VERSION_PATCH 0
+
+/* ---- Sizes ---- */
+
+#define BARROWTIDE_MAX_INPUT 16777216          /* bytes of an input */
+#define BARROWTIDE_MAX_LAYERS 32               /* layers of a BUMP, a CMP or a TSC proof */
+#define BARROWTIDE_MAX_LEAVES 1024             /* leaves of a level */
+#define BARROWTIDE_MAX_BLOCK_HEIGHT 4294967295 /* a BUMP's block height */
+#define BARROWTIDE_MAX_BUMPS 64                /* BUMPs of a bundle */
+#define BARROWTIDE_MAX_TRANSACTIONS 256        /* transactions of a bundle */
 
 #ifdef __cplusplus
 extern "C" {
 #endif
+
+/* ---- Refusals: what is given when, and after the bar what it carries ---- */
+
+enum barrowtide_refusal {
+    BARROWTIDE_ACCEPTED = 0,
+    BARROWTIDE_TOO_LONG = 1,      /* the input is over 16,777,216 bytes | 0 */
+    BARROWTIDE_SHORT = 2,         /* the bytes end inside a field | field start */
+    BARROWTIDE_LONG_VARINT = 3,   /* a VarInt is not in its shortest form | field start */
+    BARROWTIDE_BAD_HEIGHT = 4,    /* a tree height is outside (BUMP 1 to 32, a CMP's first byte
+                                     0 to 31) | field start */
+    BARROWTIDE_OVER_LIMIT = 5,    /* a count or a block height is over its limit | field start */
+    BARROWTIDE_BAD_OFFSET = 6,    /* an offset or a TSC index is outside the layer | field start */
+    BARROWTIDE_BAD_FLAG = 7,      /* flags, a node type or a BEEF byte are not allowed | that byte's
+                                     place */
+    BARROWTIDE_REPEATED = 8,      /* an offset stands in its level already | offset field */
+    BARROWTIDE_EXTRA = 9,         /* bytes are left after the end | first such byte */
+    BARROWTIDE_BAD_VERSION = 10,  /* the first four bytes are not BEEF's | 0 */
+    BARROWTIDE_BAD_TX = 11,       /* no inputs or no outputs | count field
+                                     a TSC transaction is not exactly its stated length |
+                                     transaction start */
+    BARROWTIDE_EMPTY = 12,        /* a BEEF has no transaction | count field */
+    BARROWTIDE_NOT_LISTED = 13,   /* the id is not at level 0, or no leaf is a client's | tx */
+    BARROWTIDE_MISSING = 14,      /* a sibling is not written | tx */
+    BARROWTIDE_TWIN = 15,         /* a sibling equals the working hash at an odd position | tx */
+    BARROWTIDE_ROOTS_DIFFER = 16, /* roots of clients differ, or a TSC target is another | 0 */
+    BARROWTIDE_UNTRUSTED = 17,    /* the root is not in the list | tx */
+    BARROWTIDE_BAD_INDEX = 18,    /* a BUMP number is not below the count | field start */
+    BARROWTIDE_SAME_TX = 19,      /* an id equals an earlier one | tx */
+    BARROWTIDE_NO_PARENT = 20,    /* an input has no earlier parent | tx */
+    BARROWTIDE_BAD_ROOTS = 21,    /* the list of roots is not a multiple of 32 bytes | 0 */
+    BARROWTIDE_NO_ROOM = 22,      /* the table has fewer records than transactions | count field */
+    BARROWTIDE_UNLIKE = 23,       /* two proofs differ in root, position or layers | 0 */
+    BARROWTIDE_SAME_ID = 24       /* two proofs agree and prove one id | 0 */
+};
+/* "tx": the number of the transaction where a BEEF is judged, and 0 from all other calls. */
+
+/* The name of a refusal, as "SHORT" of 2; "ACCEPTED" of 0, and "UNKNOWN" of numbers above 24. */
+static inline const char *barrowtide_refusal_name(uint32_t number)
+{
+    static const char *const names[] = {
+        "ACCEPTED",    "TOO_LONG",     "SHORT",     "LONG_VARINT", "BAD_HEIGHT",
+        "OVER_LIMIT",  "BAD_OFFSET",   "BAD_FLAG",  "REPEATED",    "EXTRA",
+        "BAD_VERSION", "BAD_TX",       "EMPTY",     "NOT_LISTED",  "MISSING",
+        "TWIN",        "ROOTS_DIFFER", "UNTRUSTED", "BAD_INDEX",   "SAME_TX",
+        "NO_PARENT",   "BAD_ROOTS",    "NO_ROOM",   "UNLIKE",      "SAME_ID",
+    };
+    return number < sizeof names / sizeof names[0] ? names[number] : "UNKNOWN";
+}
 
 /* ---- The hash ---- */
 
@@ -72,26 +127,27 @@ uint32_t barrowtide_read_varint(const uint8_t *data, size_t len, uint64_t *carri
                                 uint64_t *value, uint64_t *width);
 
 /* A BUMP: its block height, its tree height, and the number of leaves of all its levels.
-   Refused: 1 to 9. */
+   Refused: 1; 2 to 8 in the fields; 9. */
 uint32_t barrowtide_read_bump(const uint8_t *data, size_t len, uint64_t *carried,
                               uint64_t *block_height, uint64_t *tree_height, uint64_t *leaves);
 
 /* A compound path (CMP): its tree height, one more than its first byte, and the number of leaves.
-   Refused: 1 to 6, 8, 9. */
+   Refused: 1; 2 to 6 and 8 in the fields; 9. */
 uint32_t barrowtide_read_cmp(const uint8_t *data, size_t len, uint64_t *carried,
                              uint64_t *tree_height, uint64_t *leaves);
 
 /* A raw transaction: how many inputs and outputs it has, and its id.
-   Refused: 1, 2, 3, 9, 11. */
+   Refused: 1; 2, 3, 11 in the fields; 9. */
 uint32_t barrowtide_read_transaction(const uint8_t *data, size_t len, uint64_t *carried,
                                      uint64_t *inputs, uint64_t *outputs, uint8_t id[32]);
 
 /* A TSC binary proof: its flags byte, its index, and the number of its nodes. The target is not
-   compared with anything. Refused: 1, 2, 3, 5, 6, 7, 9, 11. */
+   compared with anything. Refused: 1; 2, 3, 5, 6, 7, 11 in the fields; 9. */
 uint32_t barrowtide_read_tsc(const uint8_t *data, size_t len, uint64_t *carried, uint64_t *flags,
                              uint64_t *index, uint64_t *nodes);
 
-/* A BEEF bundle: how many BUMPs and transactions it has. Refused: 1 to 12, 18. */
+/* A BEEF bundle: how many BUMPs and transactions it has.
+   Refused: 1; 2 to 8, 10 to 12 and 18 in the fields; 9. */
 uint32_t barrowtide_read_beef(const uint8_t *data, size_t len, uint64_t *carried, uint64_t *bumps,
                               uint64_t *transactions);
 
@@ -99,7 +155,7 @@ uint32_t barrowtide_read_beef(const uint8_t *data, size_t len, uint64_t *carried
 
 /* Proves a lent id by a BUMP: its position in the block, the number of layers above it, and the
    Merkle root. The climb starts at the level-0 leaf that carries the id, of several at the least
-   offset. Refused in the climb: 13, 14, 15. */
+   offset. Refused after reading: 13, then 14 or 15. */
 uint32_t barrowtide_prove_bump(const uint8_t *data, size_t len, const uint8_t id[32],
                                uint64_t *carried, uint64_t *position, uint64_t *layers,
                                uint8_t root[32]);
@@ -110,20 +166,22 @@ uint32_t barrowtide_prove_cmp(const uint8_t *data, size_t len, const uint8_t id[
                               uint8_t root[32]);
 
 /* Proves a TSC proof's own id, the one written or its transaction's, and gives it, too. A header or
-   a root as target must hold the root. Refused in the climb: 15, 16. */
+   a root as target must hold the root. Refused after reading: 15, then 16. */
 uint32_t barrowtide_prove_tsc(const uint8_t *data, size_t len, uint64_t *carried, uint8_t id[32],
                               uint64_t *position, uint64_t *layers, uint8_t root[32]);
 
 /* Climbs from every client leaf (flags 02) of a BUMP in written order; all must lead to one root.
-   Refused after reading: 13 if there is none, 14, 15, 16. */
+   Refused after reading: 13 if there is none; leaf by leaf 14 or 15, then 16. */
 uint32_t barrowtide_check_clients(const uint8_t *data, size_t len, uint64_t *carried,
                                   uint8_t root[32]);
 
-/* Compares two proofs. A form is 0 for a BUMP, 1 for a compound path, and any other number for a
-   TSC proof, whose id argument is not used (but must not be null). Two proofs of different ids at
-   one position under one root hold two different strings of 64 bytes with equal double SHA-256:
-   these are the answer.
-   Refused: the first proof's refusal, else the second's, else 23, else 24. */
+/* The form of a proof. Any other number is taken as BARROWTIDE_TSC. */
+enum barrowtide_form { BARROWTIDE_BUMP = 0, BARROWTIDE_CMP = 1, BARROWTIDE_TSC = 2 };
+
+/* Compares two proofs. The id lent with a TSC proof is read and not used. Two proofs of different
+   ids at one position under one root hold two different strings of 64 bytes with equal double
+   SHA-256: these are the answer.
+   Refused: the first proof's refusal, the second's, 23, 24. */
 uint32_t barrowtide_compare(uint32_t first_form, const uint8_t *first, size_t first_len,
                             const uint8_t first_id[32], uint32_t second_form,
                             const uint8_t *second, size_t second_len, const uint8_t second_id[32],
@@ -132,23 +190,32 @@ uint32_t barrowtide_compare(uint32_t first_form, const uint8_t *first, size_t fi
 
 /* ---- Judging ---- */
 
-/* What an accepted bundle says of one transaction. Only the fields are written, not the bytes between
-   them. */
+/* What an accepted bundle says of one transaction. */
 typedef struct {
     uint64_t start;    /* the place of its first byte in the bundle */
     uint64_t length;   /* how many bytes it takes */
     uint8_t id[32];    /* its id */
-    bool anchored;     /* whether a BUMP of the bundle anchors it in a trusted root */
-    uint64_t bump;     /* the number of that BUMP; 0 if not anchored */
+    uint64_t bump;     /* the number of the BUMP that anchors it; 0 if not anchored */
+    uint32_t anchored; /* 1 if a BUMP of the bundle anchors it in a trusted root, and else 0 */
     uint32_t position; /* its position in the block; 0 if not anchored */
-} barrowtide_record;   /* 72 bytes */
+} barrowtide_record;
+
+/* A record has no padding. */
+#if defined(__cplusplus) && __cplusplus >= 201103L
+static_assert(sizeof(barrowtide_record) == 64, "a record takes 64 bytes");
+#elif defined(__STDC_VERSION__) && __STDC_VERSION__ >= 201112L
+_Static_assert(sizeof(barrowtide_record) == 64, "a record takes 64 bytes");
+#else
+typedef char barrowtide_record_takes_64_bytes[sizeof(barrowtide_record) == 64 ? 1 : -1];
+#endif
 
 /* Judges a BEEF bundle against trusted roots, which stand end to end in roots_len bytes, possibly
    none. Every transaction must climb in its BUMP to a trusted root, or have an earlier transaction
-   of the bundle as parent of each input. The table has room for table_len records; 256 are always
-   enough. On acceptance *transactions is their number n, the first n records are filled and the
-   others are zeroed; a refusal zeroes the whole table. Padding inside a record has no meaning.
-   Refused: 1, 21, reading as above with 22, then in judging 13, 14, 15, 17, 19, 20. */
+   of the bundle as parent of each input. The table has room for table_len records;
+   BARROWTIDE_MAX_TRANSACTIONS are always enough. On acceptance *transactions is their number n, the
+   first n records are filled and the others are zeroed; a refusal zeroes the whole table.
+   Refused: 1; 21; 2 to 8, 10 to 12, 18 and 22 in the fields; 9; then transaction by transaction 19,
+   and 13, 14 or 15, 17 if it names a BUMP, or else 20. */
 uint32_t barrowtide_judge_beef(const uint8_t *data, size_t len, const uint8_t *roots,
                                size_t roots_len, barrowtide_record *table, size_t table_len,
                                uint64_t *carried, uint64_t *transactions);

@@ -11,13 +11,12 @@
  *     bb6f640cc4ee56bf38eb5a1969ac0c16caa2d3d202b22bf3735d10eec0ca6e00
  */
 #include <ctype.h>
+#include <stdbool.h>
 #include <stdio.h>
 #include <stdlib.h>
 #include <string.h>
 
 #include "barrowtide.h"
-
-enum { MAX_INPUT = 16777216, MAX_TRANSACTIONS = 256 };
 
 /* The value of a hex digit, or -1. */
 static int digit(int c)
@@ -32,7 +31,7 @@ static int digit(int c)
 static bool read_hex(FILE *file, uint8_t *bytes, size_t *len)
 {
     int c, high = -1;
-    for (*len = 0; *len <= MAX_INPUT && (c = getc(file)) != EOF;) {
+    for (*len = 0; *len <= BARROWTIDE_MAX_INPUT && (c = getc(file)) != EOF;) {
         int value = digit(c);
         if (value < 0 && isspace(c))
             continue;
@@ -76,18 +75,20 @@ static void print_record(uint64_t number, const barrowtide_record *record)
 
 static int judge(FILE *file, const uint8_t root[32])
 {
-    static uint8_t bundle[MAX_INPUT + 1];
-    static barrowtide_record table[MAX_TRANSACTIONS];
+    static uint8_t bundle[BARROWTIDE_MAX_INPUT + 1];
+    static barrowtide_record table[BARROWTIDE_MAX_TRANSACTIONS];
     size_t len;
     if (!read_hex(file, bundle, &len)) {
         fprintf(stderr, "the bundle is not hex\n");
         return 2;
     }
     uint64_t carried = 0, transactions = 0;
-    uint32_t refusal = barrowtide_judge_beef(bundle, len, root, 32, table, MAX_TRANSACTIONS,
-                                             &carried, &transactions);
-    if (refusal != 0) {
-        printf("refused %u at %llu\n", (unsigned)refusal, (unsigned long long)carried);
+    uint32_t refusal =
+        barrowtide_judge_beef(bundle, len, root, 32, table, BARROWTIDE_MAX_TRANSACTIONS, &carried,
+                              &transactions);
+    if (refusal != BARROWTIDE_ACCEPTED) {
+        printf("refused %u %s at %llu\n", (unsigned)refusal, barrowtide_refusal_name(refusal),
+               (unsigned long long)carried);
         return 1;
     }
     printf("accepted, transactions: %llu\n", (unsigned long long)transactions);

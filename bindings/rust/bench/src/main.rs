@@ -9,6 +9,7 @@ mod judge;
 mod measure;
 mod prove;
 mod read;
+mod stack;
 mod yardstick;
 
 const PREFACE: &str = "\
@@ -24,4 +25,5 @@ fn main() {
     read::run();
     prove::run();
     judge::run();
+    stack::run();
 }

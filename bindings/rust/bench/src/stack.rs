@@ -1,0 +1,63 @@
+//! The stack that each call takes, on inputs that lead it to its deepest function.
+
+use std::ffi::{c_char, CStr};
+
+use reference::generate::path::Plan;
+use reference::generate::random::Random;
+use reference::generate::tree::Tree;
+use reference::generate::{transaction, tsc};
+
+use crate::judge::anchored_in_one;
+
+extern "C" {
+    fn stack_of(
+        call: *const c_char,
+        data: *const u8,
+        len: usize,
+        more: *const u8,
+        more_len: usize,
+    ) -> usize;
+}
+
+/// Prints the table of the stack.
+pub fn run() {
+    let mut random = Random::of("stack");
+    let own = transaction::Plan::random(&mut random);
+    let (id, raw) = (own.id(), own.draft());
+    let mut ids = vec![[7; 32]; 1_000];
+    ids[777] = id;
+    let tree = Tree::new(ids);
+    let path = Plan::of(&tree, &[777]);
+    let (bump, cmp) = (path.bump().bytes, path.cmp().bytes);
+    let mut proof = tsc::Plan::of(&tree, 777);
+    proof.stated = Some(raw.bytes.len() as u64);
+    proof.body = raw.clone();
+    proof.aim(4, &mut random);
+    let proof = proof.draft().bytes;
+    let bundle = anchored_in_one(&mut random);
+    let (beef, roots) = (bundle.draft().bytes, bundle.root_list());
+
+    println!("\nStack of a call, in bytes");
+    row(c"sha256d", &raw.bytes, &[]);
+    row(c"join", &id, &id);
+    row(c"read_varint", &[0xfd, 0xfd, 0], &[]);
+    row(c"read_bump", &bump, &[]);
+    row(c"read_cmp", &cmp, &[]);
+    row(c"read_transaction", &raw.bytes, &[]);
+    row(c"read_tsc", &proof, &[]);
+    row(c"read_beef", &beef, &[]);
+    row(c"prove_bump", &bump, &id);
+    row(c"prove_cmp", &cmp, &id);
+    row(c"prove_tsc", &proof, &[]);
+    row(c"check_clients", &bump, &[]);
+    row(c"compare", &bump, &id);
+    row(c"judge_beef", &beef, &roots);
+}
+
+fn row(call: &CStr, data: &[u8], more: &[u8]) {
+    // SAFETY: the name ends in 0; the call reads what is lent within its length, and 32 bytes where
+    // an id or a node is lent.
+    let bytes =
+        unsafe { stack_of(call.as_ptr(), data.as_ptr(), data.len(), more.as_ptr(), more.len()) };
+    println!("{:<20} {bytes:>8}", call.to_string_lossy());
+}

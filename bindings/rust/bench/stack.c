@@ -1,0 +1,93 @@
+/* How much stack a call takes: it runs on a stack of its own, which is painted beforehand. */
+#include <string.h>
+#include <ucontext.h>
+
+#include "barrowtide.h"
+
+enum { ROOM = 1 << 20, PAINT = 0xa5 };
+
+static uint8_t stack[ROOM];
+
+/* What a call is lent: the input, and beside it an id, a node or the trusted roots. */
+static const uint8_t *data, *more;
+static size_t len, more_len;
+static barrowtide_record table[BARROWTIDE_MAX_TRANSACTIONS];
+static uint64_t carried, a, b, c;
+static uint8_t id[32], root[32], first[64], second[64];
+
+/* What a call returns is kept, so that the call is not the last thing done and has a frame above. */
+static volatile uint32_t refusal;
+
+static void none(void) { refusal = 0; }
+static void sha256d(void) { refusal = barrowtide_sha256d(data, len, &carried, root); }
+static void join(void) { barrowtide_join(data, more, root), refusal = 0; }
+static void read_varint(void) { refusal = barrowtide_read_varint(data, len, &carried, &a, &b); }
+static void read_bump(void) { refusal = barrowtide_read_bump(data, len, &carried, &a, &b, &c); }
+static void read_cmp(void) { refusal = barrowtide_read_cmp(data, len, &carried, &a, &b); }
+static void read_transaction(void)
+{
+    refusal = barrowtide_read_transaction(data, len, &carried, &a, &b, id);
+}
+static void read_tsc(void) { refusal = barrowtide_read_tsc(data, len, &carried, &a, &b, &c); }
+static void read_beef(void) { refusal = barrowtide_read_beef(data, len, &carried, &a, &b); }
+static void prove_bump(void)
+{
+    refusal = barrowtide_prove_bump(data, len, more, &carried, &a, &b, root);
+}
+static void prove_cmp(void)
+{
+    refusal = barrowtide_prove_cmp(data, len, more, &carried, &a, &b, root);
+}
+static void prove_tsc(void)
+{
+    refusal = barrowtide_prove_tsc(data, len, &carried, id, &a, &b, root);
+}
+static void check_clients(void) { refusal = barrowtide_check_clients(data, len, &carried, root); }
+static void compare(void)
+{
+    refusal = barrowtide_compare(BARROWTIDE_BUMP, data, len, more, BARROWTIDE_BUMP, data, len, more,
+                                 &carried, first, second);
+}
+static void judge_beef(void)
+{
+    refusal = barrowtide_judge_beef(data, len, more, more_len, table, BARROWTIDE_MAX_TRANSACTIONS,
+                                    &carried, &a);
+}
+
+#define CALL(name) {#name, name}
+static const struct {
+    const char *name;
+    void (*run)(void);
+} calls[] = {
+    CALL(sha256d),       CALL(join),             CALL(read_varint), CALL(read_bump),
+    CALL(read_cmp),      CALL(read_transaction), CALL(read_tsc),    CALL(read_beef),
+    CALL(prove_bump),    CALL(prove_cmp),        CALL(prove_tsc),   CALL(check_clients),
+    CALL(compare),       CALL(judge_beef),
+};
+
+/* Runs a function, and says how many bytes of the painted stack have changed, from its top. */
+static size_t depth(void (*run)(void))
+{
+    static ucontext_t here, there;
+    memset(stack, PAINT, ROOM);
+    getcontext(&there);
+    there.uc_stack.ss_sp = stack;
+    there.uc_stack.ss_size = ROOM;
+    there.uc_link = &here;
+    makecontext(&there, run, 0);
+    swapcontext(&here, &there);
+    size_t clean = 0;
+    while (clean < ROOM && stack[clean] == PAINT)
+        clean++;
+    return ROOM - clean;
+}
+
+/* The stack that the call of a name takes, in bytes; 0 for an unknown name. */
+size_t stack_of(const char *name, const uint8_t *d, size_t d_len, const uint8_t *m, size_t m_len)
+{
+    data = d, len = d_len, more = m, more_len = m_len;
+    for (size_t i = 0; i < sizeof calls / sizeof calls[0]; i++)
+        if (strcmp(name, calls[i].name) == 0)
+            return depth(calls[i].run) - depth(none);
+    return 0;
+}
