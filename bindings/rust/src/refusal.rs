@@ -31,7 +31,7 @@ pub enum Reason {
     BadTx = 11,
     /// A BEEF has no transaction.
     Empty = 12,
-    /// The id, or any client leaf, is not at level 0.
+    /// The id is not at level 0, or no leaf is a client's.
     NotListed = 13,
     /// A sibling is not written.
     Missing = 14,

@@ -38,7 +38,7 @@ pub const BAD_VERSION: u32 = 10;
 pub const BAD_TX: u32 = 11;
 /// BEEF with no transaction.
 pub const EMPTY: u32 = 12;
-/// Id, or any client leaf, not at level 0.
+/// Id not at level 0, or no leaf is a client's.
 pub const NOT_LISTED: u32 = 13;
 /// Sibling not written.
 pub const MISSING: u32 = 14;
