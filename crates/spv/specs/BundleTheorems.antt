@@ -1,30 +1,27 @@
--- What the bundle rule promises: a bundle is accepted exactly when every transaction is new in it and is mined under a listed root or has each parent
--- earlier in the bundle; so every chain of parents inside an accepted bundle ends at transactions mined under listed roots.
-use Prim.Native.Nat.{ℕ, zero, suc, _%_, _<_, _≤_}
+-- What the bundle rule promises: the transactions of a bundle are accepted exactly when each is new in it and is mined under a listed root or has each
+-- parent earlier in the bundle.
+use Prim.Native.Nat.{ℕ, zero, suc, _<_, _≤_}
 use mathlib.Core.Path.{_≡_, refl, sym, ap, _∙_}
 use mathlib.Core.Bool.{Bool, true, false, _&&_, _||_}
 use mathlib.Core.List.{List, [], _∷_, map}
 use mathlib.Core.Logic.{_⊎_, inl, inr}
 use native.Mathlib.Decide.{decLt}
 use native.Mathlib.Omega.{arith}
-use lib.Dec.{leb, eqb}
 use lib.ListN.{length, getD, take, length-take, length-map}
 use lib.Seq.{getD-take}
 use Rattle.format.specs.declared.tx.Input.{Input}
 use Rattle.format.specs.declared.beef.Anchor.{Anchor}
 use Rattle.format.specs.declared.beef.Anchor.the-variants.{Unanchored, Bump as InBump}
-use Rattle.format.specs.Parse.{Parse, got, bad, pick, whole}
-use Rattle.format.specs.Field.{bytes}
+use Rattle.format.specs.Parse.{pick}
 use Rattle.format.specs.Bytes.{same, same-eq, eq-same}
 use Rattle.format.specs.Search.{hashAt}
-use Rattle.format.specs.Bump.{Bump}
-use Rattle.format.specs.Beef.{Entry, Beef, versionField, beefField, beefWhole}
-use Rattle.format.specs.Refusals.{TOO-LONG, UNTRUSTED, SAME-TX, NO-PARENT, BAD-ROOTS, MAX-INPUT}
+use Rattle.format.specs.Beef.{Entry, Beef}
+use Rattle.format.specs.Refusals.{UNTRUSTED, SAME-TX, NO-PARENT}
 use Rattle.spv.specs.declared.table.Record.{Record}
 use Rattle.spv.specs.Compare.{Proof, denied, proved, Verdict as Proving}
 use Rattle.spv.specs.Table.{blankRecord}
-use Rattle.spv.specs.Bundle.{hashesOf, among, rests, refuses, passes, trusted, proving, nthBump, entryId, anchoring, standing, entryRow, refusedAs, accepted, judgeFrom, judgeEntries, judgeRead, judgeBeef}
-use Rattle.spv.specs.BundleLaws.{from-same, accepted-passed, all-accepted}
+use Rattle.spv.specs.Bundle.{hashesOf, among, rests, refuses, passes, trusted, proving, nthBump, entryId, anchoring, standing, entryRow, accepted, judgeEntries}
+use Rattle.spv.specs.BundleLaws.{accepted-passed, all-accepted}
 
 -- ---- being among hashes
 
@@ -248,59 +245,3 @@ module _ (s roots : List ℕ) (b : Beef) where
   pub stands-accepted : ((k : ℕ) → k < length (b .entries) → Stands k) → (records : List Record) × (judgeEntries s roots b ≡ accepted records)
   unfolding judgeEntries
   stands-accepted f = all-accepted (entryId s) (standing s roots (b .bumps)) (entryRow s) emptyEntry blankRecord [] (b .entries) (λ k low. stands-passed k low (f k low))
-
-  -- mined under a listed root, or every parent is supported
-  pub data Supported : ℕ → Type 0 where
-    by-root : (k : ℕ) → Mined k → Supported k
-    by-parents : (k : ℕ) (c : Child k) → ((m : ℕ) → m < length (inputsAt k) → Supported (c .parent m)) → Supported k
-
-  -- every chain of parents inside an accepted bundle ends at transactions mined under listed roots
-  pub accepted-supported : (records : List Record) → judgeEntries s roots b ≡ accepted records → (k : ℕ) → k < length (b .entries) → Supported k
-  accepted-supported records e k low = below (suc k) k (omega arith) low
-    where
-      supported : (k : ℕ) → k < length (b .entries) → ((j : ℕ) → j < k → Supported j) → Mined k ⊎ Child k → Supported k
-      supported k low f (inl m) = by-root k m
-      supported k low f (inr c) = by-parents k c (λ m h. f (c .parent m) (c .earlier m h))
-
-      below : (n k : ℕ) → k < n → k < length (b .entries) → Supported k
-      below zero k h low = absurd (omega arith)
-      below (suc n) k h low = supported k low (λ j l. below n j (omega arith) (omega arith)) (accepted-stands records e k low .1)
-
--- "Of an unused BUMP only the layout is asked": BUMPs that agree where a transaction names them give one judgement
-pub unused-bump : (s roots : List ℕ) (b c : Beef) → b .entries ≡ c .entries
-    → ((k n : ℕ) → k < length (b .entries) → nth s roots b k .anchor ≡ InBump n → nthBump (b .bumps) n ≡ nthBump (c .bumps) n)
-    → judgeEntries s roots b ≡ judgeEntries s roots c
-unfolding judgeEntries standing anchoring
-unused-bump s roots b c e f =
-    from-same (entryId s) (entryId s) (standing s roots (b .bumps)) (standing s roots (c .bumps)) (entryRow s) (entryRow s) emptyEntry [] (b .entries)
-    (λ k low. record { ids = refl; standings = λ earlier. ap (pick (among (entryId s (nth s roots b k)) earlier) (refuses SAME-TX)) (agrees k low earlier (nth s roots b k .anchor) refl); rows = λ earlier a n i h. refl })
-    ∙ ap (judgeFrom (entryId s) (standing s roots (c .bumps)) (entryRow s) []) e
-  where
-    agrees : (k : ℕ) → k < length (b .entries) → (earlier : List (List ℕ)) (x : Anchor) → nth s roots b k .anchor ≡ x
-        → anchoring s roots (b .bumps) earlier (nth s roots b k) x ≡ anchoring s roots (c .bumps) earlier (nth s roots b k) x
-    agrees k low earlier (InBump n) h = ap (λ (m : Bump). trusted roots n (proving s m (entryId s (nth s roots b k)))) (f k n low h)
-    agrees k low earlier Unanchored h = refl
-
--- ---- an input
-
--- what was accepted was read, and its transactions were accepted
-pub accepted-read : (s roots : List ℕ) (room : ℕ) (records : List Record) → judgeBeef s roots room ≡ accepted records
-    → (b : Beef) × (q : ℕ) × (beefWhole room s ≡ got b q) × (judgeEntries s roots b ≡ accepted records)
-unfolding judgeBeef judgeRead
-accepted-read s roots room records e = go (leb (length s) MAX-INPUT) (eqb (length roots % 32) 0) (beefWhole room s) refl e
-  where
-    go : (t u : Bool) (p : Parse Beef) → beefWhole room s ≡ p → pick t (pick u (judgeRead s roots p) (refusedAs BAD-ROOTS 0)) (refusedAs TOO-LONG 0) ≡ accepted records
-        → (b : Beef) × (q : ℕ) × (beefWhole room s ≡ got b q) × (judgeEntries s roots b ≡ accepted records)
-    go false u p h m = absurd (let z : _≡_ {A = ℕ} 0 1 = cc in omega arith)
-    go true false p h m = absurd (let z : _≡_ {A = ℕ} 0 1 = cc in omega arith)
-    go true true (bad number place) h m = absurd (let z : _≡_ {A = ℕ} 0 1 = cc in omega arith)
-    go true true (got b q) h m = (b, q, h, m)
-
--- 21 comes before the first field, which is 2
-roots-first : judgeBeef [] (0 ∷ []) 0 ≡ refusedAs 21 0
-unfolding judgeBeef
-roots-first = refl
-
-then-fields : judgeBeef [] [] 0 ≡ refusedAs 2 0
-unfolding judgeBeef judgeRead beefField versionField bytes whole
-then-fields = refl

@@ -22,3 +22,5 @@ pub mod BundleAnswer
 pub mod BundleTurns
 pub mod BundlePosition
 pub mod BundleRead
+pub mod Acceptance
+pub mod UnusedBump
