@@ -6,6 +6,7 @@ pub mod Shapes
 pub mod Readings
 pub mod Clients
 pub mod ClientsShapes
+pub mod ClientsTheorems
 pub mod Surplus
 pub mod Position
 pub mod Examples
