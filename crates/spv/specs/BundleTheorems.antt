@@ -48,7 +48,7 @@ told-among x (y ∷ l) (suc k) h e = rw (told-among x l k (omega arith) e) (or-t
     or-true true = refl
     or-true false = refl
 
-map-at : {A B : Type 0} (f : A → B) (l : List A) (j : ℕ) (d : A) (z : B) → j < length l → getD (map f l) j z ≡ f (getD l j d)
+pub map-at : {A B : Type 0} (f : A → B) (l : List A) (j : ℕ) (d : A) (z : B) → j < length l → getD (map f l) j z ≡ f (getD l j d)
 map-at f [] j d z h = absurd (omega arith)
 map-at f (x ∷ l) zero d z h = refl
 map-at f (x ∷ l) (suc j) d z h = map-at f l j d z (omega arith)

@@ -24,4 +24,9 @@ pub mod BundleTurns
 pub mod BundlePosition
 pub mod BundleRead
 pub mod Acceptance
+pub mod Reread
+pub mod RereadBundle
+pub mod OneMoreBump
+pub mod BundleParts
+pub mod BundlePartsRead
 pub mod UnusedBump
