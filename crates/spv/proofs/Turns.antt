@@ -14,7 +14,7 @@ use Rattle.format.specs.Bytes.{same}
 use Rattle.format.specs.Parse.{got, bad}
 use Rattle.format.specs.Refusals.{NOT-LISTED}
 use Rattle.format.specs.Search.{looseLeaf}
-use Rattle.spv.specs.Climb.{Siblings, Step, joins, fails, Ascent, step, odd, beside, ascend, outcome, strings, turn-joins, turn-fails, turn-none}
+use Rattle.spv.specs.Climb.{Siblings, Step, joins, fails, Ascent, step, odd, beside, ascend, outcomeBy, outcome, strings, turn-joins, turn-fails, turn-none}
 use Rattle.spv.specs.Compare.{targetOf, Target, any, at, never, meet, meet-left, meet-right, meet-here, meet-above}
 use Rattle.spv.specs.Shapes.{climbedOf, joinedOf, isJoins, is-joins, told-joins}
 use Rattle.spv.specs.Clients.{Wanted, rejected, afterLeaf, follow, closing, clientsIn, turn-leaf, turn-short, turn-last}
@@ -37,17 +37,17 @@ module _ (σ : Siblings) (h i : ℕ) (id : List ℕ) where
 
   module _ (k j : ℕ) (c : List ℕ) (v : Climbing σ h i id k j c) where
     pub climbing-end : h ≤ k → _≡_ {A = Climbed} (record { end = Root; root = c }) (climbedOf (outcome id (ascend σ 0 h i id)))
-    unfolding outcome climbedOf
+    unfolding outcomeBy climbedOf
     climbing-end b = ap climbedOf (sym (ap (outcome c) (turn-none σ k k h j c b)) ∙ v .kept)
 
     module _ (b : k < h) where
       pub climbing-up : (l r : List ℕ) → step (σ k (beside j)) (odd j) c ≡ joins l r → (c′ : List ℕ) → c′ ≡ sha256d (l ++ r) → Climbing σ h i id (k + 1) (j / 2) c′
-      unfolding outcome
+      unfolding outcomeBy
       climbing-up l r e c′ g = record { done = omega arith; kept = rw g (sym (ap (outcome c) (turn-joins σ k k h j c b l r e)) ∙ v .kept) }
 
       pub climbing-stop : (number : ℕ) → step (σ k (beside j)) (odd j) c ≡ fails number → (q : ℕ) → q ≡ beside j
           → _≡_ {A = Climbed} (record { end = Stop number k q; root = replicate 32 0 }) (climbedOf (outcome id (ascend σ 0 h i id)))
-      unfolding outcome climbedOf
+      unfolding outcomeBy climbedOf
       climbing-stop number e q g = rw g (ap climbedOf (sym (ap (outcome c) (turn-fails σ k k h j c b number e)) ∙ v .kept))
 
 -- ---- the strings that are left

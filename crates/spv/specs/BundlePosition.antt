@@ -12,14 +12,14 @@ use Rattle.format.specs.Search.{leastOffset}
 use Rattle.format.specs.Bump.{Bump}
 use Rattle.format.specs.BumpLaws.{BumpRead}
 use Rattle.spv.specs.Siblings.{levelSiblings}
-use Rattle.spv.specs.Compare.{Proof, proved, judge, judge-proved, any}
+use Rattle.spv.specs.Compare.{Proof, proved, judgeBy, judge, judge-proved, any}
 use Rattle.spv.specs.Readings.{starting, levelsReading}
 use Rattle.spv.specs.Position.{levels-position, bump-below}
 use Rattle.spv.specs.Bundle.{proving}
 
 -- an accepted proof by levels has as many layers
 layered : (s id : List ℕ) (h : ℕ) (levels : List (List Leaf)) (p : Proof) → judge (levelsReading s h levels id) ≡ proved p → p .layers ≡ h
-unfolding levelsReading starting judge
+unfolding levelsReading starting judgeBy
 layered s id h levels p e = go (leastOffset s id (getD levels 0 [])) e
   where
     go : (x : Start) → judge (starting (levelSiblings s levels) h id x) ≡ proved p → p .layers ≡ h

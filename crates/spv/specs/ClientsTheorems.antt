@@ -15,7 +15,7 @@ use Rattle.format.specs.Refusals.{ROOTS-DIFFER}
 use Rattle.format.specs.Search.{hashAt}
 use Rattle.format.specs.Bump.{Bump, bumpWhole}
 use Rattle.spv.specs.Climb.{Siblings, ascend, Outcome, rooted, refused, outcome}
-use Rattle.spv.specs.Compare.{Target, any, exactly, hits, read, denied, proved, settle, proofOf, judge, judge-root}
+use Rattle.spv.specs.Compare.{Target, any, exactly, hits, read, denied, proved, settle, proofOf, judgeBy, judge, judge-root}
 use Rattle.spv.specs.Siblings.{levelSiblings}
 use Rattle.spv.specs.Clients.{Check, agreed, Wanted, wants, refuses, wantedBy, afterKind, afterLeaf, follow, closing, clients, checkAs, bumpClients}
 
@@ -49,7 +49,7 @@ module _ (σ : Siblings) (h : ℕ) (s r : List ℕ) where
   -- a client that is not refused came to the root that is wanted from then on
   client-told : (w v : Target) (offset : ℕ) (c : List ℕ) → wantedBy (judge (read σ h offset c w)) ≡ wants v
       → (t : List ℕ) × (outcome c (ascend σ 0 h offset c) ≡ rooted t) × (exactly t ≡ v) × (hits w t ≡ true)
-  unfolding judge settle wantedBy
+  unfolding judgeBy settle wantedBy
   client-told w v offset c e = go (outcome c (ascend σ 0 h offset c)) refl e
     where
       hit : (t : List ℕ) → outcome c (ascend σ 0 h offset c) ≡ rooted t → (b : Bool) → hits w t ≡ b → wantedBy (pick b (proved (proofOf σ h offset c t)) (denied ROOTS-DIFFER 0 0 0)) ≡ wants v

@@ -58,28 +58,35 @@ pub data Ascent : Type 0 where
   up : List ℕ → Ascent → Ascent
   stop : ℕ → ℕ → ℕ → Ascent
 
--- from c at position j of layer k, over n layers
-unfoldable pub ascend : Siblings → ℕ → ℕ → ℕ → List ℕ → Ascent
-ascend σ k zero j c = top
-ascend σ k (suc n) j c =
+-- the climb by any hash: from c at position j of layer k, over n layers
+unfoldable pub ascendBy : (List ℕ → List ℕ) → Siblings → ℕ → ℕ → ℕ → List ℕ → Ascent
+ascendBy hash σ k zero j c = top
+ascendBy hash σ k (suc n) j c =
     elim (step (σ k (beside j)) (odd j) c)
-    [ joins a b ↦ up (a ++ b) (ascend σ (suc k) n (j / 2) (sha256d (a ++ b))) | fails number ↦ stop number k (beside j) ]
+    [ joins a b ↦ up (a ++ b) (ascendBy hash σ (suc k) n (j / 2) (hash (a ++ b))) | fails number ↦ stop number k (beside j) ]
 
 -- what a climb from c comes to
 pub data Outcome : Type 0 where
   rooted : List ℕ → Outcome
   refused : ℕ → ℕ → ℕ → Outcome
 
-unfoldable pub outcome : List ℕ → Ascent → Outcome
-outcome c top = rooted c
-outcome c (up t a) = outcome (sha256d t) a
-outcome c (stop number k q) = refused number k q
+unfoldable pub outcomeBy : (List ℕ → List ℕ) → List ℕ → Ascent → Outcome
+outcomeBy hash c top = rooted c
+outcomeBy hash c (up t a) = outcomeBy hash (hash t) a
+outcomeBy hash c (stop number k q) = refused number k q
 
 -- the strings hashed, from the lowest layer
 unfoldable pub strings : Ascent → List (List ℕ)
 strings top = []
 strings (up t a) = t ∷ strings a
 strings (stop number k q) = []
+
+-- "Hash" is double SHA-256
+abbrev pub ascend : Siblings → ℕ → ℕ → ℕ → List ℕ → Ascent
+ascend = ascendBy sha256d
+
+abbrev pub outcome : List ℕ → Ascent → Outcome
+outcome = outcomeBy sha256d
 
 -- ---- laws: one layer
 
@@ -108,15 +115,15 @@ beside-even j e = rw (ne-eqb (j % 2) 1 e)
 
 module _ (σ : Siblings) (k n j : ℕ) (c : List ℕ) where
   pub ascend-joins : (a b : List ℕ) → step (σ k (beside j)) (odd j) c ≡ joins a b → ascend σ k (suc n) j c ≡ up (a ++ b) (ascend σ (suc k) n (j / 2) (sha256d (a ++ b)))
-  unfolding ascend
-  ascend-joins a b e = rw (ascend, e)
+  unfolding ascendBy
+  ascend-joins a b e = rw (ascendBy, e)
 
   pub ascend-fails : (number : ℕ) → step (σ k (beside j)) (odd j) c ≡ fails number → ascend σ k (suc n) j c ≡ stop number k (beside j)
-  unfolding ascend
-  ascend-fails number e = rw (ascend, e)
+  unfolding ascendBy
+  ascend-fails number e = rw (ascendBy, e)
 
-abbrev pub ascended : Siblings → ℕ → ℕ → ℕ → Step → Ascent
-ascended σ k n j s = elim s [ joins a b ↦ up (a ++ b) (ascend σ (suc k) n (j / 2) (sha256d (a ++ b))) | fails number ↦ stop number k (beside j) ]
+abbrev pub ascendedBy : (List ℕ → List ℕ) → Siblings → ℕ → ℕ → ℕ → Step → Ascent
+ascendedBy hash σ k n j s = elim s [ joins a b ↦ up (a ++ b) (ascendBy hash σ (suc k) n (j / 2) (hash (a ++ b))) | fails number ↦ stop number k (beside j) ]
 
 -- one turn of a loop that climbs: m layers are done of h, and the layer is k
 module _ (σ : Siblings) (k m h j : ℕ) (c : List ℕ) (b : m < h) where
@@ -131,22 +138,22 @@ module _ (σ : Siblings) (k m h j : ℕ) (c : List ℕ) (b : m < h) where
 
 -- at the end nothing is left
 pub turn-none : (σ : Siblings) (k m h j : ℕ) (c : List ℕ) → h ≤ m → ascend σ k (h - m) j c ≡ top
-unfolding ascend
+unfolding ascendBy
 turn-none σ k m h j c b = let e : h - m ≡ 0 = omega arith in rw e
 
 -- two forms that agree beside a climb give one climb
 pub ascend-agree : (σ τ : Siblings) (k n j : ℕ) (c : List ℕ) → ((m : ℕ) → m < n → σ (k + m) (getD (besides j n) m 0) ≡ τ (k + m) (getD (besides j n) m 0)) → ascend σ k n j c ≡ ascend τ k n j c
-unfolding ascend besides
+unfolding ascendBy besides
 ascend-agree σ τ k zero j c f = refl
 ascend-agree σ τ k (suc n) j c f =
     let e : σ k (beside j) ≡ τ k (beside j) = rw add-zero at (f 0 (zero-lt-suc n)) in
-    ap (λ (x : Sibling). ascended σ k n j (step x (odd j) c)) e
+    ap (λ (x : Sibling). ascendedBy sha256d σ k n j (step x (odd j) c)) e
     ∙ (go (step (τ k (beside j)) (odd j) c) (λ d. ascend-agree σ τ (suc k) n (j / 2) d above))
   where
     above : (m : ℕ) → m < n → σ (suc k + m) (getD (besides (j / 2) n) m 0) ≡ τ (suc k + m) (getD (besides (j / 2) n) m 0)
     above m h = let e : k + suc m ≡ suc k + m = omega arith in rw e at (f (suc m) (suc-le-suc h))
 
-    go : (s : Step) → ((d : List ℕ) → ascend σ (suc k) n (j / 2) d ≡ ascend τ (suc k) n (j / 2) d) → ascended σ k n j s ≡ ascended τ k n j s
+    go : (s : Step) → ((d : List ℕ) → ascend σ (suc k) n (j / 2) d ≡ ascend τ (suc k) n (j / 2) d) → ascendedBy sha256d σ k n j s ≡ ascendedBy sha256d τ k n j s
     go (joins a b) r = ap (up (a ++ b)) (r (sha256d (a ++ b)))
     go (fails number) r = refl
 

@@ -11,7 +11,7 @@ use Rattle.hash.specs.Sha256.{sha256d}
 use Rattle.format.specs.Bytes.{same, same-eq}
 use Rattle.format.specs.Parse.{pick}
 use Rattle.format.specs.Refusals.{ROOTS-DIFFER, UNLIKE, SAME-ID}
-use Rattle.spv.specs.Climb.{Siblings, Ascent, ascend, Outcome, rooted, refused, outcome, strings}
+use Rattle.spv.specs.Climb.{Siblings, Ascent, ascendBy, ascend, Outcome, rooted, refused, outcomeBy, outcome, strings}
 
 -- what the root must be besides: a TSC proof's root or header target
 pub data Target : Type 0 where
@@ -51,41 +51,23 @@ settle w accept (refused number k q) = denied number 0 k q
 settle w accept (rooted r) = pick (hits w r) (proved (accept r)) (denied ROOTS-DIFFER 0 0 0)
 
 -- the proof of c at position i over h layers, with its root
-abbrev pub proofOf : Siblings → ℕ → ℕ → List ℕ → List ℕ → Proof
-proofOf σ h i c r = record { id = c; position = i; layers = h; root = r; made = strings (ascend σ 0 h i c) }
+abbrev pub proofBy : (List ℕ → List ℕ) → Siblings → ℕ → ℕ → List ℕ → List ℕ → Proof
+proofBy hash σ h i c r = record { id = c; position = i; layers = h; root = r; made = strings (ascendBy hash σ 0 h i c) }
 
 -- accepted when neither its reading nor its climb is refused, 16 included
-unfoldable pub judge : Reading → Verdict
-judge (unread number place) = denied number place 0 0
-judge (read σ h i c w) = settle w (proofOf σ h i c) (outcome c (ascend σ 0 h i c))
+unfoldable pub judgeBy : (List ℕ → List ℕ) → Reading → Verdict
+judgeBy hash (unread number place) = denied number place 0 0
+judgeBy hash (read σ h i c w) = settle w (proofBy hash σ h i c) (outcomeBy hash c (ascendBy hash σ 0 h i c))
 
 -- the strings of two climbs at the lowest layer where the hashes made are equal
 pub data Met : Type 0 where
   at : List ℕ → List ℕ → Met
   never : Met
 
-unfoldable pub meet : List (List ℕ) → List (List ℕ) → Met
-meet [] us = never
-meet (t ∷ ts) [] = never
-meet (t ∷ ts) (u ∷ us) = elim (same (sha256d t) (sha256d u)) [ true ↦ at t u | false ↦ meet ts us ]
-
-pub meet-left : (us : List (List ℕ)) → meet [] us ≡ never
-unfolding meet
-meet-left us = refl
-
-pub meet-right : (ts : List (List ℕ)) → meet ts [] ≡ never
-unfolding meet
-meet-right [] = refl
-meet-right (t ∷ ts) = refl
-
-module _ (t u : List ℕ) (ts us : List (List ℕ)) where
-  pub meet-here : same (sha256d t) (sha256d u) ≡ true → meet (t ∷ ts) (u ∷ us) ≡ at t u
-  unfolding meet
-  meet-here e = rw (meet, e)
-
-  pub meet-above : same (sha256d t) (sha256d u) ≡ false → meet (t ∷ ts) (u ∷ us) ≡ meet ts us
-  unfolding meet
-  meet-above e = rw (meet, e)
+unfoldable pub meetBy : (List ℕ → List ℕ) → List (List ℕ) → List (List ℕ) → Met
+meetBy hash [] us = never
+meetBy hash (t ∷ ts) [] = never
+meetBy hash (t ∷ ts) (u ∷ us) = elim (same (hash t) (hash u)) [ true ↦ at t u | false ↦ meetBy hash ts us ]
 
 pub data Answer : Type 0 where
   told : ℕ → ℕ → ℕ → ℕ → Answer
@@ -100,60 +82,103 @@ unfoldable pub alike : Proof → Proof → Bool
 alike x y = same (x .root) (y .root) && (eqb (x .position) (y .position) && eqb (x .layers) (y .layers))
 
 -- 23, then 24, then the strings
-unfoldable pub against : Proof → Proof → Answer
-against x y =
-    pick (alike x y) (pick (same (x .id) (y .id)) (told SAME-ID 0 0 0) (answerOf (meet (x .made) (y .made)))) (told UNLIKE 0 0 0)
+unfoldable pub againstBy : (List ℕ → List ℕ) → Proof → Proof → Answer
+againstBy hash x y =
+    pick (alike x y) (pick (same (x .id) (y .id)) (told SAME-ID 0 0 0) (answerOf (meetBy hash (x .made) (y .made)))) (told UNLIKE 0 0 0)
 
 -- the first proof's refusal, then the second's
-unfoldable pub compare : Verdict → Verdict → Answer
-compare (denied number place k q) v = told number place k q
-compare (proved x) (denied number place k q) = told number place k q
-compare (proved x) (proved y) = against x y
+unfoldable pub compareBy : (List ℕ → List ℕ) → Verdict → Verdict → Answer
+compareBy hash (denied number place k q) v = told number place k q
+compareBy hash (proved x) (denied number place k q) = told number place k q
+compareBy hash (proved x) (proved y) = againstBy hash x y
 
 -- t and u are two different strings of one hash, those of ts and us at the lowest layer where these meet
-pub record Collision (ts us : List (List ℕ)) (t u : List ℕ) : Type 0 where
+pub record CollisionBy (hash : List ℕ → List ℕ) (ts us : List (List ℕ)) (t u : List ℕ) : Type 0 where
   pub layer : ℕ
   pub below : layer < length ts
   pub first : getD ts layer [] ≡ t
   pub second : getD us layer [] ≡ u
   pub differ : t ≡ u → ⊥
-  pub equal : sha256d t ≡ sha256d u
-  pub lowest : (l : ℕ) → l < layer → sha256d (getD ts l []) ≡ sha256d (getD us l []) → ⊥
+  pub equal : hash t ≡ hash u
+  pub lowest : (l : ℕ) → l < layer → hash (getD ts l []) ≡ hash (getD us l []) → ⊥
+
+-- "Hash" is double SHA-256
+abbrev pub proofOf : Siblings → ℕ → ℕ → List ℕ → List ℕ → Proof
+proofOf = proofBy sha256d
+
+abbrev pub judge : Reading → Verdict
+judge = judgeBy sha256d
+
+abbrev pub meet : List (List ℕ) → List (List ℕ) → Met
+meet = meetBy sha256d
+
+abbrev pub against : Proof → Proof → Answer
+against = againstBy sha256d
+
+abbrev pub compare : Verdict → Verdict → Answer
+compare = compareBy sha256d
+
+abbrev pub Collision : (ts us : List (List ℕ)) (t u : List ℕ) → Type 0
+Collision = CollisionBy sha256d
+
+-- ---- laws: where two climbs meet
+
+pub meet-left : (us : List (List ℕ)) → meet [] us ≡ never
+unfolding meetBy
+meet-left us = refl
+
+pub meet-right : (ts : List (List ℕ)) → meet ts [] ≡ never
+unfolding meetBy
+meet-right [] = refl
+meet-right (t ∷ ts) = refl
+
+module _ (t u : List ℕ) (ts us : List (List ℕ)) where
+  pub meet-here : same (sha256d t) (sha256d u) ≡ true → meet (t ∷ ts) (u ∷ us) ≡ at t u
+  unfolding meetBy
+  meet-here e = rw (meetBy, e)
+
+  pub meet-above : same (sha256d t) (sha256d u) ≡ false → meet (t ∷ ts) (u ∷ us) ≡ meet ts us
+  unfolding meetBy
+  meet-above e = rw (meetBy, e)
 
 -- ---- laws: judging a proof that was read
 
 module _ (σ : Siblings) (h i : ℕ) (c : List ℕ) (w : Target) where
   pub judge-stop : (number k q : ℕ) → outcome c (ascend σ 0 h i c) ≡ refused number k q → judge (read σ h i c w) ≡ denied number 0 k q
-  unfolding judge settle
+  unfolding judgeBy settle
   judge-stop number k q e = rw e
 
   module _ (r : List ℕ) (e : outcome c (ascend σ 0 h i c) ≡ rooted r) where
     pub judge-root : hits w r ≡ true → judge (read σ h i c w) ≡ proved (proofOf σ h i c r)
-    unfolding judge settle
+    unfolding judgeBy settle
     judge-root f = rw (e, f)
 
     pub judge-differ : hits w r ≡ false → judge (read σ h i c w) ≡ denied ROOTS-DIFFER 0 0 0
-    unfolding judge settle
+    unfolding judgeBy settle
     judge-differ f = rw (e, f)
 
 -- a proof is judged by its climb
 pub judge-climb : (σ τ : Siblings) (h i : ℕ) (c : List ℕ) (w : Target) → ascend σ 0 h i c ≡ ascend τ 0 h i c → judge (read σ h i c w) ≡ judge (read τ h i c w)
-unfolding judge
+unfolding judgeBy
 judge-climb σ τ h i c w e = ap (λ (a : Ascent). settle w (λ r. record { id = c; position = i; layers = h; root = r; made = strings a }) (outcome c a)) e
 
 -- what an accepted proof is
-pub judge-proved : (σ : Siblings) (h i : ℕ) (c : List ℕ) (w : Target) (x : Proof) → judge (read σ h i c w) ≡ proved x
-    → (x ≡ proofOf σ h i c (x .root)) × (outcome c (ascend σ 0 h i c) ≡ rooted (x .root))
-unfolding judge settle
-judge-proved σ h i c w x e = go (outcome c (ascend σ 0 h i c)) e
+pub judge-proved-by : (hash : List ℕ → List ℕ) (σ : Siblings) (h i : ℕ) (c : List ℕ) (w : Target) (x : Proof) → judgeBy hash (read σ h i c w) ≡ proved x
+    → (x ≡ proofBy hash σ h i c (x .root)) × (outcomeBy hash c (ascendBy hash σ 0 h i c) ≡ rooted (x .root))
+unfolding judgeBy settle
+judge-proved-by hash σ h i c w x e = go (outcomeBy hash c (ascendBy hash σ 0 h i c)) e
   where
-    hit : (r : List ℕ) (b : Bool) → pick b (proved (proofOf σ h i c r)) (denied ROOTS-DIFFER 0 0 0) ≡ proved x → (x ≡ proofOf σ h i c (x .root)) × (rooted r ≡ rooted (x .root))
-    hit r true f = let y : proofOf σ h i c r ≡ x = cc in rw (← y) (refl, refl)
+    hit : (r : List ℕ) (b : Bool) → pick b (proved (proofBy hash σ h i c r)) (denied ROOTS-DIFFER 0 0 0) ≡ proved x → (x ≡ proofBy hash σ h i c (x .root)) × (rooted r ≡ rooted (x .root))
+    hit r true f = let y : proofBy hash σ h i c r ≡ x = cc in rw (← y) (refl, refl)
     hit r false f = let z : _≡_ {A = ℕ} 0 1 = cc in absurd (omega arith)
 
-    go : (o : Outcome) → settle w (proofOf σ h i c) o ≡ proved x → (x ≡ proofOf σ h i c (x .root)) × (o ≡ rooted (x .root))
+    go : (o : Outcome) → settle w (proofBy hash σ h i c) o ≡ proved x → (x ≡ proofBy hash σ h i c (x .root)) × (o ≡ rooted (x .root))
     go (rooted r) f = hit r (hits w r) f
     go (refused number k q) f = let z : _≡_ {A = ℕ} 0 1 = cc in absurd (omega arith)
+
+pub judge-proved : (σ : Siblings) (h i : ℕ) (c : List ℕ) (w : Target) (x : Proof) → judge (read σ h i c w) ≡ proved x
+    → (x ≡ proofOf σ h i c (x .root)) × (outcome c (ascend σ 0 h i c) ≡ rooted (x .root))
+judge-proved = judge-proved-by sha256d
 
 -- ---- laws: comparing
 
@@ -170,25 +195,25 @@ alike-told x y e =
 
 module _ (x y : Proof) where
   pub against-unlike : alike x y ≡ false → against x y ≡ told UNLIKE 0 0 0
-  unfolding against
+  unfolding againstBy
   against-unlike e = rw e
 
   pub against-same : alike x y ≡ true → same (x .id) (y .id) ≡ true → against x y ≡ told SAME-ID 0 0 0
-  unfolding against
+  unfolding againstBy
   against-same e f = rw (e, f)
 
   pub against-meet : alike x y ≡ true → same (x .id) (y .id) ≡ false → against x y ≡ answerOf (meet (x .made) (y .made))
-  unfolding against
+  unfolding againstBy
   against-meet e f = rw (e, f)
 
 pub compare-first : (v w : Verdict) (number place k q : ℕ) → v ≡ denied number place k q → compare v w ≡ told number place k q
-unfolding compare
+unfolding compareBy
 compare-first v w number place k q e = rw e
 
 pub compare-second : (v w : Verdict) (x : Proof) (number place k q : ℕ) → v ≡ proved x → w ≡ denied number place k q → compare v w ≡ told number place k q
-unfolding compare
+unfolding compareBy
 compare-second v w x number place k q e f = rw (e, f)
 
 pub compare-both : (v w : Verdict) (x y : Proof) → v ≡ proved x → w ≡ proved y → compare v w ≡ against x y
-unfolding compare
+unfolding compareBy
 compare-both v w x y e f = rw (e, f)

@@ -4,7 +4,7 @@ use mathlib.Core.Path.{_≡_, refl, sym, ap, ap₂, _∙_}
 use mathlib.Core.List.{List, []}
 use lib.ListN.{length, getD}
 use native.Mathlib.Omega.{arith}
-use Rattle.hash.specs.Sha256.{sha256d-length}
+use Rattle.hash.specs.Sha256.{sha256d, sha256d-length}
 use Rattle.format.specs.declared.level.Leaf.{Leaf}
 use Rattle.format.specs.declared.tsc.Subject.{Subject}
 use Rattle.format.specs.declared.path.Form.{Form}
@@ -16,8 +16,8 @@ use Rattle.format.specs.SearchLaws.{hash-at-length}
 use Rattle.format.specs.Bump.{bumpWhole}
 use Rattle.format.specs.Cmp.{cmpWhole}
 use Rattle.format.specs.Tsc.{tscWhole}
-use Rattle.spv.specs.Compare.{Reading, Proof, Verdict, denied, proved, judge, Answer, told, pair, compare, Collision}
-use Rattle.spv.specs.Collide.{WholeReading, Collided, demand3-whole, Colliding, compare-pair}
+use Rattle.spv.specs.Compare.{Reading, Proof, Verdict, denied, proved, judgeBy, judge, Answer, told, pair, compareBy, compare, Collision}
+use Rattle.spv.specs.Collide.{WholeReading, CollidedBy, Collided, demand3-whole, Colliding, compare-pair}
 use Rattle.spv.specs.Siblings.{levelSiblings, nodeSiblings, written-whole, sibling-whole}
 use Rattle.format.specs.Id.{subjectId}
 use Rattle.spv.specs.Readings.{readAs, starting, levelsReading, bumpReading, cmpReading, tscReading, reading}
@@ -60,14 +60,21 @@ reading-whole Form.Tsc s id = read-whole (tscWhole s) _ (λ t. (subject-long s (
 
 -- two proofs by their forms, bytes and lent ids
 module _ (f g : Form) (s t id jd : List ℕ) where
+  -- by any hash of 32 bytes
+  pub demand3-by : (hash : List ℕ → List ℕ) → ((l : List ℕ) → length (hash l) ≡ 32)
+      → (x y : Proof) → judgeBy hash (reading f s id) ≡ proved x → judgeBy hash (reading g t jd) ≡ proved y
+      → x .root ≡ y .root → x .position ≡ y .position → x .layers ≡ y .layers → (x .id ≡ y .id → ⊥)
+      → CollidedBy hash x y (compareBy hash (judgeBy hash (reading f s id)) (judgeBy hash (reading g t jd)))
+  demand3-by hash wide x y = demand3-whole hash wide (reading f s id) (reading g t jd) (reading-whole f s id) (reading-whole g t jd) x y
+
   pub demand3 : (x y : Proof) → judge (reading f s id) ≡ proved x → judge (reading g t jd) ≡ proved y
       → x .root ≡ y .root → x .position ≡ y .position → x .layers ≡ y .layers → (x .id ≡ y .id → ⊥)
       → Collided x y (compare (judge (reading f s id)) (judge (reading g t jd)))
-  demand3 x y = demand3-whole (reading f s id) (reading g t jd) (reading-whole f s id) (reading-whole g t jd) x y
+  demand3 = demand3-by sha256d sha256d-length
 
   -- the other way: a pair is answered only for two such proofs
   pub demand3-back : (u v : List ℕ) → compare (judge (reading f s id)) (judge (reading g t jd)) ≡ pair u v → Colliding (judge (reading f s id)) (judge (reading g t jd)) u v
-  demand3-back u v e = compare-pair (judge (reading f s id)) (judge (reading g t jd)) u v e
+  demand3-back u v e = compare-pair sha256d (judge (reading f s id)) (judge (reading g t jd)) u v e
 
 -- ---- the same of the code's answers
 

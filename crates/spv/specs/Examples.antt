@@ -10,7 +10,7 @@ use Rattle.format.specs.Bump.{Bump, blockField, heightField, bumpField, bumpWho
 use Rattle.format.specs.Search.{leastOffset}
 use Rattle.format.specs.Tsc.{indexFits}
 use Rattle.spv.specs.Climb.{beside, besides}
-use Rattle.spv.specs.Compare.{Verdict, denied, judge}
+use Rattle.spv.specs.Compare.{Verdict, denied, judgeBy, judge}
 use Rattle.spv.specs.Readings.{starting, levelsReading, bumpReading}
 
 pub data Input : Type 0 where
@@ -63,5 +63,5 @@ cases =
 
 -- every case answers what the table says
 pub examples : map (λ c. answerOf (c .input)) cases ≡ map (λ c. c .answer) cases
-unfolding answerOf cases varint byte bytes many each holds offsetField flagField kindField carriedField leafField levelField written blockField heightField bumpField whole leastOffset beside besides indexFits judge starting levelsReading bumpReading
+unfolding answerOf cases varint byte bytes many each holds offsetField flagField kindField carriedField leafField levelField written blockField heightField bumpField whole leastOffset beside besides indexFits judgeBy starting levelsReading bumpReading
 examples = refl

@@ -11,6 +11,7 @@ pub mod Surplus
 pub mod Position
 pub mod Examples
 pub mod Demand3
+pub mod PairExample
 pub mod Table
 pub mod TableLaws
 pub mod Bundle

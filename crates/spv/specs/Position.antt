@@ -28,7 +28,7 @@ use Rattle.format.specs.Cmp.{Cmp, cmpWhole}
 use Rattle.format.specs.Tsc.{Tsc, tscWhole, indexFits}
 use Rattle.format.specs.TscLaws.{TscRead, tsc-whole-told}
 use Rattle.format.specs.BumpLaws.{BumpRead, bump-whole-told, CmpRead, cmp-whole-told}
-use Rattle.spv.specs.Compare.{any, read, Proof, proved, judge, judge-proved}
+use Rattle.spv.specs.Compare.{any, read, Proof, proved, judgeBy, judge, judge-proved}
 use Rattle.spv.specs.Siblings.{levelSiblings, nodeSiblings}
 use Rattle.format.specs.Id.{subjectId}
 use Rattle.spv.specs.Readings.{read-proved, starting, levelsReading, bumpReading, cmpReading, tscTarget, tscReading, reading}
@@ -141,7 +141,7 @@ carrier s id o (leaf ∷ l) e = go (eqb (leaf .offset) o) refl (carries s id (le
 
 starting-told : (s id : List ℕ) (h n : ℕ) (levels : List (List Leaf)) (x : Start) → Below n (getD levels 0 []) → Least s id (getD levels 0 []) x → (p : Proof)
     → judge (starting (levelSiblings s levels) h id x) ≡ proved p → (p .position < n) × (p .layers ≡ h)
-unfolding starting Least judge
+unfolding starting Least judgeBy
 starting-told s id h n levels (At i) b l p e =
     let y = judge-proved (levelSiblings s levels) h i id any p e .0 in
     (rw (ap (λ (q : Proof). q .position) y) (carrier s id i (getD levels 0 []) (l .0) .below n b), ap (λ (q : Proof). q .layers) y)

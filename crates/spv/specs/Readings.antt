@@ -25,7 +25,7 @@ use Rattle.format.specs.Id.{subjectId}
 use Rattle.format.specs.IdLaws.{subjectHash, subject-hash}
 use Rattle.format.specs.Whole.{whole-size}
 use Rattle.spv.specs.Climb.{Siblings, ascend-same}
-use Rattle.spv.specs.Compare.{Target, any, targetOf, Reading, unread, read, Proof, proved, judge, judge-climb}
+use Rattle.spv.specs.Compare.{Target, any, targetOf, Reading, unread, read, Proof, proved, judgeBy, judge, judge-climb}
 use Rattle.spv.specs.Siblings.{sibling, levelSiblings, nodeSiblings, pathSiblings}
 
 -- a refusal of reading is the proof's
@@ -65,7 +65,7 @@ reading Form.Tsc s id = tscReading s
 
 -- an accepted proof was read
 pub read-proved : {A : Type 0} (x : Parse A) (f : A → Reading) (p : Proof) → judge (readAs x f) ≡ proved p → (a : A) × (q : ℕ) × (x ≡ got a q) × (judge (f a) ≡ proved p)
-unfolding judge
+unfolding judgeBy
 read-proved (got a q) f p e = (a, q, refl, e)
 read-proved (bad number place) f p e = let z : _≡_ {A = ℕ} 0 1 = cc in absurd (omega arith)
 

@@ -14,7 +14,7 @@ use Rattle.format.specs.Tsc.{Tsc, tscWhole, tscHeadOf, tellsRoot, targetRoot}
 use Rattle.format.specs.TscPath.{tscPathOf}
 use Rattle.format.specs.Bytes.{same}
 use Rattle.spv.specs.Climb.{Sibling, value, copied, absent, Step, joins, fails, Outcome, rooted, refused, ascend, strings}
-use Rattle.spv.specs.Compare.{targetOf, Reading, unread, read, Proof, Verdict, denied, proved, Met, at, never, hits, judge, proofOf, Answer, told, pair, answerOf, alike, against, compare, meet, judge-proved, alike-told, against-unlike, against-same, against-meet, compare-second, compare-both}
+use Rattle.spv.specs.Compare.{targetOf, Reading, unread, read, Proof, Verdict, denied, proved, Met, at, never, hits, judgeBy, judge, proofOf, Answer, told, pair, answerOf, alike, against, compareBy, compare, meet, judge-proved, alike-told, against-unlike, against-same, against-meet, compare-second, compare-both}
 use Rattle.spv.specs.Siblings.{pathSiblings}
 use Rattle.format.specs.IdLaws.{subjectHash}
 use Rattle.spv.specs.Readings.{tscTarget, tscReading, tsc-judge}
@@ -190,7 +190,7 @@ claimProof s x r = proofOf (pathSiblings s (x .path)) (x .path .layers) (x .posi
 
 -- a claim that is proved was read
 pub claimed-proved : (s : List ℕ) (x : Claim) (p : Proof) → judge (claimed s x) ≡ proved p → p ≡ claimProof s x (p .root)
-unfolding claimed claimedBy claimProof opened judge
+unfolding claimed claimedBy claimProof opened judgeBy
 claimed-proved s x p e = go (x .status) e
   where
     go : (t : Status) → judge (claimedBy (opened s x) t) ≡ proved p → p ≡ proofOf (pathSiblings s (x .path)) (x .path .layers) (x .position) (x .id) (p .root)
@@ -206,7 +206,7 @@ module _ (r : Proved) where
   told-accepted (proved p) i h e f = (p, refl, cc, cc, cc, cc)
 
   pub told-refused : (v w : Verdict) (f : Refusal) → r ≡ provedOf v → r .judged ≡ Refused f → refusedPair f ≡ comparedOf (compare v w)
-  unfolding provedOf acceptedOf comparedOf compare
+  unfolding provedOf acceptedOf comparedOf compareBy
   told-refused (denied number place k q) w f e g = let y : f ≡ refusalOf number place k q = cc in ap refusedPair y
   told-refused (proved p) w f e g = let z : _≡_ {A = ℕ} 0 1 = cc in absurd (omega arith)
 

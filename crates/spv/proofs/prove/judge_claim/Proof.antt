@@ -1,6 +1,6 @@
 use mathlib.Core.Path.{sym, refl, _∙_, ap}
 use borrow.Author.Needs.{needs}
-use Rattle.spv.specs.Compare.{Reading, judge}
+use Rattle.spv.specs.Compare.{Reading, judgeBy, judge}
 use Rattle.spv.specs.Shapes.{provedOf, claimed-read, claimed-unread}
 use Rattle.spv.proofs.prove.judge_claim.Statement.{statement}
 use Rattle.spv.proofs.prove.judge_claim.Tie as tie
@@ -23,7 +23,7 @@ returns c =
     c .settle .ensures ∙ sym (ap (λ (r : Reading). provedOf (judge r)) (claimed-read (a .s .now) (a .x) (c .before .enum-told .given .1)))
 
 returns-2 : tie.Need-returns-2
-unfolding judge
+unfolding judgeBy
 returns-2 c =
     let a = c .before .before .before .before .before .args in
     c .refused-proof .ensures ∙ sym (ap (λ (r : Reading). provedOf (judge r)) (claimed-unread (a .s .now) (a .x) _ _ (c .before .before .status .given .1) refl))
