@@ -14,8 +14,10 @@ use Rattle.format.specs.Bytes.{same}
 use Rattle.format.specs.Parse.{got, bad}
 use Rattle.format.specs.Refusals.{NOT-LISTED}
 use Rattle.format.specs.Search.{looseLeaf}
-use Rattle.spv.specs.Climb.{Siblings, Step, joins, fails, Ascent, step, odd, beside, ascend, outcomeBy, outcome, strings, turn-joins, turn-fails, turn-none}
-use Rattle.spv.specs.Compare.{targetOf, Target, any, at, never, meet, meet-left, meet-right, meet-here, meet-above}
+use Rattle.spv.specs.Climb.{Siblings, Step, joins, fails, Ascent, step, odd, beside, ascend, outcomeBy, outcome, strings}
+use Rattle.spv.specs.ClimbLaws.{turn-joins, turn-fails, turn-none}
+use Rattle.spv.specs.Compare.{targetOf, Target, any, at, never, meet}
+use Rattle.spv.specs.CompareLaws.{meet-left, meet-right, meet-here, meet-above}
 use Rattle.spv.specs.Shapes.{climbedOf, joinedOf, isJoins, is-joins, told-joins}
 use Rattle.spv.specs.Clients.{Wanted, rejected, afterLeaf, follow, closing, clientsIn, turn-leaf, turn-short, turn-last}
 use Rattle.spv.specs.ClientsShapes.{wantSays, shown, refusedCheck, checkedOf, told-goes, told-halts}

@@ -12,7 +12,8 @@ use Rattle.format.specs.Search.{leastOffset}
 use Rattle.format.specs.Bump.{Bump}
 use Rattle.format.specs.BumpLaws.{BumpRead}
 use Rattle.spv.specs.Siblings.{levelSiblings}
-use Rattle.spv.specs.Compare.{Proof, proved, judgeBy, judge, judge-proved, any}
+use Rattle.spv.specs.Compare.{Proof, proved, judgeBy, judge, any}
+use Rattle.spv.specs.CompareLaws.{judge-proved}
 use Rattle.spv.specs.Readings.{starting, levelsReading}
 use Rattle.spv.specs.Position.{levels-position, bump-below}
 use Rattle.spv.specs.Bundle.{proving}

@@ -15,7 +15,8 @@ use Rattle.format.specs.Refusals.{ROOTS-DIFFER}
 use Rattle.format.specs.Search.{hashAt}
 use Rattle.format.specs.Bump.{Bump, bumpWhole}
 use Rattle.spv.specs.Climb.{Siblings, ascend, Outcome, rooted, refused, outcome}
-use Rattle.spv.specs.Compare.{Target, any, exactly, hits, read, denied, proved, settle, proofOf, judgeBy, judge, judge-root}
+use Rattle.spv.specs.Compare.{Target, any, exactly, hits, read, denied, proved, settle, proofOf, judgeBy, judge}
+use Rattle.spv.specs.CompareLaws.{judge-root}
 use Rattle.spv.specs.Siblings.{levelSiblings}
 use Rattle.spv.specs.Clients.{Check, agreed, Wanted, wants, refuses, wantedBy, afterKind, afterLeaf, follow, closing, clients, checkAs, bumpClients}
 

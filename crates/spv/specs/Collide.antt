@@ -12,8 +12,10 @@ use Rattle.hash.specs.Sha256.{sha256d}
 use Rattle.format.specs.Bytes.{same, same-eq, same-ne, eq-same, ne-same}
 use Rattle.format.specs.Parse.{pick}
 use Rattle.format.specs.Refusals.{TWIN, UNLIKE, SAME-ID}
-use Rattle.spv.specs.Climb.{Sibling, value, copied, absent, Siblings, Step, joins, fails, Ascent, rooted, odd, beside, joined, step, ascendBy, outcomeBy, strings, ascendedBy}
-use Rattle.spv.specs.Compare.{Reading, unread, read, Proof, Verdict, denied, proved, judgeBy, Met, at, never, meetBy, Answer, told, pair, answerOf, alike, againstBy, compareBy, judge-proved-by, alike-told, CollisionBy}
+use Rattle.spv.specs.Climb.{Sibling, value, copied, absent, Siblings, Step, joins, fails, Ascent, rooted, odd, beside, joined, step, ascendBy, outcomeBy, strings}
+use Rattle.spv.specs.ClimbLaws.{ascendedBy}
+use Rattle.spv.specs.Compare.{Reading, unread, read, Proof, Verdict, denied, proved, judgeBy, Met, at, never, meetBy, Answer, told, pair, answerOf, alike, againstBy, compareBy, CollisionBy}
+use Rattle.spv.specs.CompareLaws.{judge-proved-by, alike-told}
 
 -- ---- what a hash of 32 bytes stands in
 

@@ -1,5 +1,7 @@
 pub mod Climb
+pub mod ClimbLaws
 pub mod Compare
+pub mod CompareLaws
 pub mod Collide
 pub mod Siblings
 pub mod Shapes

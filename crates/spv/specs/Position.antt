@@ -28,7 +28,8 @@ use Rattle.format.specs.Cmp.{Cmp, cmpWhole}
 use Rattle.format.specs.Tsc.{Tsc, tscWhole, indexFits}
 use Rattle.format.specs.TscLaws.{TscRead, tsc-whole-told}
 use Rattle.format.specs.BumpLaws.{BumpRead, bump-whole-told, CmpRead, cmp-whole-told}
-use Rattle.spv.specs.Compare.{any, read, Proof, proved, judgeBy, judge, judge-proved}
+use Rattle.spv.specs.Compare.{any, read, Proof, proved, judgeBy, judge}
+use Rattle.spv.specs.CompareLaws.{judge-proved}
 use Rattle.spv.specs.Siblings.{levelSiblings, nodeSiblings}
 use Rattle.format.specs.Id.{subjectId}
 use Rattle.spv.specs.Readings.{read-proved, starting, levelsReading, bumpReading, cmpReading, tscTarget, tscReading, reading}

@@ -24,8 +24,10 @@ use Rattle.format.specs.TscPathLaws.{tsc-leaf-in}
 use Rattle.format.specs.Id.{subjectId}
 use Rattle.format.specs.IdLaws.{subjectHash, subject-hash}
 use Rattle.format.specs.Whole.{whole-size}
-use Rattle.spv.specs.Climb.{Siblings, ascend-same}
-use Rattle.spv.specs.Compare.{Target, any, targetOf, Reading, unread, read, Proof, proved, judgeBy, judge, judge-climb}
+use Rattle.spv.specs.Climb.{Siblings}
+use Rattle.spv.specs.ClimbLaws.{ascend-same}
+use Rattle.spv.specs.Compare.{Target, any, targetOf, Reading, unread, read, Proof, proved, judgeBy, judge}
+use Rattle.spv.specs.CompareLaws.{judge-climb}
 use Rattle.spv.specs.Siblings.{sibling, levelSiblings, nodeSiblings, pathSiblings}
 
 -- a refusal of reading is the proof's

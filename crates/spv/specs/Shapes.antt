@@ -14,7 +14,8 @@ use Rattle.format.specs.Tsc.{Tsc, tscWhole, tscHeadOf, tellsRoot, targetRoot}
 use Rattle.format.specs.TscPath.{tscPathOf}
 use Rattle.format.specs.Bytes.{same}
 use Rattle.spv.specs.Climb.{Sibling, value, copied, absent, Step, joins, fails, Outcome, rooted, refused, ascend, strings}
-use Rattle.spv.specs.Compare.{targetOf, Reading, unread, read, Proof, Verdict, denied, proved, Met, at, never, hits, judgeBy, judge, proofOf, Answer, told, pair, answerOf, alike, against, compareBy, compare, meet, judge-proved, alike-told, against-unlike, against-same, against-meet, compare-second, compare-both}
+use Rattle.spv.specs.Compare.{targetOf, Reading, unread, read, Proof, Verdict, denied, proved, Met, at, never, hits, judgeBy, judge, proofOf, Answer, told, pair, answerOf, alike, against, compareBy, compare, meet}
+use Rattle.spv.specs.CompareLaws.{judge-proved, alike-told, against-unlike, against-same, against-meet, compare-second, compare-both}
 use Rattle.spv.specs.Siblings.{pathSiblings}
 use Rattle.format.specs.IdLaws.{subjectHash}
 use Rattle.spv.specs.Readings.{tscTarget, tscReading, tsc-judge}

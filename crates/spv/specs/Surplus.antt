@@ -16,8 +16,10 @@ use Rattle.format.specs.Parse.{got, pick}
 use Rattle.format.specs.Search.{carries, lesser, leastOffset}
 use Rattle.format.specs.Bump.{Bump, bumpWhole}
 use Rattle.format.specs.Cmp.{Cmp, cmpWhole}
-use Rattle.spv.specs.Climb.{Siblings, besides, ascend-agree}
-use Rattle.spv.specs.Compare.{any, judge, judge-climb}
+use Rattle.spv.specs.Climb.{Siblings, besides}
+use Rattle.spv.specs.ClimbLaws.{ascend-agree}
+use Rattle.spv.specs.Compare.{any, judge}
+use Rattle.spv.specs.CompareLaws.{judge-climb}
 use Rattle.spv.specs.Siblings.{levelSiblings}
 use Rattle.spv.specs.Readings.{starting, levelsReading, bumpReading, cmpReading, bump-read, cmp-read}
 

@@ -1,6 +1,6 @@
 use mathlib.Core.Path.{sym}
 use borrow.Author.Needs.{needs}
-use Rattle.spv.specs.Climb.{beside-odd, beside-even}
+use Rattle.spv.specs.ClimbLaws.{beside-odd, beside-even}
 use Rattle.spv.proofs.climb.beside_of.Statement.{statement}
 use Rattle.spv.proofs.climb.beside_of.Tie as tie
 

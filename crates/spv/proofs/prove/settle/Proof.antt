@@ -1,6 +1,6 @@
 use mathlib.Core.Path.{sym, _∙_, ap}
 use borrow.Author.Needs.{needs}
-use Rattle.spv.specs.Compare.{judge-stop, judge-root, judge-differ}
+use Rattle.spv.specs.CompareLaws.{judge-stop, judge-root, judge-differ}
 use Rattle.spv.specs.Shapes.{opened, provedOf, told-root, told-stop}
 use Rattle.spv.proofs.prove.settle.Statement.{statement}
 use Rattle.spv.proofs.prove.settle.Tie as tie
