@@ -239,9 +239,6 @@ module _ (s roots : List ℕ) (b : Beef) where
       said a n i (inl m) (x, y, z) r = rw (x, y, z) at r
       said a n i (inr c) (x, y, z) r = rw (x, y, z) at r
 
-  pub accepted-stands : (records : List Record) → judgeEntries s roots b ≡ accepted records → (k : ℕ) → k < length (b .entries) → Stands k
-  accepted-stands records e k low = let x = accepted-recorded records e k low in (x .0, x .1 .0)
-
   pub stands-accepted : ((k : ℕ) → k < length (b .entries) → Stands k) → (records : List Record) × (judgeEntries s roots b ≡ accepted records)
   unfolding judgeEntries
   stands-accepted f = all-accepted (entryId s) (standing s roots (b .bumps)) (entryRow s) emptyEntry blankRecord [] (b .entries) (λ k low. stands-passed k low (f k low))
