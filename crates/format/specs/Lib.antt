@@ -35,3 +35,11 @@ pub mod IdLaws
 pub mod Beef
 pub mod BeefAnswer
 pub mod BeefLaws
+pub mod Stands
+pub mod Spelling
+pub mod Digits
+pub mod VarintSpelling
+pub mod Page
+pub mod BumpBytes
+pub mod BumpSpelling
+pub mod BumpRoundTrip

@@ -1,4 +1,4 @@
-// Readers of the published layouts of Merkle proofs over lent bytes.
+// Readers of the published layouts of Merkle proofs over lent bytes, and writers of their fields.
 mod beef;
 mod bump;
 mod bytes;
@@ -7,6 +7,7 @@ mod field;
 mod id;
 mod level;
 mod node;
+pub mod page;
 mod path;
 pub mod refusal;
 mod tsc;

@@ -1,5 +1,4 @@
 pub mod Text
-pub mod Page
 pub mod TextLaws
 pub mod Listing
 pub mod Walk

@@ -11,7 +11,7 @@ use Rattle.format.specs.ParseLaws.{each-got, each-bad}
 use Rattle.format.specs.Bump.{Bump, bumpWhole, headOf}
 use Rattle.format.specs.BumpLaws.{bump-whole-told}
 use Rattle.listing.specs.Text.{ascii, decimal, line}
-use Rattle.listing.specs.Page.{Page, page, writeOn, filled, wrote-then, write-whole}
+use Rattle.format.specs.Page.{Page, page, writeOn, filled, wrote-then, write-whole}
 use Rattle.listing.specs.Listing.{LISTED-BYTES, levelLines, bumpLines, refusedLine, report, listing}
 use Rattle.listing.specs.Walk.{Walk, walkLevels, levels-walked}
 

@@ -9,7 +9,7 @@ use lib.Dec.{ltb}
 use native.Mathlib.Omega.{arith}
 use native.Mathlib.Numerals.{add-one}
 use borrow.Author.Tests.{le-ltb, lt-ltb, ltb-false}
-use Rattle.listing.specs.Page.{Page, putOn, writeOn, write-one, wrote-then}
+use Rattle.format.specs.Page.{Page, putOn, writeOn, write-one, wrote-then}
 use Rattle.listing.specs.Text.{digit, digits, decimal, hex, printed}
 
 pub digit-low : (d : ℕ) → d < 10 → digit d ≡ 48 + d

@@ -14,7 +14,7 @@ use Rattle.format.specs.Field.{varint}
 use Rattle.format.specs.Level.{written, levelInTurn, nextTurn}
 use Rattle.format.specs.Search.{looseLeaf, looseLevel}
 use Rattle.format.specs.SearchLaws.{level-loose, level-walk}
-use Rattle.listing.specs.Page.{Page, writeOn, write-none, write-then}
+use Rattle.format.specs.Page.{Page, writeOn, write-none, write-then}
 use Rattle.listing.specs.Listing.{leafLine, leafLines, levelLine, levelLines}
 
 -- what was written, and the place where reading goes on

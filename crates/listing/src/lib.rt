@@ -4,18 +4,18 @@ mod text;
 
 use format::BumpAnswer;
 use format::Refusal;
+use format::page::write;
 use format::read_bump;
 use format::refusal::TOO_LONG;
 use lines::number_line;
 use lines::write_levels;
 use lines::write_refusal;
-use text::write;
 ghost use mathlib.Core.Path.{_≡_};
 ghost use Prim.Native.Nat.{min};
 ghost use lib.ListN.{length};
 ghost use Rattle.format.specs.Bump.{bumpWhole};
 ghost use Rattle.listing.specs.Listing.{listing, report};
-ghost use Rattle.listing.specs.Page.{page, writeOn, filled};
+ghost use Rattle.format.specs.Page.{page, writeOn, filled};
 
 // The bytes of a BUMP that are listed; more are refused.
 pub const LISTED_BYTES: usize = 65536;

@@ -1,5 +1,4 @@
 // The lines of a listing.
-use super::text::write;
 use super::text::write_decimal;
 use super::text::write_hash;
 use format::Cursor;
@@ -11,12 +10,13 @@ use format::Number;
 use format::Refusal;
 use format::hash_at;
 use format::leaf_at;
+use format::page::write;
 use format::read_varint;
 ghost use mathlib.Core.Path.{_≡_};
 ghost use mathlib.Core.List.{_++_};
 ghost use Rattle.listing.specs.Text.{decimal, line};
 ghost use Rattle.listing.specs.Listing.{kindText, leafLine, levelLine, refusedLine};
-ghost use Rattle.listing.specs.Page.{page, writeOn};
+ghost use Rattle.format.specs.Page.{page, writeOn};
 ghost use Rattle.listing.specs.Walk.{walk, walkLeaves, walkLevel, walkLevels};
 
 // Where the next byte goes, and where reading goes on.

@@ -1,31 +1,10 @@
 // Text written into lent memory: bytes, numbers in decimal, hashes in hex. Each function takes the place of the next byte and
 // answers the place after its text; bytes that find no room are dropped.
+use format::page::put;
 ghost use mathlib.Core.Path.{_≡_};
 ghost use Prim.Native.Nat.{_<_};
 ghost use Rattle.listing.specs.Text.{digit as digitOf, decimal, printed};
-ghost use Rattle.listing.specs.Page.{page, putOn, writeOn};
-
-pub fn put(out: &mut [u8], at: usize, b: u8) -> usize
-    ensures { λ r. ⌜ page (now (out .exit)) r ≡ putOn (page (now (out .entry)) at) b ⌝ }
-{
-    if at < out.len() {
-        out[at] = b;
-        return at + 1;
-    }
-    at
-}
-
-pub fn write(out: &mut [u8], at: usize, text: &[u8]) -> usize
-    ensures { λ r. ⌜ page (now (out .exit)) r ≡ writeOn (page (now (out .entry)) at) (now (text .entry)) ⌝ }
-{
-    let mut next = at;
-    let mut i = 0;
-    while i < text.len() {
-        next = put(out, next, text[i]);
-        i += 1;
-    }
-    next
-}
+ghost use Rattle.format.specs.Page.{page, writeOn};
 
 fn digit(d: u64) -> u8
     requires { ⌜ d < 16 ⌝ }

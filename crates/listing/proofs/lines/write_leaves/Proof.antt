@@ -5,7 +5,7 @@ use borrow.Author.Needs.{needs}
 use lib.ListN.{length}
 use Rattle.format.specs.ParseLaws.{answered}
 use Rattle.format.specs.LevelAnswer.{leafOf}
-use Rattle.listing.specs.Page.{page}
+use Rattle.format.specs.Page.{page}
 use Rattle.listing.specs.Walk.{walkLeaves, leaves-start, leaves-more, leaves-refused, leaves-done}
 use Rattle.listing.proofs.lines.write_leaves.Statement.{statement}
 use Rattle.listing.proofs.lines.write_leaves.Tie as tie

@@ -3,7 +3,7 @@ use Prim.Native.Nat.{_-_, _≤_}
 use native.Mathlib.Omega.{arith}
 use borrow.Author.Needs.{needs}
 use lib.ListN.{length}
-use Rattle.listing.specs.Page.{page}
+use Rattle.format.specs.Page.{page}
 use Rattle.listing.specs.Walk.{Walk, walkLevels, levels-start, levels-more, levels-done}
 use Rattle.listing.proofs.lines.write_levels.Statement.{statement}
 use Rattle.listing.proofs.lines.write_levels.Tie as tie

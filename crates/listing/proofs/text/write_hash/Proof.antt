@@ -5,7 +5,7 @@ use borrow.Author.Needs.{needs}
 use lib.ListN.{length, take}
 use Rattle.listing.specs.Text.{printed}
 use Rattle.listing.specs.TextLaws.{printed-start, printed-on, printed-end}
-use Rattle.listing.specs.Page.{page, writeOn}
+use Rattle.format.specs.Page.{page, writeOn}
 use Rattle.listing.proofs.text.write_hash.Statement.{statement}
 use Rattle.listing.proofs.text.write_hash.Tie as tie
 

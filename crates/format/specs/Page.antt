@@ -1,14 +1,16 @@
 -- Writing into lent memory: a byte is stored while there is room, and dropped after that.
 use mathlib.Core.Path.{_≡_, refl, sym, ap, _∙_}
 use mathlib.Core.List.{List, [], _∷_, _++_}
-use Prim.Native.Nat.{ℕ, suc, _+_, _<_, _≤_, min}
+use Prim.Native.Nat.{ℕ, suc, _+_, _-_, _/_, _%_, _<_, _≤_, min}
+use native.Mathlib.Nat.{sub-zero}
+use Rattle.format.specs.Digits.{little}
 use lib.ListN.{length, set, take, drop, getD, length-append, drop-of-length-le}
 use lib.Seq.{drop-cons, set-append-seam, append-snoc, take-nil}
 use lib.Dec.{ltb}
 use native.Mathlib.Omega.{arith}
 use native.Mathlib.Numerals.{add-one}
 use borrow.Author.Tests.{le-ltb, lt-ltb}
 use Rattle.format.specs.Parse.{pick}
 
 -- the memory, and where the next byte goes
 pub record Page : Type 0 where
@@ -88,3 +90,35 @@ write-after x (y ∷ o) (b ∷ text) =
 -- a text written from the start
 pub write-whole : (o text : List ℕ) → writeOn (page o 0) text ≡ page (filled o text) (min (length o) (length text))
 write-whole o text = write-after [] o text ∙ page-same refl (omega arith)
+
+-- bytes of a number one by one, from its little end
+pub little-start : (p : Page) (w n : ℕ) → writeOn p (little w n) ≡ writeOn p (little (w - 0) n)
+little-start p w n = rw (sub-zero w)
+
+pub little-on : (p : Page) (w i rest : ℕ) {q : Page} → i < w → q ≡ putOn p (rest % 256) → writeOn p (little (w - i) rest) ≡ writeOn q (little (w - (i + 1)) (rest / 256))
+unfolding writeOn little
+little-on p w i rest h e = let f : w - i ≡ suc (w - (i + 1)) = omega (arith, add-one (w - (i + 1))) in rw f (ap (λ (x : Page). writeOn x (little (w - (i + 1)) (rest / 256))) (sym e))
+
+pub little-end : (p : Page) (w i rest : ℕ) → w ≤ i → writeOn p (little (w - i) rest) ≡ p
+unfolding writeOn little
+little-end p w i rest h = let f : w - i ≡ 0 = omega arith in rw f
+
+-- a byte, then more
+pub write-cons : (p : Page) (b : ℕ) (text : List ℕ) {q r : Page} → q ≡ putOn p b → r ≡ writeOn q text → r ≡ writeOn p (b ∷ text)
+unfolding writeOn
+write-cons p b text e f = f ∙ ap (λ (x : Page). writeOn x text) e
+
+-- the same, of a text whose length is known
+pub write-on-of : (p : Page) (text : List ℕ) (i : ℕ) {q : Page} {n : ℕ} → length text ≡ n → i < n → q ≡ putOn p (getD text i 0) → writeOn p (drop i text) ≡ writeOn q (drop (i + 1) text)
+write-on-of p text i l h e = write-on p text i (omega arith) e
+
+pub write-end-of : (p : Page) (text : List ℕ) (i : ℕ) {n : ℕ} → length text ≡ n → n ≤ i → writeOn p (drop i text) ≡ p
+write-end-of p text i l h = write-end p text i (omega arith)
+
+-- a text that is known to be a byte, and a byte and more
+pub wrote-byte : (p : Page) (b : ℕ) {text : List ℕ} {q : Page} → text ≡ b ∷ [] → q ≡ putOn p b → q ≡ writeOn p text
+unfolding writeOn
+wrote-byte p b e f = rw e f
+
+pub wrote-cons : (p : Page) (b : ℕ) (more : List ℕ) {text : List ℕ} {q r : Page} → text ≡ b ∷ more → q ≡ putOn p b → r ≡ writeOn q more → r ≡ writeOn p text
+wrote-cons p b more e f g = rw e (write-cons p b more f g)

@@ -3,9 +3,9 @@ use Prim.Native.Nat.{_≤_, _-_}
 use native.Mathlib.Omega.{arith}
 use borrow.Author.Needs.{needs}
 use lib.ListN.{length, drop}
-use Rattle.listing.specs.Page.{page, writeOn, write-on, write-end}
-use Rattle.listing.proofs.text.write.Statement.{statement}
-use Rattle.listing.proofs.text.write.Tie as tie
+use Rattle.format.specs.Page.{page, writeOn, write-on, write-end}
+use Rattle.format.proofs.page.write.Statement.{statement}
+use Rattle.format.proofs.page.write.Tie as tie
 
 abbrev Inv-loop : tie.InvT-loop
 Inv-loop out₀ at text next₀ i₀ out next i =
