@@ -1,0 +1,12 @@
+use borrow.Author.Needs.{needs}
+use mathlib.Core.Path.{_≡_, refl, sym, ap, ap₂, _∙_}
+use Rattle.encoder.specs.BlockBump.{writtenOf}
+use Rattle.encoder.proofs.block.refused.Statement.{statement}
+use Rattle.encoder.proofs.block.refused.Tie as tie
+
+returns : tie.Need-returns
+unfolding writtenOf
+returns c = refl
+
+pub refused-spec : {M : Type 1} → statement M
+refused-spec = tie.close (tie.spec returns)

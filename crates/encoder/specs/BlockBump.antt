@@ -1,0 +1,138 @@
+-- BUMPs from a block's ids (02, Item 1).
+use mathlib.Core.Path.{_≡_}
+use mathlib.Core.Bool.{Bool, true, false, _&&_, _||_, not}
+use mathlib.Core.List.{List, [], _∷_, _++_}
+use mathlib.Core.Option.{Option, none, some}
+use Prim.Native.Nat.{ℕ, zero, suc, _+_, _-_, _^_, _/_, _%_, _≤_, _<_}
+use lib.ListN.{length, getD, drop}
+use lib.Dec.{ltb, leb, eqb}
+use Rattle.format.specs.declared.level.Leaf.{Leaf}
+use Rattle.format.specs.declared.path.Found.{Found}
+use Rattle.format.specs.declared.path.Found.the-variants.{Here, Missing}
+use Rattle.format.specs.Parse.{pick, got}
+use Rattle.format.specs.Search.{lookup}
+use Rattle.format.specs.Bump.{Bump, bumpWhole}
+use Rattle.format.specs.Refusals.{OVER-LIMIT, NOT-LISTED, BAD-OFFSET, SAME-TX, TWIN, NO-ROOM, MAX-BLOCK}
+use Rattle.spv.specs.Climb.{beside, Outcome, rooted, refused}
+use Rattle.spv.specs.Bundle.{hashesOf, among}
+use Rattle.format.specs.BumpBytes.{Carried, plain, copy, client, Entry, Content, bumpBytes, carriedOf}
+use Rattle.encoder.specs.declared.block.Written.{Written}
+use Rattle.encoder.specs.declared.block.Written.the-variants.{Bytes, Refused}
+use Rattle.encoder.specs.Tree.{size, node, height, treeClimb}
+
+-- ---- which leaves
+
+-- a chosen position lies under position j of layer k: its climb passes there
+unfoldable pub under : List ℕ → ℕ → ℕ → Bool
+under [] k j = false
+under (i ∷ chosen) k j = eqb (i / 2 ^ k) j || under chosen k j
+
+-- which of the siblings needed are left out: none
+unfoldable pub leftOut : List ℕ → ℕ → ℕ → Bool
+leftOut chosen k o = false
+
+-- a sibling: a node, or where a layer has an odd number of nodes the copy of its last one, past its end
+unfoldable pub siblingAt : List (List ℕ) → ℕ → ℕ → Carried
+siblingAt ids k o = pick (ltb o (size ids k)) (plain (node ids k o)) copy
+
+-- what is asked for at an offset of a level: "chosen ids with flags 02, and every sibling their climbs need, nothing more"
+unfoldable pub asked : List (List ℕ) → List ℕ → ℕ → ℕ → Option Carried
+asked ids chosen k o =
+    pick (eqb k 0 && under chosen 0 o) (some (client (node ids 0 o)))
+    (pick (under chosen k (beside o) && not (leftOut chosen k o)) (some (siblingAt ids k o)) none)
+
+-- "offsets rising": the leaves asked for at n offsets from o on
+unfoldable pub rising : (ℕ → Option Carried) → ℕ → ℕ → List Entry
+rising f o zero = []
+rising f o (suc n) = elim (f o) [ none ↦ rising f (o + 1) n | some c ↦ record { offset = o; carried = c } ∷ rising f (o + 1) n ]
+
+-- a level k of h has offsets below 2 ^ (h - k)
+abbrev pub levelFor : List (List ℕ) → List ℕ → ℕ → ℕ → List Entry
+levelFor ids chosen h k = rising (asked ids chosen k) 0 (2 ^ (h - k))
+
+unfoldable pub levelsFor : List (List ℕ) → List ℕ → ℕ → ℕ → ℕ → List (List Entry)
+levelsFor ids chosen h k zero = []
+levelsFor ids chosen h k (suc n) = levelFor ids chosen h k ∷ levelsFor ids chosen h (k + 1) n
+
+-- the BUMP of the chosen positions of a list
+unfoldable pub blockBump : ℕ → List (List ℕ) → List ℕ → Content
+blockBump block ids chosen = record { block = block; height = height ids; levels = levelsFor ids chosen (height ids) 0 (height ids) }
+
+-- ---- the call
+
+-- a block height or list outside the sizes, or a list that isn't whole ids
+unfoldable pub sized : ℕ → List ℕ → Bool
+sized block list = leb block MAX-BLOCK && (eqb (length list % 32) 0 && (leb 2 (length list / 32) && leb (length list / 32) 1024))
+
+unfoldable pub noneChosen : List ℕ → Bool
+noneChosen [] = true
+noneChosen (i ∷ chosen) = false
+
+unfoldable pub allBelow : ℕ → List ℕ → Bool
+allBelow n [] = true
+allBelow n (i ∷ chosen) = ltb i n && allBelow n chosen
+
+unfoldable pub distinct : List (List ℕ) → Bool
+distinct [] = true
+distinct (x ∷ l) = not (among x l) && distinct l
+
+unfoldable pub reaches : Outcome → Bool
+reaches (rooted r) = true
+reaches (refused number k q) = false
+
+unfoldable pub allReach : List (List ℕ) → List ℕ → Bool
+allReach ids [] = true
+allReach ids (i ∷ chosen) = reaches (treeClimb ids i) && allReach ids chosen
+
+-- what a call comes to: the bytes of a BUMP, or a refusal
+pub data Writing : Type 0 where
+  writes : List ℕ → Writing
+  refuses : ℕ → Writing
+
+-- 22 exactly when the bytes needed exceed the room lent
+unfoldable pub roomFor : ℕ → List ℕ → Writing
+roomFor room bytes = pick (leb (length bytes) room) (writes bytes) (refuses NO-ROOM)
+
+-- a block height, a list, chosen positions and the room lent: the refusals in their order
+unfoldable pub writing : ℕ → List ℕ → List ℕ → ℕ → Writing
+writing block list chosen room =
+    pick (not (sized block list)) (refuses OVER-LIMIT)
+    (pick (noneChosen chosen) (refuses NOT-LISTED)
+    (pick (not (allBelow (length list / 32) chosen)) (refuses BAD-OFFSET)
+    (pick (not (distinct (hashesOf list))) (refuses SAME-TX)
+    (pick (not (allReach (hashesOf list) chosen)) (refuses TWIN)
+    (roomFor room (bumpBytes (blockBump block (hashesOf list) chosen)))))))
+
+-- the answer: how many bytes were written, or the refusal, carrying 0
+unfoldable pub writtenOf : Writing → Written
+writtenOf (writes bytes) = Bytes (length bytes)
+writtenOf (refuses number) = Refused (record { number = number; place = 0 })
+
+-- what the memory lent holds then: "each leaves the output as it was"; bytes past the written ones stay
+unfoldable pub outputAfter : Writing → List ℕ → List ℕ
+outputAfter (writes bytes) out = bytes ++ drop (length bytes) out
+outputAfter (refuses number) out = out
+
+-- ---- the rules that bytes meet
+
+-- the leaf that was read at an offset, with its hash
+unfoldable pub foundAs : List ℕ → Found → Option Carried
+foundAs s (Here kind) = some (carriedOf s kind)
+foundAs s Missing = none
+
+-- offsets rising
+unfoldable pub Rising : List Leaf → Type 0
+Rising [] = Unit
+Rising (a ∷ []) = Unit
+Rising (a ∷ (b ∷ l)) = (a .offset < b .offset) × Rising (b ∷ l)
+
+-- bytes that are read as a BUMP of that block height, of the least tree height that holds the list, offsets rising, with exactly the leaves asked for
+pub record Meets (block : ℕ) (ids : List (List ℕ)) (chosen : List ℕ) (s : List ℕ) : Type 0 where
+  pub bump : Bump
+  pub end : ℕ
+  pub read : bumpWhole s ≡ got bump end
+  pub of-block : bump .block ≡ block
+  pub holds-list : length ids ≤ 2 ^ bump .height
+  pub least : (h : ℕ) → length ids ≤ 2 ^ h → bump .height ≤ h
+  pub rises : (k : ℕ) → k < bump .height → Rising (getD (bump .levels) k [])
+  pub leaves : (k o : ℕ) → k < bump .height → o < 2 ^ (bump .height - k) → foundAs s (lookup o (getD (bump .levels) k [])) ≡ asked ids chosen k o

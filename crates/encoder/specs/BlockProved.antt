@@ -1,0 +1,275 @@
+-- "Reading it back proves each chosen id at its position to the list's root" (02, Item 1).
+use mathlib.Core.Path.{_≡_, refl, sym, ap, ap₂, _∙_, subst}
+use mathlib.Core.Bool.{Bool, true, false, _&&_, _||_, not}
+use mathlib.Core.List.{List, [], _∷_, _++_, map}
+use mathlib.Core.Option.{Option, none, some}
+use Prim.Native.Nat.{ℕ, zero, suc, _+_, _-_, _*_, _^_, _/_, _%_, _≤_, _<_}
+use lib.ListN.{length, getD}
+use lib.Dec.{ltb, eqb}
+use lib.Pow.{pow-add, pow-pos, shr-shr, shr-lt}
+use native.Mathlib.Omega.{arith}
+use native.Mathlib.Nat.{zero-add, add-zero, div-one, pow-suc}
+use borrow.Author.Tests.{eqb-true, eqb-false, eq-eqb, ne-eqb, lt-ltb, ltb-true, ltb-false, not-true}
+use Rattle.format.specs.declared.level.Kind.{Kind}
+use Rattle.format.specs.declared.level.Kind.the-variants.{Plain, Copy, Client}
+use Rattle.format.specs.declared.level.Leaf.{Leaf}
+use Rattle.format.specs.declared.path.Found.{Found}
+use Rattle.format.specs.declared.path.Found.the-variants.{Here, Missing}
+use Rattle.format.specs.declared.path.Start.{Start}
+use Rattle.format.specs.declared.path.Start.the-variants.{At, Nowhere}
+use Rattle.format.specs.Parse.{pick}
+use Rattle.format.specs.Bytes.{same, same-eq, same-refl, eq-same}
+use Rattle.format.specs.Level.{holds}
+use Rattle.format.specs.Search.{hashAt, lookup, carries, leastOffset}
+use Rattle.format.specs.Bump.{Bump}
+use Rattle.spv.specs.Bundle.{among}
+use Rattle.spv.specs.Climb.{Sibling, value, copied, Siblings, beside, besides, ascend, Outcome, rooted, outcome}
+use Rattle.spv.specs.ClimbLaws.{beside-odd, beside-even, ascend-agree}
+use Rattle.spv.specs.Compare.{any, read, hits, Proof, proved, proofOf, judge}
+use Rattle.spv.specs.CompareLaws.{judge-climb, judge-root}
+use Rattle.spv.specs.Siblings.{written, sibling, levelSiblings}
+use Rattle.spv.specs.Readings.{starting, levelsReading, bumpReading, bump-read}
+use Rattle.spv.specs.Surplus.{carriedAt, Least, least-is}
+use Rattle.format.specs.BumpBytes.{Carried, plain, copy, client, Entry, bumpBytes, carriedOf, entryOf}
+use Rattle.encoder.specs.Tree.{layer, size, node, height, root, treeSiblings, treeClimb}
+use Rattle.encoder.specs.TreeLaws.{height-holds}
+use Rattle.encoder.specs.TreeClimb.{climb-roots}
+use Rattle.encoder.specs.BlockBump.{under, leftOut, siblingAt, asked, rising, levelFor, blockBump, distinct, reaches, foundAs}
+use Rattle.encoder.specs.RisingLaws.{at-offset, rising-none, rising-some}
+use Rattle.encoder.specs.BlockFit.{Sizes, high, under-chosen, under-size, Asking, as-client, as-sibling, asked-told}
+use Rattle.encoder.specs.BlockMeets.{ReadBack, read-back, height-back, level-back, leaf-back}
+
+absurd-bool : {X : Type 0} → true ≡ false → X
+absurd-bool e = absurd (let z : _≡_ {A = ℕ} 0 1 = cc in omega arith)
+
+-- ---- siblings
+
+pub beside-beside : (j : ℕ) → beside (beside j) ≡ j
+beside-beside j = go (eqb (j % 2) 1) refl
+  where
+    go : (t : Bool) → eqb (j % 2) 1 ≡ t → beside (beside j) ≡ j
+    go true e = let o = eqb-true (j % 2) 1 e in rw (beside-odd j o, beside-even (j - 1) (λ q. omega arith)) (omega arith)
+    go false e = let o = eqb-false (j % 2) 1 e in rw (beside-even j o, beside-odd (j + 1) (omega arith)) (omega arith)
+
+pub besides-at : (h i m : ℕ) → m < h → getD (besides i h) m 0 ≡ beside (i / 2 ^ m)
+unfolding besides
+besides-at zero i m b = absurd (omega arith)
+besides-at (suc h) i zero b = ap beside (sym (div-one i))
+besides-at (suc h) i (suc m) b = besides-at h (i / 2) m (omega arith) ∙ ap beside (shr-shr i 1 m ∙ ap (λ (n : ℕ). i / 2 ^ n) (omega arith))
+
+-- a sibling lies in its level
+beside-below : (j n : ℕ) → j < 2 ^ suc n → beside j < 2 ^ suc n
+beside-below j n b = go (eqb (j % 2) 1) refl
+  where
+    go : (t : Bool) → eqb (j % 2) 1 ≡ t → beside j < 2 ^ suc n
+    go true e = rw (beside-odd j (eqb-true (j % 2) 1 e)) (omega arith)
+    go false e = rw (beside-even j (eqb-false (j % 2) 1 e)) (let o = eqb-false (j % 2) 1 e in let p = pow-suc 2 n in omega arith)
+
+-- what a leaf gives a climb
+unfoldable asSibling : Carried → Sibling
+asSibling (plain h) = value h
+asSibling copy = copied
+asSibling (client h) = value h
+
+found-sibling : (s : List ℕ) (x : Found) (c : Carried) → foundAs s x ≡ some c → sibling s x ≡ asSibling c
+unfolding foundAs sibling written asSibling carriedOf
+found-sibling s (Here (Plain p)) c e = let k : plain (hashAt s p) ≡ c = cc in ap asSibling k
+found-sibling s (Here Copy) c e = let k : copy ≡ c = cc in ap asSibling k
+found-sibling s (Here (Client p)) c e = let k : client (hashAt s p) ≡ c = cc in ap asSibling k
+found-sibling s Missing c e = absurd (let z : _≡_ {A = ℕ} 0 1 = cc in omega arith)
+
+-- ---- the sibling that a chosen climb needs is written, and is the tree's. (Item 3 changes this law, and none other here.)
+needed-written : {block : ℕ} {ids : List (List ℕ)} {chosen : List ℕ} → Sizes block ids chosen → (k q : ℕ) → under chosen k (beside q) ≡ true
+    → (c : Carried) × (asked ids chosen k q ≡ some c) × (asSibling c ≡ treeSiblings ids k q)
+unfolding asked leftOut siblingAt asSibling treeSiblings
+needed-written {block} {ids} {chosen} g k q n = go (eqb k 0) refl (under chosen 0 q) refl
+  where
+    tree : (t : Bool) → asSibling (pick t (plain (node ids k q)) copy) ≡ pick t (value (node ids k q)) copied
+    tree true = refl
+    tree false = refl
+
+    inner : (a : Bool) → pick (a && true) (value (node ids k q)) copied ≡ pick a (value (node ids k q)) copied
+    inner true = refl
+    inner false = refl
+
+    go : (a : Bool) → eqb k 0 ≡ a → (b : Bool) → under chosen 0 q ≡ b → (c : Carried) × (asked ids chosen k q ≡ some c) × (asSibling c ≡ treeSiblings ids k q)
+    go true ea true eb =
+        let z = eqb-true k 0 ea in
+        (client (node ids 0 q), rw (asked, ea, eb), rw (z, lt-ltb q (size ids 0) (under-size g 0 q eb)))
+    go true ea false eb = (siblingAt ids k q, rw (asked, ea, eb, n), tree (ltb q (size ids k)))
+    go false ea b eb = (siblingAt ids k q, rw (asked, ea, n), tree (ltb q (size ids k)))
+
+-- ---- where an id is carried
+
+unfoldable carriesAs : List ℕ → Carried → Bool
+carriesAs id (plain h) = same h id
+carriesAs id copy = false
+carriesAs id (client h) = same h id
+
+unfoldable carriesAny : List ℕ → Option Carried → Bool
+carriesAny id none = false
+carriesAny id (some c) = carriesAs id c
+
+unfoldable carriedIn : List ℕ → ℕ → List Entry → Bool
+carriedIn id o [] = false
+carriedIn id o (e ∷ l) = (eqb (e .offset) o && carriesAs id (e .carried)) || carriedIn id o l
+
+kind-carries : (s id : List ℕ) (k : Kind) → carries s id k ≡ carriesAs id (carriedOf s k)
+unfolding carries carriesAs carriedOf
+kind-carries s id (Plain p) = refl
+kind-carries s id Copy = refl
+kind-carries s id (Client p) = refl
+
+carried-says : (s id : List ℕ) (o : ℕ) (l : List Leaf) → carriedAt s id o l ≡ carriedIn id o (map (entryOf s) l)
+unfolding carriedAt carriedIn
+carried-says s id o [] = refl
+carried-says s id o (leaf ∷ l) = ap₂ (λ (a b : Bool). (eqb (leaf .offset) o && a) || b) (kind-carries s id (leaf .kind)) (carried-says s id o l)
+
+-- a leaf that carries the id is one asked for
+carried-asked : (id : List ℕ) (f : ℕ → Option Carried) (n o x : ℕ) → carriedIn id x (rising f o n) ≡ true → carriesAny id (f x) ≡ true
+unfolding rising carriedIn carriesAny
+carried-asked id f zero o x e = absurd-bool (sym e)
+carried-asked id f (suc n) o x e = go (f o) refl (λ k. carried-asked id f n (o + 1) x k)
+  where
+    first : (c : Carried) → f o ≡ some c → (a : Bool) → eqb o x ≡ a → (b : Bool) → carriesAs id c ≡ b → ((a && b) || carriedIn id x (rising f (o + 1) n)) ≡ true
+        → (carriedIn id x (rising f (o + 1) n) ≡ true → carriesAny id (f x) ≡ true) → carriesAny id (f x) ≡ true
+    first c q true ea true eb m r = rw (← (eqb-true o x ea), q) eb
+    first c q true ea false eb m r = r m
+    first c q false ea b eb m r = r m
+
+    go : (v : Option Carried) → f o ≡ v → (carriedIn id x (rising f (o + 1) n) ≡ true → carriesAny id (f x) ≡ true) → carriesAny id (f x) ≡ true
+    go none q r = r (rw (rising-none f o n q) at e)
+    go (some c) q r = first c q (eqb o x) refl (carriesAs id c) refl (rw (rising-some f o n c q) at e) r
+
+asked-carried : (id : List ℕ) (f : ℕ → Option Carried) (n o x : ℕ) → o ≤ x → x < o + n → carriesAny id (f x) ≡ true → carriedIn id x (rising f o n) ≡ true
+unfolding rising carriedIn carriesAny
+asked-carried id f zero o x a b e = absurd (omega arith)
+asked-carried id f (suc n) o x a b e = go (eqb o x) refl (f o) refl (λ k. asked-carried id f n (o + 1) x k (omega arith) e)
+  where
+    or-true : (t : Bool) → (t || true) ≡ true
+    or-true true = refl
+    or-true false = refl
+
+    go : (t : Bool) → eqb o x ≡ t → (v : Option Carried) → f o ≡ v → (o + 1 ≤ x → carriedIn id x (rising f (o + 1) n) ≡ true) → carriedIn id x (rising f o (suc n)) ≡ true
+    go true h none q r =
+        let d : carriesAny id none ≡ true = rw (← (eqb-true o x h), q) at e in
+        absurd-bool (sym d)
+    go true h (some c) q r =
+        let d : carriesAs id c ≡ true = rw (← (eqb-true o x h), q) at e in
+        rw (rising-some f o n c q) (rw (h, d))
+    go false h none q r = let d = eqb-false o x h in rw (rising-none f o n q) (r (omega arith))
+    go false h (some c) q r =
+        let d = eqb-false o x h in
+        rw (rising-some f o n c q) (rw (r (omega arith)) (or-true (eqb o x && carriesAs id c)))
+
+-- ---- different ids
+
+among-there : (x : List ℕ) (l : List (List ℕ)) (j : ℕ) → j < length l → getD l j [] ≡ x → among x l ≡ true
+unfolding among
+among-there x [] j b e = absurd (omega arith)
+among-there x (y ∷ l) zero b e = rw (eq-same y x e)
+among-there x (y ∷ l) (suc j) b e = rw (among-there x l j (omega arith) e) (or-true (same y x))
+  where
+    or-true : (t : Bool) → (t || true) ≡ true
+    or-true true = refl
+    or-true false = refl
+
+pub distinct-told : (l : List (List ℕ)) → distinct l ≡ true → (i j : ℕ) → i < length l → j < length l → getD l i [] ≡ getD l j [] → i ≡ j
+unfolding distinct
+distinct-told [] e i j a b q = absurd (omega arith)
+distinct-told (x ∷ l) e zero zero a b q = refl
+distinct-told (x ∷ l) e zero (suc j) a b q = absurd-bool (sym (among-there x l j (omega arith) (sym q)) ∙ fresh (among x l) refl e)
+  where
+    fresh : (t : Bool) → among x l ≡ t → (not t && distinct l) ≡ true → among x l ≡ false
+    fresh true h m = absurd-bool (sym m)
+    fresh false h m = h
+distinct-told (x ∷ l) e (suc i) zero a b q = absurd-bool (sym (among-there x l i (omega arith) q) ∙ fresh (among x l) refl e)
+  where
+    fresh : (t : Bool) → among x l ≡ t → (not t && distinct l) ≡ true → among x l ≡ false
+    fresh true h m = absurd-bool (sym m)
+    fresh false h m = h
+distinct-told (x ∷ l) e (suc i) (suc j) a b q = ap suc (distinct-told l (rest (not (among x l)) e) i j (omega arith) (omega arith) q)
+  where
+    rest : (t : Bool) → (t && distinct l) ≡ true → distinct l ≡ true
+    rest true m = m
+    rest false m = absurd-bool (sym m)
+
+-- an id is carried at level 0 only at its own position
+carried-own : {block : ℕ} {ids : List (List ℕ)} {chosen : List ℕ} → Sizes block ids chosen → distinct ids ≡ true → (i o : ℕ) → i < length ids
+    → carriesAny (node ids 0 i) (asked ids chosen 0 o) ≡ true → o ≡ i
+unfolding carriesAny carriesAs layer siblingAt
+carried-own {block} {ids} {chosen} g d i o b e = go (asked ids chosen 0 o) refl e
+  where
+    own : o < size ids 0 → same (node ids 0 o) (node ids 0 i) ≡ true → o ≡ i
+    own l f = distinct-told ids d o i l b (same-eq _ _ f)
+
+    of-sibling : (t : Bool) → ltb o (size ids 0) ≡ t → carriesAs (node ids 0 i) (pick t (plain (node ids 0 o)) copy) ≡ true → o ≡ i
+    of-sibling true h f = own (ltb-true _ _ h) f
+    of-sibling false h f = absurd-bool (sym f)
+
+    way : (c : Carried) → Asking ids chosen 0 o c → carriesAs (node ids 0 i) c ≡ true → o ≡ i
+    way c (as-client z u is) f = own (under-size g 0 o u) (rw (← is) at f)
+    way c (as-sibling u is) f = of-sibling (ltb o (size ids 0)) refl (rw (← is) at f)
+
+    go : (v : Option Carried) → asked ids chosen 0 o ≡ v → carriesAny (node ids 0 i) v ≡ true → o ≡ i
+    go none q f = absurd-bool (sym f)
+    go (some c) q f = way c (asked-told ids chosen 0 o c q) f
+
+module _ {block : ℕ} {ids : List (List ℕ)} {chosen s : List ℕ} (g : Sizes block ids chosen) (r : ReadBack block ids chosen s) (i : ℕ) (m : holds i chosen ≡ true) where
+  agrees : (k : ℕ) → k < height ids → levelSiblings s (r .bump .levels) k (beside (i / 2 ^ k)) ≡ treeSiblings ids k (beside (i / 2 ^ k))
+  unfolding levelSiblings
+  agrees k b =
+      let q : ℕ = beside (i / 2 ^ k) in
+      let n = needed-written g k q (rw (beside-beside (i / 2 ^ k)) (under-chosen chosen i k m)) in
+      found-sibling s (lookup q (getD (r .bump .levels) k [])) (n .0) (leaf-back r k q b inside ∙ n .1) ∙ n .2
+    where
+      inside : beside (i / 2 ^ k) < 2 ^ (height ids - k)
+      inside =
+          let up : suc (height ids - k - 1) ≡ height ids - k = omega arith in
+          let back : height ids - k + k ≡ height ids = omega arith in
+          let below : i < 2 ^ height ids = let a = g .below i m in let l = height-holds (length ids) in omega arith in
+          let here : i / 2 ^ k < 2 ^ (height ids - k) = shr-lt (height ids - k) k (rw back below) in
+          rw (← up) (beside-below (i / 2 ^ k) (height ids - k - 1) (rw up here))
+
+  -- the id starts at its position
+  starts : distinct ids ≡ true → leastOffset s (node ids 0 i) (getD (r .bump .levels) 0 []) ≡ At i
+  unfolding Least asked carriesAny carriesAs
+  starts d = go (leastOffset s (node ids 0 i) (getD (r .bump .levels) 0 [])) (least-is s (node ids 0 i) (getD (r .bump .levels) 0 []))
+    where
+      id : List ℕ
+      id = node ids 0 i
+
+      l : List Leaf
+      l = getD (r .bump .levels) 0 []
+
+      inside : i < length ids
+      inside = g .below i m
+
+      same-carrying : (o : ℕ) → carriedAt s id o l ≡ carriedIn id o (levelFor ids chosen (height ids) 0)
+      same-carrying o = carried-says s id o l ∙ ap (carriedIn id o) (level-back r 0 (high g))
+
+      range : i < 0 + 2 ^ (height ids - 0)
+      range = let e : height ids - 0 ≡ height ids = omega arith in rw (zero-add, e) (let a = height-holds (length ids) in let b = inside in omega arith)
+
+      here : carriedAt s id i l ≡ true
+      here =
+          same-carrying i
+          ∙ asked-carried id (asked ids chosen 0) (2 ^ (height ids - 0)) 0 i (omega arith) range (rw (rw (div-one i) at (under-chosen chosen i 0 m)) (same-refl (node ids 0 i)))
+
+      go : (x : Start) → Least s id l x → x ≡ At i
+      go Nowhere f = absurd-bool (sym here ∙ f i)
+      go (At j) f = ap At (carried-own g d i j inside (carried-asked id (asked ids chosen 0) (2 ^ (height ids - 0)) 0 j (sym (same-carrying j) ∙ f .0)))
+
+  -- the bytes prove the id at its position, over the least height, to the list's root
+  pub chosen-proved : distinct ids ≡ true → reaches (treeClimb ids i) ≡ true
+      → judge (bumpReading s (node ids 0 i)) ≡ proved (proofOf (treeSiblings ids) (height ids) i (node ids 0 i) (root ids))
+  unfolding levelsReading starting treeClimb hits
+  chosen-proved d e =
+      let id : List ℕ = node ids 0 i in
+      let σ : Siblings = levelSiblings s (r .bump .levels) in
+      ap judge (bump-read s id (r .bump) (r .end) (r .read))
+      ∙ ap (λ (x : Start). judge (starting σ (r .bump .height) id x)) (starts d)
+      ∙ ap (λ (n : ℕ). judge (read σ n i id any)) (height-back r)
+      ∙ judge-climb σ (treeSiblings ids) (height ids) i id any
+      (ascend-agree σ (treeSiblings ids) 0 (height ids) i id (λ k b. rw (zero-add k, besides-at (height ids) i k b) (agrees k b)))
+      ∙ judge-root (treeSiblings ids) (height ids) i id any (root ids) (climb-roots ids i (g .below i m) e) refl

@@ -1,0 +1,158 @@
+-- The call, case by case: what is refused, and what is written.
+use mathlib.Core.Path.{_≡_, refl, sym, ap, ap₂, _∙_}
+use mathlib.Core.Bool.{Bool, true, false, _&&_, not}
+use mathlib.Core.List.{List, [], _∷_, _++_}
+use Prim.Native.Nat.{ℕ, zero, suc, _+_, _*_, _/_, _%_, _^_, _≤_, _<_, min}
+use lib.ListN.{length, getD, drop, take, length-append}
+use lib.Seq.{take-all}
+use lib.Dec.{leb, eqb}
+use native.Mathlib.Omega.{arith}
+use borrow.Author.Tests.{le-leb, lt-leb, leb-true, eq-eqb, ne-eqb}
+use Rattle.format.specs.Parse.{pick}
+use Rattle.format.specs.Page.{Page, page, putOn, writeOn, filled, write-whole, write-then, write-cons, wrote-then}
+use Rattle.format.specs.Digits.{varintBytes}
+use Rattle.format.specs.Spelling.{spells}
+use Rattle.format.specs.BumpBytes.{levelBytes, bumpBytes}
+use Rattle.format.specs.Refusals.{OVER-LIMIT, NOT-LISTED, BAD-OFFSET, SAME-TX, TWIN, NO-ROOM, MAX-BLOCK}
+use Rattle.spv.specs.Bundle.{hashesOf}
+use Rattle.encoder.specs.declared.block.Written.{Written}
+use Rattle.encoder.specs.declared.block.Written.the-variants.{Bytes, Refused}
+use Rattle.encoder.specs.Tree.{height, heightFor}
+use Rattle.encoder.specs.TreeLaws.{height-holds, height-least}
+use Rattle.encoder.specs.IdsLaws.{hashes-length}
+use Rattle.encoder.specs.Written.{both}
+use Rattle.encoder.specs.BlockBump.{levelsFor, blockBump, sized, noneChosen, allBelow, distinct, allReach, Writing, writes, refuses, roomFor, writing, writtenOf, outputAfter}
+
+-- ---- the sizes
+
+module _ (block : ℕ) (list : List ℕ) where
+  pub sized-block : MAX-BLOCK < block → false ≡ sized block list
+  unfolding sized
+  sized-block h = rw (lt-leb block MAX-BLOCK h)
+
+  module _ (b : block ≤ MAX-BLOCK) where
+    pub sized-whole : (length list % 32 ≡ 0 → ⊥) → false ≡ sized block list
+    unfolding sized
+    sized-whole h = rw (le-leb block MAX-BLOCK b, ne-eqb (length list % 32) 0 h)
+
+    module _ (w : length list % 32 ≡ 0) where
+      pub sized-few : length list / 32 < 2 → false ≡ sized block list
+      unfolding sized
+      sized-few h = rw (le-leb block MAX-BLOCK b, eq-eqb (length list % 32) 0 w, lt-leb 2 (length list / 32) h)
+
+      pub sized-many : 2 ≤ length list / 32 → leb (length list / 32) 1024 ≡ sized block list
+      unfolding sized
+      sized-many h = rw (le-leb block MAX-BLOCK b, eq-eqb (length list % 32) 0 w, le-leb 2 (length list / 32) h)
+
+-- ---- the refusals in their order
+
+none-chosen : (l : List ℕ) → length l ≡ 0 → noneChosen l ≡ true
+unfolding noneChosen
+none-chosen [] e = refl
+none-chosen (x ∷ l) e = absurd (omega arith)
+
+some-chosen : (l : List ℕ) → (length l ≡ 0 → ⊥) → noneChosen l ≡ false
+unfolding noneChosen
+some-chosen [] d = absurd (d refl)
+some-chosen (x ∷ l) d = refl
+
+module _ (block : ℕ) (list chosen : List ℕ) (room : ℕ) where
+  pub refuses-size : sized block list ≡ false → writing block list chosen room ≡ refuses OVER-LIMIT
+  unfolding writing
+  refuses-size e = rw e
+
+  module _ (s : sized block list ≡ true) where
+    pub refuses-none : length chosen ≡ 0 → writing block list chosen room ≡ refuses NOT-LISTED
+    unfolding writing
+    refuses-none e = rw (s, none-chosen chosen e)
+
+    module _ (c : length chosen ≡ 0 → ⊥) where
+      pub refuses-outside : allBelow (length list / 32) chosen ≡ false → writing block list chosen room ≡ refuses BAD-OFFSET
+      unfolding writing
+      refuses-outside e = rw (s, some-chosen chosen c, e)
+
+      module _ (b : allBelow (length list / 32) chosen ≡ true) where
+        pub refuses-equal : distinct (hashesOf list) ≡ false → writing block list chosen room ≡ refuses SAME-TX
+        unfolding writing
+        refuses-equal e = rw (s, some-chosen chosen c, b, e)
+
+        module _ (d : distinct (hashesOf list) ≡ true) where
+          pub refuses-twin : allReach (hashesOf list) chosen ≡ false → writing block list chosen room ≡ refuses TWIN
+          unfolding writing
+          refuses-twin e = rw (s, some-chosen chosen c, b, d, e)
+
+          module _ (t : allReach (hashesOf list) chosen ≡ true) where
+            in-room : writing block list chosen room ≡ roomFor room (bumpBytes (blockBump block (hashesOf list) chosen))
+            unfolding writing
+            in-room = rw (s, some-chosen chosen c, b, d, t)
+
+            pub refuses-room : room < length (bumpBytes (blockBump block (hashesOf list) chosen)) → writing block list chosen room ≡ refuses NO-ROOM
+            unfolding roomFor
+            refuses-room h = in-room ∙ rw (lt-leb (length (bumpBytes (blockBump block (hashesOf list) chosen))) room h)
+
+            pub writes-all : length (bumpBytes (blockBump block (hashesOf list) chosen)) ≤ room → writing block list chosen room ≡ writes (bumpBytes (blockBump block (hashesOf list) chosen))
+            unfolding roomFor
+            writes-all h = in-room ∙ rw (le-leb (length (bumpBytes (blockBump block (hashesOf list) chosen))) room h)
+
+-- ---- the answer and the output
+
+-- nothing is written
+pub refused-so : (out : List ℕ) {w : Writing} {number : ℕ} {r : Written} → w ≡ refuses number → r ≡ writtenOf (refuses number) → (r ≡ writtenOf w) × (out ≡ outputAfter w out)
+unfolding outputAfter
+refused-so out e f = rw e (f, refl)
+
+-- the bytes of the BUMP, as the code counts and writes them
+module _ (block : ℕ) (list chosen : List ℕ) (h : ℕ) (least : h ≡ heightFor (length list / 32)) where
+  abbrev text : List ℕ
+  text = bumpBytes (blockBump block (hashesOf list) chosen)
+
+  abbrev levels : List ℕ
+  levels = spells levelBytes (levelsFor (hashesOf list) chosen h 0 h)
+
+  text-is : bumpBytes (blockBump block (hashesOf list) chosen) ≡ varintBytes block ++ (h ∷ spells levelBytes (levelsFor (hashesOf list) chosen h 0 h))
+  unfolding bumpBytes blockBump hashesOf
+  text-is =
+      let e : heightFor (length (hashesOf list)) ≡ h = ap heightFor (hashes-length (length list / 32) list) ∙ sym least in
+      ap (λ (x : ℕ). varintBytes block ++ (x ∷ spells levelBytes (levelsFor (hashesOf list) chosen x 0 x))) e
+
+  pub size-is : (a b : ℕ) → a ≡ length (varintBytes block) → b ≡ length (spells levelBytes (levelsFor (hashesOf list) chosen h 0 h)) → a + 1 + b ≡ length (bumpBytes (blockBump block (hashesOf list) chosen))
+  size-is a b e f =
+      let g = length-append (varintBytes block) (h ∷ spells levelBytes (levelsFor (hashesOf list) chosen h 0 h)) in
+      let i = ap length text-is in
+      omega arith
+
+  module _ (out : List ℕ) (fits : length (bumpBytes (blockBump block (hashesOf list) chosen)) ≤ length out) where
+    pub wrote-all : {p q : Page} {out′ : List ℕ} {next : ℕ} → p ≡ writeOn (page out 0) (varintBytes block) → q ≡ putOn p h
+        → page out′ next ≡ writeOn q (spells levelBytes (levelsFor (hashesOf list) chosen h 0 h))
+        → (out′ ≡ bumpBytes (blockBump block (hashesOf list) chosen) ++ drop (length (bumpBytes (blockBump block (hashesOf list) chosen))) out) × (next ≡ length (bumpBytes (blockBump block (hashesOf list) chosen)))
+    wrote-all {p} {q} {out′} {next} e f g =
+        let all : page out′ next ≡ writeOn (page out 0) (bumpBytes (blockBump block (hashesOf list) chosen)) =
+        wrote-then (page out 0) (varintBytes block) (h ∷ levels) e (write-cons p h levels f g) ∙ ap (writeOn (page out 0)) (sym text-is) in
+        let end : page out′ next ≡ page (filled out text) (min (length out) (length text)) = all ∙ write-whole out text in
+        (ap (λ (x : Page). x .room) end ∙ ap (λ (x : List ℕ). x ++ drop (length text) out) (take-all (length out) text fits), ap (λ (x : Page). x .at) end ∙ omega arith)
+
+    pub written-so : {w : Writing} {out′ : List ℕ} {next : ℕ} {r : Written} → w ≡ writes (bumpBytes (blockBump block (hashesOf list) chosen))
+        → (out′ ≡ bumpBytes (blockBump block (hashesOf list) chosen) ++ drop (length (bumpBytes (blockBump block (hashesOf list) chosen))) out) × (next ≡ length (bumpBytes (blockBump block (hashesOf list) chosen)))
+        → r ≡ Bytes next → (r ≡ writtenOf w) × (out′ ≡ outputAfter w out)
+    unfolding writtenOf outputAfter
+    written-so e f g = rw e (g ∙ ap Bytes (f .1), f .0)
+
+-- ---- what the code knows on its way
+
+pub sized-told : (block : ℕ) (list : List ℕ) → sized block list ≡ true → (2 ≤ length list / 32) × (length list / 32 ≤ 1024)
+unfolding sized
+sized-told block list s =
+    let x = both (leb block MAX-BLOCK) _ s in
+    let y = both (eqb (length list % 32) 0) _ (x .1) in
+    let z = both (leb 2 (length list / 32)) _ (y .1) in
+    (leb-true 2 (length list / 32) (z .0), leb-true (length list / 32) 1024 (z .1))
+
+-- the least tree is low, and holds the list
+pub shape-told : (n h w : ℕ) → h ≡ heightFor n → w ≡ 2 ^ heightFor n → n ≤ 1024 → (h ≤ 10) × (w ≡ 2 ^ h) × (n ≤ w)
+shape-told n h w e f l =
+    let a = height-least n 10 l in
+    let b = height-holds n in
+    (omega arith, f ∙ ap (λ (x : ℕ). 2 ^ x) (sym e), omega arith)
+
+pub fits-in : {m n k : ℕ} → m ≡ n → m ≤ k → n ≤ k
+fits-in e h = omega arith

@@ -1,0 +1,81 @@
+-- BUMPs of small blocks, by computation.
+use mathlib.Core.Path.{_≡_, refl}
+use mathlib.Core.List.{List, [], _∷_, _++_, append-nil}
+use Prim.Native.Nat.{ℕ}
+use lib.ListN.{replicate, take, drop, length}
+use Rattle.hash.specs.Sha256.{sha256d}
+use Rattle.format.specs.Bytes.{same}
+use Rattle.spv.specs.Climb.{beside, joined, step, ascend, outcome, ascendBy, outcomeBy}
+use Rattle.spv.specs.Bundle.{hashes, hashesOf, among}
+use Rattle.format.specs.Spelling.{spells}
+use Rattle.format.specs.Digits.{little, varintBytes}
+use Rattle.format.specs.BumpBytes.{Carried, plain, copy, client, Entry, carriedBytes, entryBytes, levelBytes, bumpBytes}
+use Rattle.encoder.specs.Tree.{above, layer, leastFrom, heightFor, treeSiblings, treeClimb}
+use Rattle.encoder.specs.BlockBump.{under, leftOut, siblingAt, asked, rising, levelsFor, blockBump, sized, noneChosen, allBelow, distinct, reaches, allReach, Writing, writes, refuses, roomFor, writing}
+
+abbrev aa : List ℕ
+aa = replicate 32 0xaa
+
+abbrev bb : List ℕ
+bb = replicate 32 0xbb
+
+abbrev cd : List ℕ
+cd = replicate 32 0xcc
+
+ex1 : writing 4294967296 [] [] 0 ≡ refuses 5
+unfolding writing sized
+ex1 = refl
+
+ex2 : writing 1 aa (0 ∷ []) 999 ≡ refuses 5
+unfolding writing sized
+ex2 = refl
+
+ex3 : writing 1 (aa ++ aa ++ (0 ∷ [])) [] 0 ≡ refuses 5
+unfolding writing sized
+ex3 = refl
+
+ex4 : writing 1 (aa ++ aa) [] 0 ≡ refuses 13
+unfolding writing sized noneChosen
+ex4 = refl
+
+ex5 : writing 1 (aa ++ aa) (1 ∷ 2 ∷ []) 0 ≡ refuses 6
+unfolding writing sized noneChosen allBelow
+ex5 = refl
+
+ex6 : writing 1 (aa ++ aa) (1 ∷ []) 0 ≡ refuses 19
+unfolding writing sized noneChosen allBelow distinct hashesOf hashes among same
+ex6 = refl
+
+ex7 : writing 1 (aa ++ bb) (1 ∷ []) 70 ≡ refuses 22
+unfolding writing sized noneChosen allBelow distinct hashesOf hashes among same allReach reaches treeClimb treeSiblings layer heightFor leastFrom ascendBy outcomeBy step joined beside blockBump levelsFor rising asked under leftOut siblingAt bumpBytes levelBytes entryBytes carriedBytes spells varintBytes little roomFor
+ex7 = refl
+
+ex8 : writing 1 (aa ++ bb) (1 ∷ 1 ∷ []) 71 ≡ writes (0x01 ∷ 0x01 ∷ 0x02 ∷ 0x00 ∷ 0x00 ∷ aa ++ (0x01 ∷ 0x02 ∷ bb))
+unfolding writing sized noneChosen allBelow distinct hashesOf hashes among same allReach reaches treeClimb treeSiblings layer heightFor leastFrom ascendBy outcomeBy step joined beside blockBump levelsFor rising asked under leftOut siblingAt bumpBytes levelBytes entryBytes carriedBytes spells varintBytes little roomFor
+ex8 = refl
+
+-- sha256d stays shut below: a node is what it is made of
+abbrev three : List (List ℕ)
+three = aa ∷ bb ∷ cd ∷ []
+
+ex9 : bumpBytes (blockBump 0 three (2 ∷ [])) ≡ 0x00 ∷ 0x02 ∷ 0x02 ∷ 0x02 ∷ 0x02 ∷ cd ++ (0x03 ∷ 0x01 ∷ 0x01 ∷ 0x00 ∷ 0x00 ∷ sha256d (aa ++ bb))
+unfolding above layer heightFor leastFrom beside blockBump levelsFor rising asked under leftOut siblingAt bumpBytes levelBytes entryBytes carriedBytes spells varintBytes little
+ex9 = simp append-nil
+
+ex10 : bumpBytes (blockBump 0 three (0 ∷ [])) ≡ 0x00 ∷ 0x02 ∷ 0x02 ∷ 0x00 ∷ 0x02 ∷ aa ++ (0x01 ∷ 0x00 ∷ bb) ++ (0x01 ∷ 0x01 ∷ 0x00 ∷ sha256d (cd ++ cd))
+unfolding above layer heightFor leastFrom beside blockBump levelsFor rising asked under leftOut siblingAt bumpBytes levelBytes entryBytes carriedBytes spells varintBytes little
+ex10 = simp append-nil
+
+abbrev leaf : ℕ → Carried → Entry
+leaf o c = record { offset = o; carried = c }
+
+-- every sibling needed is written, also one that another chosen climb makes
+ex11 : blockBump 0 three (0 ∷ 2 ∷ []) ≡ record {
+  block = 0;
+  height = 2;
+  levels =
+      (leaf 0 (client aa) ∷ leaf 1 (plain bb) ∷ leaf 2 (client cd) ∷ leaf 3 copy ∷ [])
+      ∷ (leaf 0 (plain (sha256d (aa ++ bb))) ∷ leaf 1 (plain (sha256d (cd ++ cd))) ∷ []) ∷ [];
+}
+unfolding above layer heightFor leastFrom beside blockBump levelsFor rising asked under leftOut siblingAt
+ex11 = refl

@@ -1,0 +1,17 @@
+pub mod Tree
+pub mod TreeLaws
+pub mod BlockBump
+pub mod TreeClimb
+pub mod RisingLaws
+pub mod OnlyBytes
+pub mod BlockFit
+pub mod BlockMeets
+pub mod BlockProved
+pub mod IdsLaws
+pub mod Written
+pub mod Heap
+pub mod Marks
+pub mod Leaves
+pub mod LevelText
+pub mod Call
+pub mod Examples

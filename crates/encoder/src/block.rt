@@ -1,0 +1,88 @@
+// BUMPs from a block's ids.
+use super::ids::all_below;
+use super::ids::all_differ;
+use super::level::levels_size;
+use super::level::write_levels;
+use super::marks::marks_of;
+use super::tree::all_free;
+use super::tree::build;
+use super::tree::shape_for;
+use format::Refusal;
+use format::page::put;
+use format::page::varint_size;
+use format::page::write_varint;
+use format::refusal::BAD_OFFSET;
+use format::refusal::NO_ROOM;
+use format::refusal::NOT_LISTED;
+use format::refusal::OVER_LIMIT;
+use format::refusal::SAME_TX;
+use format::refusal::TWIN;
+ghost use mathlib.Core.Path.{_≡_};
+ghost use lib.ListN.{length};
+ghost use Rattle.encoder.specs.BlockBump.{refuses, sized, writing, writtenOf, outputAfter};
+
+// How many bytes were written, or a refusal.
+pub enum Written {
+    Bytes(usize),
+    Refused(Refusal),
+}
+
+fn refused(number: u8) -> Written
+    ensures { λ r. ⌜ r ≡ writtenOf (refuses number) ⌝ }
+{
+    Written::Refused(Refusal { number, place: 0 })
+}
+
+// Whether the block height and the list are within the sizes, and the list is whole ids.
+fn within_sizes(block: u64, ids: &[u8]) -> bool
+    ensures { λ r. ⌜ r ≡ sized block (now (ids .entry)) ⌝ }
+{
+    if 4294967295 < block {
+        return false;
+    }
+    if ids.len() % 32 != 0 {
+        return false;
+    }
+    let n = ids.len() / 32;
+    if n < 2 {
+        return false;
+    }
+    n <= 1024
+}
+
+// The BUMP of the chosen positions of a list of ids.
+pub fn write_bump(block: u64, ids: &[u8], chosen: &[u64], out: &mut [u8]) -> Written
+    ensures { λ r. ⌜ (r ≡ writtenOf (writing block (now (ids .entry)) (now (chosen .entry)) (length (now (out .entry)))))
+        × (now (out .exit) ≡ outputAfter (writing block (now (ids .entry)) (now (chosen .entry)) (length (now (out .entry)))) (now (out .entry))) ⌝ }
+{
+    if !within_sizes(block, ids) {
+        return refused(OVER_LIMIT);
+    }
+    if chosen.len() == 0 {
+        return refused(NOT_LISTED);
+    }
+    let n = ids.len() / 32;
+    if !all_below(n as u64, chosen) {
+        return refused(BAD_OFFSET);
+    }
+    if !all_differ(ids) {
+        return refused(SAME_TX);
+    }
+    let shape = shape_for(n);
+    let height = shape.height;
+    let top = shape.width;
+    let mut heap = [0u8; 32768];
+    build(ids, &mut heap, height, n, top);
+    if !all_free(ids, &heap, chosen, height, top) {
+        return refused(TWIN);
+    }
+    let marks = marks_of(chosen, height, top);
+    let size = varint_size(block) + 1 + levels_size(&marks, height, n, top);
+    if out.len() < size {
+        return refused(NO_ROOM);
+    }
+    let mut next = write_varint(out, 0, block);
+    next = put(out, next, height as u8);
+    next = write_levels(ids, &heap, &marks, out, next, height, n, top);
+    Written::Bytes(next)
+}

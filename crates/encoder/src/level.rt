@@ -1,0 +1,257 @@
+// The levels of a BUMP of chosen positions: what they ask for at each offset, how many bytes that takes, and the bytes.
+use super::tree::node_at;
+use format::page::put;
+use format::page::varint_size;
+use format::page::write;
+use format::page::write_varint;
+ghost use mathlib.Core.Path.{_≡_};
+ghost use mathlib.Core.Bool.{_&&_};
+ghost use mathlib.Core.List.{List, _∷_, _++_};
+ghost use Prim.Native.Nat.{ℕ, _+_, _%_, _^_, _<_, _≤_};
+ghost use lib.ListN.{length};
+ghost use Rattle.format.specs.Page.{page, writeOn};
+ghost use Rattle.format.specs.Digits.{varintBytes};
+ghost use Rattle.format.specs.Spelling.{spells};
+ghost use Rattle.format.specs.BumpBytes.{levelBytes};
+ghost use Rattle.spv.specs.Climb.{beside as besideOf};
+ghost use Rattle.spv.specs.Bundle.{hashesOf};
+ghost use Rattle.encoder.specs.BlockBump.{levelsFor};
+ghost use Rattle.encoder.specs.Heap.{nodeIn};
+ghost use Rattle.encoder.specs.Marks.{marked};
+ghost use Rattle.encoder.specs.Leaves.{formAt, leafCount, leafBytes, leafText, levelLeaves, levelSize, leavesText, levelText};
+ghost use Rattle.encoder.specs.LevelText.{Ready};
+
+// What is asked for at an offset.
+pub enum Asked {
+    Nothing,
+    Plain,
+    Copy,
+    Client,
+}
+
+fn is_marked(marks: &[u8], index: usize) -> bool
+    requires { ⌜ index < length (now marks) ⌝ }
+    ensures { λ r. ⌜ r ≡ marked (now (marks .entry)) index ⌝ }
+{
+    marks[index] == 1
+}
+
+fn beside(o: usize) -> usize
+    requires { ⌜ o ≤ 1024 ⌝ }
+    ensures { λ r. ⌜ r ≡ besideOf o ⌝ }
+{
+    if o % 2 == 1 { o - 1 } else { o + 1 }
+}
+
+// Whether a client's id stands at an offset: at level 0, where the position is chosen.
+fn is_client(marks: &[u8], base: bool, width: usize, o: usize) -> bool
+    requires { ⌜ width + o < length (now marks) ⌝ }
+    ensures { λ r. ⌜ r ≡ (base && marked (now (marks .entry)) (width + o)) ⌝ }
+{
+    if !base {
+        return false;
+    }
+    is_marked(marks, width + o)
+}
+
+// What a level asks for at an offset.
+fn asked_at(marks: &[u8], base: bool, width: usize, count: usize, o: usize) -> Asked
+    requires { ⌜ (o < width) × (width % 2 ≡ 0) × (width ≤ 1024) × (length (now marks) ≡ 2048) ⌝ }
+    ensures { λ r. ⌜ r ≡ formAt (now (marks .entry)) base width count o ⌝ }
+{
+    if is_client(marks, base, width, o) {
+        return Asked::Client;
+    }
+    if !is_marked(marks, width + beside(o)) {
+        return Asked::Nothing;
+    }
+    if o < count { Asked::Plain } else { Asked::Copy }
+}
+
+fn leaf_count(a: Asked) -> u64
+    ensures { λ r. ⌜ r ≡ leafCount a ⌝ }
+{
+    match a {
+        Asked::Nothing => 0,
+        Asked::Plain => 1,
+        Asked::Copy => 1,
+        Asked::Client => 1,
+    }
+}
+
+fn leaf_bytes(o: u64, a: Asked) -> usize
+    ensures { λ r. ⌜ r ≡ leafBytes o a ⌝ }
+{
+    match a {
+        Asked::Nothing => 0,
+        Asked::Plain => varint_size(o) + 33,
+        Asked::Copy => varint_size(o) + 1,
+        Asked::Client => varint_size(o) + 33,
+    }
+}
+
+pub struct Tally {
+    pub leaves: u64,
+    pub bytes: usize,
+}
+
+// The leaves of a level, and their bytes.
+fn level_tally(marks: &[u8], base: bool, width: usize, count: usize) -> Tally
+    requires { ⌜ (width % 2 ≡ 0) × (width ≤ 1024) × (length (now marks) ≡ 2048) ⌝ }
+    ensures { λ r. ⌜ (r .leaves ≡ levelLeaves (now (marks .entry)) base width count) × (r .bytes ≡ levelSize (now (marks .entry)) base width count) × (r .leaves ≤ 1024) × (r .bytes ≤ 43008) ⌝ }
+{
+    let mut leaves: u64 = 0;
+    let mut bytes: usize = 0;
+    let mut o: usize = 0;
+    while o < width {
+        let a = asked_at(marks, base, width, count, o);
+        leaves += leaf_count(a);
+        bytes += leaf_bytes(o as u64, a);
+        o += 1;
+    }
+    Tally { leaves, bytes }
+}
+
+fn write_hashed(
+    ids: &[u8],
+    heap: &[u8],
+    base: bool,
+    width: usize,
+    out: &mut [u8],
+    at: usize,
+    o: usize,
+    flags: u8,
+) -> usize
+    requires { ⌜ (width ≤ 1024) × (o ≤ 1024) ⌝ }
+    ensures { λ r. ⌜ page (now (out .exit)) r ≡ writeOn (page (now (out .entry)) at) (varintBytes o ++ (flags ∷ nodeIn (now (ids .entry)) (now (heap .entry)) base width o)) ⌝ }
+{
+    let hash = node_at(ids, heap, base, width, o);
+    let mut next = write_varint(out, at, o as u64);
+    next = put(out, next, flags);
+    write(out, next, &hash)
+}
+
+fn write_leaf(
+    ids: &[u8],
+    heap: &[u8],
+    base: bool,
+    width: usize,
+    out: &mut [u8],
+    at: usize,
+    o: usize,
+    a: Asked,
+) -> usize
+    requires { ⌜ (width ≤ 1024) × (o ≤ 1024) ⌝ }
+    ensures { λ r. ⌜ page (now (out .exit)) r ≡ writeOn (page (now (out .entry)) at) (leafText (now (ids .entry)) (now (heap .entry)) base width o a) ⌝ }
+{
+    match a {
+        Asked::Nothing => at,
+        Asked::Plain => write_hashed(ids, heap, base, width, out, at, o, 0),
+        Asked::Copy => {
+            let next = write_varint(out, at, o as u64);
+            put(out, next, 1)
+        }
+        Asked::Client => write_hashed(ids, heap, base, width, out, at, o, 2),
+    }
+}
+
+// The leaves of a level.
+fn write_leaves(
+    ids: &[u8],
+    heap: &[u8],
+    marks: &[u8],
+    out: &mut [u8],
+    at: usize,
+    base: bool,
+    width: usize,
+    count: usize,
+) -> usize
+    requires { ⌜ (width % 2 ≡ 0) × (width ≤ 1024) × (length (now marks) ≡ 2048) ⌝ }
+    ensures { λ r. ⌜ page (now (out .exit)) r ≡ writeOn (page (now (out .entry)) at) (leavesText (now (ids .entry)) (now (heap .entry)) (now (marks .entry)) base width count) ⌝ }
+{
+    let mut next = at;
+    let mut o: usize = 0;
+    while o < width {
+        next = write_leaf(
+            ids,
+            heap,
+            base,
+            width,
+            out,
+            next,
+            o,
+            asked_at(marks, base, width, count, o),
+        );
+        o += 1;
+    }
+    next
+}
+
+// A level: its leaf count, then its leaves.
+fn write_level(
+    ids: &[u8],
+    heap: &[u8],
+    marks: &[u8],
+    out: &mut [u8],
+    at: usize,
+    base: bool,
+    width: usize,
+    count: usize,
+) -> usize
+    requires { ⌜ (width % 2 ≡ 0) × (width ≤ 1024) × (length (now marks) ≡ 2048) ⌝ }
+    ensures { λ r. ⌜ page (now (out .exit)) r ≡ writeOn (page (now (out .entry)) at) (levelText (now (ids .entry)) (now (heap .entry)) (now (marks .entry)) base width count) ⌝ }
+{
+    let t = level_tally(marks, base, width, count);
+    let leaves = t.leaves;
+    let next = write_varint(out, at, leaves);
+    write_leaves(ids, heap, marks, out, next, base, width, count)
+}
+
+// All levels, going up.
+pub fn write_levels(
+    ids: &[u8],
+    heap: &[u8],
+    marks: &[u8],
+    out: &mut [u8],
+    at: usize,
+    height: usize,
+    n: usize,
+    top: usize,
+) -> usize
+    requires { ⌜ (height ≤ 10) × (top ≡ 2 ^ height) × (n ≤ 1024) × (length (now marks) ≡ 2048) ⌝ }
+    ensures { λ r. ⌜ ((chosen : List ℕ) → Ready (now (ids .entry)) (now (heap .entry)) (now (marks .entry)) chosen height n
+        → page (now (out .exit)) r ≡ writeOn (page (now (out .entry)) at) (spells levelBytes (levelsFor (hashesOf (now (ids .entry))) chosen height 0 height))) ⌝ }
+{
+    let mut next = at;
+    let mut width = top;
+    let mut count = n;
+    let mut k: usize = 0;
+    while k < height {
+        next = write_level(ids, heap, marks, out, next, k == 0, width, count);
+        width /= 2;
+        count = (count + 1) / 2;
+        k += 1;
+    }
+    next
+}
+
+// The bytes of all levels.
+pub fn levels_size(marks: &[u8], height: usize, n: usize, top: usize) -> usize
+    requires { ⌜ (height ≤ 10) × (top ≡ 2 ^ height) × (n ≤ 1024) × (length (now marks) ≡ 2048) ⌝ }
+    ensures { λ r. ⌜ (r ≤ 430170) × ((list heap chosen : List ℕ) → Ready list heap (now (marks .entry)) chosen height n
+        → r ≡ length (spells levelBytes (levelsFor (hashesOf list) chosen height 0 height))) ⌝ }
+{
+    let mut size: usize = 0;
+    let mut width = top;
+    let mut count = n;
+    let mut k: usize = 0;
+    while k < height {
+        let t = level_tally(marks, k == 0, width, count);
+        let leaves = t.leaves;
+        size += varint_size(leaves) + t.bytes;
+        width /= 2;
+        count = (count + 1) / 2;
+        k += 1;
+    }
+    size
+}

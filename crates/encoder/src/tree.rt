@@ -1,0 +1,148 @@
+// The tree of a block's ids. The node at position j of a level of `width` places stands at index width + j of the heap, 32 bytes an
+// index; level 0 is the lent list itself.
+ghost use mathlib.Core.Path.{_≡_};
+ghost use mathlib.Core.Bool.{Bool, true, false};
+ghost use mathlib.Core.List.{List};
+ghost use Prim.Native.Nat.{ℕ, _+_, _*_, _/_, _%_, _^_, _<_, _≤_};
+ghost use lib.ListN.{length};
+ghost use lib.Seq.{paste};
+ghost use Rattle.format.specs.Search.{hashAt};
+ghost use Rattle.spv.specs.Bundle.{hashesOf};
+ghost use Rattle.encoder.specs.Tree.{above, heightFor, treeClimb};
+ghost use Rattle.encoder.specs.BlockBump.{allBelow, reaches, allReach};
+ghost use Rattle.encoder.specs.Heap.{nodeIn, rightIn, Stored, Heap, Grown, twinIn};
+
+// The least height of a tree that holds a list, and the places of its level 0.
+pub struct Shape {
+    pub height: usize,
+    pub width: usize,
+}
+
+pub fn shape_for(n: usize) -> Shape
+    requires { ⌜ n ≤ 1024 ⌝ }
+    ensures { λ r. ⌜ (r .height ≡ heightFor n) × (r .width ≡ 2 ^ heightFor n) ⌝ }
+{
+    let mut height: usize = 0;
+    let mut width: usize = 1;
+    while width < n {
+        width = 2 * width;
+        height += 1;
+    }
+    Shape { height, width }
+}
+
+// The node at position j of a level of `width` places.
+pub fn node_at(ids: &[u8], heap: &[u8], base: bool, width: usize, j: usize) -> [u8; 32]
+    requires { ⌜ (width ≤ 2048) × (j ≤ 2048) ⌝ }
+    ensures { λ r. ⌜ r ≡ nodeIn (now (ids .entry)) (now (heap .entry)) base width j ⌝ }
+{
+    if base {
+        return format::hash_at(ids, 32 * j);
+    }
+    format::hash_at(heap, 32 * (width + j))
+}
+
+fn store(heap: &mut [u8], index: usize, hash: [u8; 32])
+    requires { ⌜ 32 * index + 32 ≤ length (now heap) ⌝ }
+    ensures { λ r. ⌜ now (heap .exit) ≡ paste (now (heap .entry)) (32 * index) hash 32 ⌝ }
+{
+    let at = 32 * index;
+    let mut i: usize = 0;
+    while i < 32 {
+        heap[at + i] = hash[i];
+        i += 1;
+    }
+}
+
+// The right-hand one of a pair: the next node, or where there is none a copy.
+fn right_of(ids: &[u8], heap: &[u8], base: bool, width: usize, count: usize, j: usize) -> [u8; 32]
+    requires { ⌜ (width ≤ 2048) × (j < 2048) ⌝ }
+    ensures { λ r. ⌜ r ≡ rightIn (now (ids .entry)) (now (heap .entry)) base width count j ⌝ }
+{
+    if j + 1 < count {
+        return node_at(ids, heap, base, width, j + 1);
+    }
+    node_at(ids, heap, base, width, j)
+}
+
+// The level above one of `width` places and `count` nodes.
+fn raise(ids: &[u8], heap: &mut [u8], base: bool, width: usize, count: usize)
+    requires { ⌜ (width % 2 ≡ 0) × (width ≤ 1024) × (count ≤ width) × (length (now heap) ≡ 32768) ⌝ }
+    ensures rises { λ r. ⌜ ((l : List (List ℕ)) → length l ≡ count → Stored (now (ids .entry)) (now (heap .entry)) base width l → Stored (now (ids .entry)) (now (heap .exit)) false (width / 2) (above l)) ⌝ }
+    ensures keeps { λ r. ⌜ ((p : ℕ) → width ≤ p → hashAt (now (heap .exit)) (32 * p) ≡ hashAt (now (heap .entry)) (32 * p)) ⌝ }
+{
+    let half = width / 2;
+    let above = (count + 1) / 2;
+    let mut j: usize = 0;
+    while j < above {
+        let left = node_at(ids, heap, base, width, 2 * j);
+        let right = right_of(ids, heap, base, width, count, 2 * j);
+        store(heap, half + j, hash::join(left, right));
+        j += 1;
+    }
+}
+
+// Every level above 0.
+pub fn build(ids: &[u8], heap: &mut [u8], height: usize, n: usize, top: usize)
+    requires { ⌜ (height ≤ 10) × (top ≡ 2 ^ height) × (n ≤ top) × (n ≡ length (now ids) / 32) × (length (now heap) ≡ 32768) ⌝ }
+    ensures { λ r. ⌜ Heap (now (ids .entry)) (now (heap .exit)) height height ⌝ }
+{
+    let mut width = top;
+    let mut count = n;
+    let mut k: usize = 0;
+    while k < height {
+        raise(ids, heap, k == 0, width, count);
+        width /= 2;
+        count = (count + 1) / 2;
+        k += 1;
+    }
+}
+
+// Whether the climb meets a twin at position j: the node on its left is the same.
+fn has_twin(ids: &[u8], heap: &[u8], base: bool, width: usize, j: usize) -> bool
+    requires { ⌜ (width ≤ 2048) × (j ≤ 2048) ⌝ }
+    ensures { λ r. ⌜ r ≡ twinIn (now (ids .entry)) (now (heap .entry)) base width j ⌝ }
+{
+    if j % 2 == 0 {
+        return false;
+    }
+    format::same_bytes(
+        node_at(ids, heap, base, width, j - 1),
+        node_at(ids, heap, base, width, j),
+    )
+}
+
+// Whether the climb from a position meets no twin.
+fn climb_free(ids: &[u8], heap: &[u8], height: usize, top: usize, i: usize) -> bool
+    requires { ⌜ (height ≤ 10) × (top ≡ 2 ^ height) × (i ≤ 1024) ⌝ }
+    ensures { λ r. ⌜ (Grown (now (ids .entry)) (now (heap .entry)) height → i < length (now (ids .entry)) / 32 → r ≡ reaches (treeClimb (hashesOf (now (ids .entry))) i)) ⌝ }
+{
+    let mut j = i;
+    let mut width = top;
+    let mut k: usize = 0;
+    while k < height {
+        if has_twin(ids, heap, k == 0, width, j) {
+            return false;
+        }
+        j /= 2;
+        width /= 2;
+        k += 1;
+    }
+    true
+}
+
+// Whether no climb of a chosen position meets a twin.
+pub fn all_free(ids: &[u8], heap: &[u8], chosen: &[u64], height: usize, top: usize) -> bool
+    requires { ⌜ (height ≤ 10) × (top ≡ 2 ^ height) × (length (now ids) / 32 ≤ 1024) × (allBelow (length (now ids) / 32) (now chosen) ≡ true) ⌝ }
+    ensures { λ r. ⌜ (Grown (now (ids .entry)) (now (heap .entry)) height → r ≡ allReach (hashesOf (now (ids .entry))) (now (chosen .entry))) ⌝ }
+{
+    let mut i: usize = 0;
+    while i < chosen.len() {
+        let c = chosen[i];
+        if !climb_free(ids, heap, height, top, c as usize) {
+            return false;
+        }
+        i += 1;
+    }
+    true
+}
