@@ -1,4 +1,4 @@
--- The answers of hashing, proving, the all-clients check, comparing and judging as readings: 01's number and what it carries, or the
+-- The answers of hashing, proving, the all-clients check, comparing, judging and writing as readings: 01's number and what it carries, or the
 -- values of an acceptance.
 use mathlib.Core.Path.{_≡_, ap}
 use mathlib.Core.List.{List}
@@ -16,6 +16,7 @@ use Rattle.spv.specs.declared.clients.Checked.{Checked}
 use Rattle.spv.specs.declared.comparing.Comparison.{Comparison}
 use Rattle.spv.specs.declared.comparing.Compared.{Compared}
 use Rattle.spv.specs.declared.bundle.Verdict.{Verdict}
+use Rattle.encoder.specs.declared.block.Written.{Written}
 
 -- The digest, where the number is 0.
 unfoldable pub ofHashed : Hashed → Parse (List ℕ)
@@ -59,6 +60,11 @@ ofCompared c = ofComparison (c .first) (c .second) (c .comparison)
 unfoldable pub ofVerdict : Verdict → Parse ℕ
 ofVerdict (Verdict.Accepted n) = got n 0
 ofVerdict (Verdict.Refused f) = bad (f .number) (f .place)
+
+-- The number of bytes written.
+unfoldable pub ofWritten : Written → Parse ℕ
+ofWritten (Written.Bytes n) = got n 0
+ofWritten (Written.Refused f) = bad (f .number) (f .place)
 
 module _ (h : Hashed) where
   pub hashed-given : h .number ≡ 0 → ofHashed h ≡ got (h .digest) 0

@@ -2,6 +2,7 @@
 pub mod judge;
 pub mod prove;
 pub mod read;
+pub mod write;
 
 ghost use mathlib.Core.Path.{_≡_};
 ghost use mathlib.Core.List.{_++_};
