@@ -1,3 +1,3 @@
 pub mod Turns
 pub mod Pairs
-mod Filled
+pub mod Filled

@@ -23,7 +23,7 @@ recordOf j row = pick (ltb row 256) (getD (j .records) row noRecord) blankRecord
 unfoldable pub heldRows : ℕ → ℕ
 heldRows n = pick (ltb n 256) n 256
 
--- the table of n rows of which the i-th is f i
-unfoldable pub rows : (ℕ → Record) → ℕ → List Record
+-- the n rows of which the i-th is f i
+unfoldable pub rows : {A : Type 0} → (ℕ → A) → ℕ → List A
 rows f zero = []
 rows f (suc n) = rows f n ++ (f n ∷ [])

@@ -16,12 +16,12 @@ use Rattle.spv.specs.declared.table.Record.{Record}
 use Rattle.spv.specs.declared.bundle.Ruling.{Ruling}
 use Rattle.spv.specs.Table.{blankRecord, noRecord, recordOf, heldRows, rows}
 
-pub rows-length : (f : ℕ → Record) (n : ℕ) → length (rows f n) ≡ n
+pub rows-length : {A : Type 0} (f : ℕ → A) (n : ℕ) → length (rows f n) ≡ n
 unfolding rows
 rows-length f zero = refl
 rows-length f (suc n) = length-append (rows f n) (f n ∷ []) ∙ ap (λ (k : ℕ). k + 1) (rows-length f n) ∙ add-one n
 
-pub rows-at : (f : ℕ → Record) (n i : ℕ) (d : Record) → i < n → getD (rows f n) i d ≡ f i
+pub rows-at : {A : Type 0} (f : ℕ → A) (n i : ℕ) (d : A) → i < n → getD (rows f n) i d ≡ f i
 unfolding rows
 rows-at f zero i d h = absurd (not-suc-le-zero h)
 rows-at f (suc n) i d h = go (ltb i n) refl (rows-at f n i d)
@@ -33,20 +33,27 @@ rows-at f (suc n) i d h = go (ltb i n) refl (rows-at f n i d)
         getD-at (rows f n) (f n) [] d i (rows-length f n ∙ last) ∙ ap f last
 
 -- what a list has at an index below its length, whatever it has past its end
-getD-any : (l : List Record) (i : ℕ) (c d : Record) → i < length l → getD l i c ≡ getD l i d
+getD-any : {A : Type 0} (l : List A) (i : ℕ) (c d : A) → i < length l → getD l i c ≡ getD l i d
 getD-any [] i c d h = absurd (not-suc-le-zero h)
 getD-any (x ∷ l) zero c d h = refl
 getD-any (x ∷ l) (suc i) c d h = getD-any l i c d (le-of-suc-le-suc h)
 
-getD-replicate-same : (n i : ℕ) (d : Record) → getD (replicate n d) i d ≡ d
+getD-replicate-same : {A : Type 0} (n i : ℕ) (d : A) → getD (replicate n d) i d ≡ d
 getD-replicate-same zero i d = refl
 getD-replicate-same (suc n) zero d = refl
 getD-replicate-same (suc n) (suc i) d = getD-replicate-same n i d
 
-getD-padded : (l : List Record) (n i : ℕ) (d : Record) → getD (l ++ replicate n d) i d ≡ getD l i d
+getD-padded : {A : Type 0} (l : List A) (n i : ℕ) (d : A) → getD (l ++ replicate n d) i d ≡ getD l i d
 getD-padded [] n i d = getD-replicate-same n i d
 getD-padded (x ∷ l) n zero d = refl
 getD-padded (x ∷ l) n (suc i) d = getD-padded l n i d
+
+-- rows that are a list's, and past it d
+pub rows-list : {A : Type 0} (f : ℕ → A) (d : A) (l : List A) (n : ℕ) → ((i : ℕ) → f i ≡ getD l i d) → length l ≤ n → rows f n ≡ padded n d l
+unfolding padded
+rows-list f d l n e h =
+    ext-getD d (rows f n) (padded n d l) (rows-length f n ∙ sym (padded-length n d l h))
+    (λ i b. rows-at f n i d (rw (rows-length f n) at b) ∙ e i ∙ sym (getD-padded l (n - length l) i d))
 
 -- the records that the code holds, row by row, are the table
 module _ (j : Ruling) (l : List Record) (few : length l ≤ 256) (held : j .records ≡ padded 256 blankRecord l) where
@@ -63,10 +70,7 @@ module _ (j : Ruling) (l : List Record) (few : length l ≤ 256) (held : j .reco
           rw e (sym (List·getD-eq-default l blankRecord past))
 
   pub rows-padded : (n : ℕ) → length l ≤ n → rows (recordOf j) n ≡ padded n blankRecord l
-  unfolding padded
-  rows-padded n h =
-      ext-getD blankRecord (rows (recordOf j) n) (padded n blankRecord l) (rows-length (recordOf j) n ∙ sym (padded-length n blankRecord l h))
-      (λ i b. rows-at (recordOf j) n i blankRecord (rw (rows-length (recordOf j) n) at b) ∙ row-is i ∙ sym (getD-padded l (n - length l) i blankRecord))
+  rows-padded n h = rows-list (recordOf j) blankRecord l n row-is h
 
 pub held-le : (n : ℕ) → heldRows n ≤ n
 unfolding heldRows

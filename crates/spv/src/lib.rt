@@ -20,6 +20,7 @@ pub use prove::Judged;
 pub use prove::Proved;
 pub use prove::prove_bump;
 pub use prove::prove_cmp;
+pub use prove::prove_in;
 pub use prove::prove_tsc;
 pub use table::Record;
 pub use table::blank;
