@@ -1,0 +1,4 @@
+pub mod Page
+pub mod PageLaws
+pub mod Opening
+pub mod Examples
