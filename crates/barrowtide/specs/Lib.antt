@@ -1,3 +1,4 @@
 pub mod Interface
 pub mod Forms
 pub mod Answers
+pub mod Pages

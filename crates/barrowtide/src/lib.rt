@@ -1,5 +1,6 @@
 // The C interface. A call returns the number of its refusal, or 0; memory that it gives nothing for keeps its content.
 pub mod judge;
+pub mod pages;
 pub mod prove;
 pub mod read;
 pub mod write;
