@@ -4,7 +4,6 @@ use mathlib.Core.Bool.{Bool, _&&_}
 use mathlib.Core.List.{List, map}
 use lib.Dec.{eqb, leb}
 use lib.ListN.{length, replicate}
-use Rattle.format.specs.declared.refusal.Refusal.{Refusal}
 use Rattle.format.specs.Parse.{Parse, got, bad, pick, each}
 use Rattle.format.specs.Bump.{Bump, bumpWhole}
 use Rattle.format.specs.Gather.{padded}

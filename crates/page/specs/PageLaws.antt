@@ -5,10 +5,10 @@ use mathlib.Core.Bool.{Bool, true, false}
 use mathlib.Core.List.{List, [], _∷_, map}
 use native.Mathlib.Nat.{sub-zero}
 use native.Mathlib.Omega.{arith}
-use lib.Dec.{ltb, leb, eqb}
+use lib.Dec.{ltb, leb}
 use lib.ListN.{length, take, drop, getD, replicate, length-map, List·getD-eq-default}
 use lib.Seq.{drop-drop}
-use borrow.Author.Tests.{le-leb, lt-leb, leb-true, eq-eqb, ne-eqb, lt-ltb, le-ltb, ltb-true, ltb-false}
+use borrow.Author.Tests.{le-leb, lt-leb, leb-true, eq-eqb, ne-eqb, ltb-true, ltb-false}
 use Rattle.format.specs.Parse.{Parse, got, bad, pick, each}
 use Rattle.format.specs.Bump.{Bump, bumpWhole}
 use Rattle.format.specs.Path.{bumpPath}
@@ -21,7 +21,6 @@ use Rattle.spv.specs.Shapes.{provedOf}
 use Rattle.spv.specs.Bundle.{hashes, hashesOf}
 use Rattle.spv.specs.Table.{rows}
 use Rattle.spv.specs.TableLaws.{rows-list}
-use Rattle.page.specs.declared.Answer.{Answer}
 use Rattle.page.specs.declared.Paged.{Paged}
 use Rattle.page.specs.Page.{MAX-IDS, blankAnswer, answerOf, single, answers, allowed, bumpFor, page, pagedOf, rowOf}
 use Rattle.page.specs.Opening.{unopened, openingOf, answerUnder, answerAt}

@@ -1,7 +1,7 @@
 -- `fill` meets its contract: a walk of its MIR, by hand. The borrow of the row is opened before the loop and closed after it. A turn calls `answer_at`, stores what it returns to the element at i, and goes on at i + 1.
 -- The loop's invariant: the row is `upTo f ys i`, the first i answers and then what was there. The measure is what is left of the row.
 -- No line names a field of the answer. Assumes nothing.
-use mathlib.Core.Path.{_≡_, refl, sym, ap, subst, _∙_}
+use mathlib.Core.Path.{_≡_, refl, sym, ap, subst}
 use Prim.Native.Nat.{ℕ, _<_, _≤_, _^_, _+_, _-_, _*_, zero-le}
 use native.Mathlib.Nat.{le-antisymm}
 use native.Mathlib.Omega.{arith}
