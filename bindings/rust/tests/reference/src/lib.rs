@@ -1,7 +1,8 @@
 //! An independent reading of the papers in plain Rust, to compare the library with.
 //!
-//! It is written from paper 01 and the sources it names, sentence by sentence, and shares no code
-//! with the library or its binding. It aims at being easy to check against the paper, not at speed.
+//! It is written from papers 01 and 02 and the sources they name, sentence by sentence, and shares no
+//! code with the library or its binding. It aims at being easy to check against the papers, not at
+//! speed.
 //! [`generate`] makes the inputs that both are asked about.
 #![forbid(unsafe_code)]
 #![deny(missing_docs)]
@@ -22,6 +23,7 @@ pub mod refusal;
 pub mod sha256;
 pub mod transaction;
 pub mod tsc;
+pub mod write;
 
 /// 32 bytes in stored order: an id, a node or a root.
 pub type Hash = [u8; 32];

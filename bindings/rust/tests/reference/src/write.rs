@@ -1,0 +1,129 @@
+//! Writing the BUMP of a block's ids (02, Item 1).
+
+use std::collections::{BTreeSet, HashSet};
+
+use crate::climb::{beside, climb, Sibling};
+use crate::generate::draft::varint;
+use crate::refusal::{refuse, Refusal, BAD_OFFSET, NOT_LISTED, NO_ROOM, OVER_LIMIT, SAME_TX, TWIN};
+use crate::sha256::join;
+use crate::Hash;
+
+/// The BUMP that proves the ids at the chosen positions of a block's list, for a room of so many
+/// bytes. The ids stand end to end.
+pub fn write_bump(
+    block_height: u64,
+    ids: &[u8],
+    positions: &[u64],
+    room: usize,
+) -> Result<Vec<u8>, Refusal> {
+    let count = ids.len() / 32;
+    let whole = ids.len() % 32 == 0;
+    if block_height > 4_294_967_295 || !(2..=1_024).contains(&count) || !whole {
+        return refuse(OVER_LIMIT, 0);
+    }
+    if positions.is_empty() {
+        return refuse(NOT_LISTED, 0);
+    }
+    if positions.iter().any(|&position| position >= count as u64) {
+        return refuse(BAD_OFFSET, 0);
+    }
+    let ids: Vec<Hash> = ids.chunks_exact(32).map(|id| std::array::from_fn(|i| id[i])).collect();
+    if ids.iter().collect::<HashSet<_>>().len() < count {
+        return refuse(SAME_TX, 0);
+    }
+    let chosen: BTreeSet<u64> = positions.iter().copied().collect();
+    let tree = layers(ids);
+    if chosen.iter().any(|&position| meets_twin(&tree, position)) {
+        return refuse(TWIN, 0);
+    }
+    let bytes = bump(block_height, &tree, &chosen);
+    if bytes.len() > room {
+        return refuse(NO_ROOM, 0);
+    }
+    Ok(bytes)
+}
+
+/// The layers that a climb needs siblings of, from the ids upwards: all of the tree but its root.
+fn layers(ids: Vec<Hash>) -> Vec<Vec<Hash>> {
+    let mut tree = vec![ids];
+    loop {
+        let parents: Vec<Hash> = tree[tree.len() - 1]
+            .chunks(2)
+            .map(|pair| join(&pair[0], pair.last().expect("one node or two")))
+            .collect();
+        if parents.len() == 1 {
+            return tree;
+        }
+        tree.push(parents);
+    }
+}
+
+/// What stands at a position of a layer: a node, or beside the last of an odd number its copy.
+fn node(layer: &[Hash], position: u64) -> Sibling {
+    layer.get(position as usize).map_or(Sibling::Copy, |hash| Sibling::Written(*hash))
+}
+
+fn meets_twin(tree: &[Vec<Hash>], position: u64) -> bool {
+    let id = tree[0][position as usize];
+    let sibling = |layer: usize, offset| node(&tree[layer], offset);
+    climb(id, position, tree.len() as u64, sibling) == Err(TWIN)
+}
+
+/// The bytes: at each level the siblings that the chosen positions' climbs need, and at level 0 the
+/// chosen ids, offsets rising.
+fn bump(block_height: u64, tree: &[Vec<Hash>], chosen: &BTreeSet<u64>) -> Vec<u8> {
+    let mut bytes = varint(block_height);
+    bytes.push(tree.len() as u8);
+    for (level, layer) in tree.iter().enumerate() {
+        let mut offsets: BTreeSet<u64> =
+            chosen.iter().map(|position| beside(position >> level)).collect();
+        if level == 0 {
+            offsets.extend(chosen);
+        }
+        bytes.extend(varint(offsets.len() as u64));
+        for offset in offsets {
+            bytes.extend(varint(offset));
+            match node(layer, offset) {
+                Sibling::Written(hash) => {
+                    bytes.push(if level == 0 && chosen.contains(&offset) { 2 } else { 0 });
+                    bytes.extend(hash);
+                }
+                _ => bytes.push(1),
+            }
+        }
+    }
+    bytes
+}
+
+#[cfg(test)]
+mod tests {
+    use super::*;
+    use crate::hex::expand;
+
+    fn written(ids: &str, positions: &[u64]) -> Vec<u8> {
+        write_bump(0, &expand(ids), positions, 999).expect("a sound list")
+    }
+
+    #[test]
+    fn examples() {
+        let (left, right) = (join(&[0xaa; 32], &[0xbb; 32]), join(&[0xcc; 32], &[0xcc; 32]));
+        assert_eq!(written("[aa] [bb]", &[1, 1]), expand("00 01 02 00 00 [aa] 01 02 [bb]"));
+        assert_eq!(
+            written("[aa] [bb] [cc]", &[2]),
+            [expand("00 02 02 02 02 [cc] 03 01 01 00 00"), left.to_vec()].concat()
+        );
+        assert_eq!(
+            written("[aa] [bb] [cc]", &[0]),
+            [expand("00 02 02 00 02 [aa] 01 00 [bb] 01 01 00"), right.to_vec()].concat()
+        );
+    }
+
+    /// No list of different ids leads to a twin that is known, so a tree is made by hand: the
+    /// nodes of layer 1 are equal, which only the climb that comes from the right refuses.
+    #[test]
+    fn twins() {
+        let parent = join(&[0xcc; 32], &[0xcc; 32]);
+        let tree = [vec![[0xaa; 32], [0xbb; 32], [0xcc; 32]], vec![parent, parent]];
+        assert_eq!([0, 1, 2].map(|position| meets_twin(&tree, position)), [false, false, true]);
+    }
+}
