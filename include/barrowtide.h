@@ -1,5 +1,5 @@
 /*
- * Barrowtide: reads Merkle proofs of Bitcoin SV payments and judges BEEF bundles.
+ * Barrowtide: reads and writes Merkle proofs of Bitcoin SV payments and judges BEEF bundles.
  *
  * Link with libbarrowtide.a (x86-64 Linux). Nothing is allocated, no state is kept between calls,
  * and any number of threads may call at once.
@@ -20,14 +20,15 @@
  *     16 leaf by leaf;
  *   - in judging, transaction by transaction, 19, then 13, 14 or 15, 17 if it names a BUMP, and 20
  *     if not;
- *   - in comparing the first proof's refusal, the second's, 23, 24.
+ *   - in comparing the first proof's refusal, the second's, 23, 24;
+ *   - in writing 5, 13, 6, 19, 15, 22.
  *
  * Memory. A pointer that comes with a length may be null if the length is 0: it is then not
  * followed. All other pointers must be to memory of the size said, not null. What is lent by a
  * pointer to const is only read; what is lent by another must not overlap with anything else lent
  * to the same call. On a refusal *carried receives what the refusal carries and everything else
  * stays as it was, but for a lent table, which is zeroed. On acceptance the values are written and
- * *carried stays as it was.
+ * *carried stays as it was, and so does the room past what is written.
  *
  * Stack. As built by the kit a call needs at most
  *   - 192 KiB  barrowtide_judge_beef
@@ -57,6 +58,8 @@
 #define BARROWTIDE_MAX_BLOCK_HEIGHT 4294967295 /* a BUMP's block height */
 #define BARROWTIDE_MAX_BUMPS 64                /* BUMPs of a bundle */
 #define BARROWTIDE_MAX_TRANSACTIONS 256        /* transactions of a bundle */
+#define BARROWTIDE_MAX_IDS 1024                /* ids of the list that a BUMP is written of */
+#define BARROWTIDE_WRITE_ROOM 73728            /* bytes that are enough for any BUMP written */
 
 #ifdef __cplusplus
 extern "C" {
@@ -71,8 +74,10 @@ enum barrowtide_refusal {
     BARROWTIDE_LONG_VARINT = 3,   /* a VarInt is not in its shortest form | field start */
     BARROWTIDE_BAD_HEIGHT = 4,    /* a tree height is outside (BUMP 1 to 32, a CMP's first byte
                                      0 to 31) | field start */
-    BARROWTIDE_OVER_LIMIT = 5,    /* a count or a block height is over its limit | field start */
-    BARROWTIDE_BAD_OFFSET = 6,    /* an offset or a TSC index is outside the layer | field start */
+    BARROWTIDE_OVER_LIMIT = 5,    /* a count or a block height is over its limit | field start
+                                     a list has too few ids, too many or a part of one | 0 */
+    BARROWTIDE_BAD_OFFSET = 6,    /* an offset or a TSC index is outside the layer | field start
+                                     a chosen position is outside the list | 0 */
     BARROWTIDE_BAD_FLAG = 7,      /* flags, a node type or a BEEF byte are not allowed | that byte's
                                      place */
     BARROWTIDE_REPEATED = 8,      /* an offset stands in its level already | offset field */
@@ -82,7 +87,8 @@ enum barrowtide_refusal {
                                      a TSC transaction is not exactly its stated length |
                                      transaction start */
     BARROWTIDE_EMPTY = 12,        /* a BEEF has no transaction | count field */
-    BARROWTIDE_NOT_LISTED = 13,   /* the id is not at level 0, or no leaf is a client's | tx */
+    BARROWTIDE_NOT_LISTED = 13,   /* the id is not at level 0, no leaf is a client's, or no position
+                                     is chosen | tx */
     BARROWTIDE_MISSING = 14,      /* a sibling is not written | tx */
     BARROWTIDE_TWIN = 15,         /* a sibling equals the working hash at an odd position | tx */
     BARROWTIDE_ROOTS_DIFFER = 16, /* roots of clients differ, or a TSC target is another | 0 */
@@ -91,11 +97,13 @@ enum barrowtide_refusal {
     BARROWTIDE_SAME_TX = 19,      /* an id equals an earlier one | tx */
     BARROWTIDE_NO_PARENT = 20,    /* an input has no earlier parent | tx */
     BARROWTIDE_BAD_ROOTS = 21,    /* the list of roots is not a multiple of 32 bytes | 0 */
-    BARROWTIDE_NO_ROOM = 22,      /* the table has fewer records than transactions | count field */
+    BARROWTIDE_NO_ROOM = 22,      /* the table has fewer records than transactions | count field
+                                     the bytes to write are more than the room | 0 */
     BARROWTIDE_UNLIKE = 23,       /* two proofs differ in root, position or layers | 0 */
     BARROWTIDE_SAME_ID = 24       /* two proofs agree and prove one id | 0 */
 };
-/* "tx": the number of the transaction where a BEEF is judged, and 0 from all other calls. */
+/* "tx": the number of the transaction where a BEEF is judged, and 0 from all other calls. Where a
+   BUMP is written every refusal carries 0. */
 
 /* The name of a refusal, as "SHORT" of 2; "ACCEPTED" of 0, and "UNKNOWN" of numbers above 24. */
 static inline const char *barrowtide_refusal_name(uint32_t number)
@@ -219,6 +227,22 @@ typedef char barrowtide_record_takes_64_bytes[sizeof(barrowtide_record) == 64 ? 
 uint32_t barrowtide_judge_beef(const uint8_t *data, size_t len, const uint8_t *roots,
                                size_t roots_len, barrowtide_record *table, size_t table_len,
                                uint64_t *carried, uint64_t *transactions);
+
+/* ---- Writing ---- */
+
+/* Writes the BUMP that proves chosen ids of a block. The block's ids, 2 to 1,024, stand end to end
+   in ids_len bytes; the chosen positions count from 0, in any order, and one named twice counts
+   once. The BUMP has the least tree height that holds the list, offsets rising, the chosen ids with
+   flags 02, every sibling that their climbs need and no other leaf; a copy (flags 01) stands beside
+   the last node of an odd layer. The room out has out_len bytes; BARROWTIDE_WRITE_ROOM are always
+   enough. On acceptance *written is the number of bytes, which are the first ones of out; the room
+   past them stays as it was, and all of out on a refusal.
+   Refused: 5 for a block height over 32 bits, for fewer or more ids or a part of one; 13 for no
+   position; 6 for one outside the list; 19 for equal ids; 15 if a climb meets a twin; 22 if the
+   bytes needed are more than out_len. */
+uint32_t barrowtide_write_bump(uint64_t block_height, const uint8_t *ids, size_t ids_len,
+                               const uint64_t *positions, size_t positions_count, uint8_t *out,
+                               size_t out_len, uint64_t *carried, uint64_t *written);
 
 #ifdef __cplusplus
 }

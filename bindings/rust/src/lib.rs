@@ -1,7 +1,7 @@
 //! Merkle proofs of Bitcoin SV payments, read and judged by a proved library.
 //!
-//! The work is done by `libbarrowtide.a`, whose functions are proved to do what paper 01 says; this
-//! crate only hands the bytes over and the answers back. It has no dependencies.
+//! The work is done by `libbarrowtide.a`, whose functions are proved to do what papers 01 and 02 say;
+//! this crate only hands the bytes over and the answers back. It has no dependencies.
 //!
 //! - [`sha256d`], [`join`]: double SHA-256 of bytes and of two nodes
 //! - [`read_varint`], [`read_bump`], [`read_cmp`]: is this path well formed, and what does it hold?
@@ -9,6 +9,7 @@
 //! - [`prove_bump`], [`prove_cmp`], [`prove_tsc`], [`check_clients`]: the root that a proof leads to
 //! - [`compare`]: two proofs under one root that disagree on the id hold two strings of one hash
 //! - [`judge`], [`judge_beef`]: does every payment of a BEEF bundle rest on a trusted root?
+//! - [`write_bump`], [`write_bump_into`]: the BUMP that proves some of a block's ids
 //!
 //! Every call answers a value or a [`Refusal`] with 01's number and the place that it blames.
 //!
@@ -30,6 +31,7 @@ mod refusal;
 mod transaction;
 mod tsc;
 mod varint;
+mod write;
 
 pub use beef::{read_beef, Beef};
 pub use bump::{read_bump, Bump};
@@ -42,3 +44,4 @@ pub use refusal::{Reason, Refusal};
 pub use transaction::{read_transaction, Transaction};
 pub use tsc::{read_tsc, Tsc};
 pub use varint::{read_varint, VarInt};
+pub use write::{write_bump, write_bump_into, MAX_IDS, WRITE_ROOM};

@@ -15,9 +15,9 @@ pub enum Reason {
     LongVarint = 3,
     /// A tree height is outside its range.
     BadHeight = 4,
-    /// A count or a block height is over its limit.
+    /// A count or a block height is over its limit; a list is outside its sizes or not whole.
     OverLimit = 5,
-    /// An offset or a TSC index is outside its layer.
+    /// An offset, a TSC index or a chosen position is outside its layer.
     BadOffset = 6,
     /// Flags, a node type or a BEEF byte are not allowed.
     BadFlag = 7,
@@ -31,7 +31,7 @@ pub enum Reason {
     BadTx = 11,
     /// A BEEF has no transaction.
     Empty = 12,
-    /// The id is not at level 0, or no leaf is a client's.
+    /// The id is not at level 0, no leaf is a client's, or no position is chosen.
     NotListed = 13,
     /// A sibling is not written.
     Missing = 14,
@@ -43,13 +43,13 @@ pub enum Reason {
     Untrusted = 17,
     /// A BUMP number is not below the count of BUMPs.
     BadIndex = 18,
-    /// A transaction's id equals an earlier one.
+    /// An id equals an earlier one.
     SameTx = 19,
     /// An input has no earlier parent.
     NoParent = 20,
     /// The list of roots is not a multiple of 32 bytes.
     BadRoots = 21,
-    /// The table has fewer records than the bundle has transactions.
+    /// The lent table has fewer records than the bundle has transactions, or lent room is short.
     NoRoom = 22,
     /// Two proofs differ in root, position or layers.
     Unlike = 23,
@@ -63,15 +63,15 @@ const REASONS: [(Reason, &str, &str); 24] = [
     (Reason::Short, "SHORT", "bytes end inside a field"),
     (Reason::LongVarint, "LONG_VARINT", "VarInt not in its shortest form"),
     (Reason::BadHeight, "BAD_HEIGHT", "tree height outside its range"),
-    (Reason::OverLimit, "OVER_LIMIT", "count or block height over its limit"),
-    (Reason::BadOffset, "BAD_OFFSET", "offset or index outside its layer"),
+    (Reason::OverLimit, "OVER_LIMIT", "count, list or block height outside its limits"),
+    (Reason::BadOffset, "BAD_OFFSET", "offset, index or position outside its layer"),
     (Reason::BadFlag, "BAD_FLAG", "flags, node type or BEEF byte not allowed"),
     (Reason::Repeated, "REPEATED", "offset again in its level"),
     (Reason::Extra, "EXTRA", "bytes left after the end"),
     (Reason::BadVersion, "BAD_VERSION", "first four bytes not BEEF's"),
     (Reason::BadTx, "BAD_TX", "no inputs, no outputs, or not the stated length"),
     (Reason::Empty, "EMPTY", "BEEF with no transaction"),
-    (Reason::NotListed, "NOT_LISTED", "id not at level 0"),
+    (Reason::NotListed, "NOT_LISTED", "id not at level 0, or none chosen"),
     (Reason::Missing, "MISSING", "sibling not written"),
     (Reason::Twin, "TWIN", "sibling equal to the working hash at an odd position"),
     (Reason::RootsDiffer, "ROOTS_DIFFER", "roots differ"),
@@ -80,7 +80,7 @@ const REASONS: [(Reason, &str, &str); 24] = [
     (Reason::SameTx, "SAME_TX", "id equal to an earlier one"),
     (Reason::NoParent, "NO_PARENT", "an input without earlier parent"),
     (Reason::BadRoots, "BAD_ROOTS", "list of roots not a multiple of 32 bytes"),
-    (Reason::NoRoom, "NO_ROOM", "table with fewer records than transactions"),
+    (Reason::NoRoom, "NO_ROOM", "lent table or room too small"),
     (Reason::Unlike, "UNLIKE", "two proofs differ in root, position or layers"),
     (Reason::SameId, "SAME_ID", "two proofs agree and prove one id"),
 ];
@@ -118,7 +118,8 @@ impl Reason {
         REASONS[self as usize - 1].2
     }
 
-    /// Whether the refusal carries the place of the field or byte that is to blame.
+    /// Whether the refusal, given in reading, carries the place of the field or byte that is to
+    /// blame. From a call that writes it carries 0.
     ///
     /// The others carry 0, or in a BEEF the transaction's number if they come in judging
     /// ([`Reason::blames_transaction`]).
@@ -145,7 +146,7 @@ pub struct Refusal {
     /// Why.
     pub reason: Reason,
     /// The place that is blamed, counted from 0 at the input's first byte; or the number of the
-    /// transaction that is blamed, counted from 0; or 0. The reason tells which.
+    /// transaction that is blamed, counted from 0; or 0. The reason and the call tell which.
     pub carried: u64,
 }
 

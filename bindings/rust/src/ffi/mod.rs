@@ -3,7 +3,8 @@
 //!
 //! Each call (but [`join`]) returns 01's refusal number, or 0 if it accepts. A refusal writes what
 //! it carries to `carried` and leaves all other lent memory as it was, except that a lent table is
-//! zeroed. Acceptance writes the values and leaves `carried` as it was.
+//! zeroed. Acceptance writes the values and leaves `carried` as it was, and the room past what is
+//! written.
 //!
 //! The functions one module up are made of these and are nicer to use; these show what becomes of
 //! lent memory. All the unsafe code of the crate is here.
@@ -15,6 +16,7 @@ mod hash;
 mod judge;
 mod path;
 mod prove;
+mod write;
 
 pub use bundle::{read_beef, read_transaction, read_tsc};
 pub use compare::{compare, Lent};
@@ -22,3 +24,4 @@ pub use hash::{join, sha256d};
 pub use judge::judge_beef;
 pub use path::{read_bump, read_cmp, read_varint};
 pub use prove::{check_clients, prove_bump, prove_cmp, prove_tsc};
+pub use write::write_bump;
