@@ -4,7 +4,7 @@ use std::env;
 use std::path::{Path, PathBuf};
 use std::process::Command;
 
-use barrowtide::{Reason, Record, MAX_INPUT, MAX_TRANSACTIONS};
+use barrowtide::{Reason, Record, MAX_IDS, MAX_INPUT, MAX_TRANSACTIONS, WRITE_ROOM};
 
 /// A file of the repository.
 fn file(path: &str) -> PathBuf {
@@ -41,8 +41,9 @@ fn header() {
         expected += &format!("{number} {}\n", reason.name());
     }
     expected += &format!("input {MAX_INPUT}\ntransactions {MAX_TRANSACTIONS}\n");
+    expected += &format!("ids {MAX_IDS}\nwrite room {WRITE_ROOM}\n");
     expected += &format!("record {}\n", size_of::<Record>());
-    expected += "hash of nothing 0\nno bundle 2\ncarried 0\n";
+    expected += "hash of nothing 0\nno bundle 2\nno list 5\ncarried 0\n";
     for standard in ["c99", "c11", "c17"] {
         assert_eq!(run(standard, "bindings/rust/tests/c/header.c", &[]), expected);
     }
