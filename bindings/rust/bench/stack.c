@@ -14,6 +14,8 @@ static size_t len, more_len;
 static barrowtide_record table[BARROWTIDE_MAX_TRANSACTIONS];
 static uint64_t carried, a, b, c;
 static uint8_t id[32], root[32], first[64], second[64];
+static uint64_t positions[BARROWTIDE_MAX_IDS];
+static uint8_t out[BARROWTIDE_WRITE_ROOM];
 
 /* What a call returns is kept, so that the call is not the last thing done and has a frame above. */
 static volatile uint32_t refusal;
@@ -53,6 +55,13 @@ static void judge_beef(void)
     refusal = barrowtide_judge_beef(data, len, more, more_len, table, BARROWTIDE_MAX_TRANSACTIONS,
                                     &carried, &a);
 }
+static void write_bump(void)
+{
+    size_t count = len / 32;
+    for (size_t i = 0; i < count; i++)
+        positions[i] = i;
+    refusal = barrowtide_write_bump(1, data, len, positions, count, out, sizeof out, &carried, &a);
+}
 
 #define CALL(name) {#name, name}
 static const struct {
@@ -62,7 +71,7 @@ static const struct {
     CALL(sha256d),       CALL(join),             CALL(read_varint), CALL(read_bump),
     CALL(read_cmp),      CALL(read_transaction), CALL(read_tsc),    CALL(read_beef),
     CALL(prove_bump),    CALL(prove_cmp),        CALL(prove_tsc),   CALL(check_clients),
-    CALL(compare),       CALL(judge_beef),
+    CALL(compare),       CALL(judge_beef),       CALL(write_bump),
 };
 
 /* Runs a function, and says how many bytes of the painted stack have changed, from its top. */

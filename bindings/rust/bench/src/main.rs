@@ -5,11 +5,13 @@
 //! ```
 
 mod hash;
+mod joins;
 mod judge;
 mod measure;
 mod prove;
 mod read;
 mod stack;
+mod write;
 mod yardstick;
 
 const PREFACE: &str = "\
@@ -25,5 +27,6 @@ fn main() {
     read::run();
     prove::run();
     judge::run();
+    write::run();
     stack::run();
 }

@@ -52,6 +52,7 @@ pub fn run() {
     row(c"check_clients", &bump, &[]);
     row(c"compare", &bump, &id);
     row(c"judge_beef", &beef, &roots);
+    row(c"write_bump", &random.bytes(32 * 1_024), &[]);
 }
 
 fn row(call: &CStr, data: &[u8], more: &[u8]) {

@@ -1,0 +1,29 @@
+//! Tables of calls whose work is known in joins: beside the reference and beside the joins alone.
+
+use barrowtide::join;
+
+use crate::measure::{seconds, subject, time, Subject};
+
+/// Prints the heading of such a table.
+pub fn heading(name: &str) {
+    println!("\n{name}");
+    println!(
+        "{:<42} {:>12} {:>12} {:>6} {:>12} {:>6}",
+        "", "library", "reference", "ratio", "joins alone", "ratio"
+    );
+}
+
+/// Prints a row of it; `joins` is how many the call makes.
+pub fn row(name: &str, joins: usize, library: Subject, reference: Subject) {
+    let node = [7; 32];
+    let alone = subject(|| (0..joins).fold(node, |last, _| join(&last, &node)));
+    let times = seconds(vec![library, reference, alone]);
+    println!(
+        "{name:<42} {:>12} {:>12} {:>6.2} {:>12} {:>6.2}",
+        time(times[0]),
+        time(times[1]),
+        times[0] / times[1],
+        time(times[2]),
+        times[0] / times[2]
+    );
+}
