@@ -17,6 +17,7 @@ pub mod fields;
 pub mod generate;
 pub mod hex;
 pub mod judge;
+pub mod page;
 pub mod path;
 pub mod prove;
 pub mod refusal;
