@@ -11,6 +11,7 @@
  * transaction, counted from 0; or 0.
  *
  * Order. Of several refusals the first in this order is given:
+ *   - for a page 5, then 22;
  *   - 1, then 21;
  *   - in reading, fields as they come, and on one field 2, 3, then 4, 5, 7, 10, 11, 12 or 18, then
  *     22; for an offset 2, 3, 6, 8. A TSC index is tested after the node count and before the
@@ -27,8 +28,8 @@
  * followed. All other pointers must be to memory of the size said, not null. What is lent by a
  * pointer to const is only read; what is lent by another must not overlap with anything else lent
  * to the same call. On a refusal *carried receives what the refusal carries and everything else
- * stays as it was, but for a lent table, which is zeroed. On acceptance the values are written and
- * *carried stays as it was, and so does the room past what is written.
+ * stays as it was, but for a lent table or row, which is zeroed. On acceptance the values are
+ * written and *carried stays as it was, and so does the room past what is written.
  *
  * Stack. As built by the kit a call needs at most
  *   - 192 KiB  barrowtide_judge_beef
@@ -58,6 +59,7 @@
 #define BARROWTIDE_MAX_BLOCK_HEIGHT 4294967295 /* a BUMP's block height */
 #define BARROWTIDE_MAX_BUMPS 64                /* BUMPs of a bundle */
 #define BARROWTIDE_MAX_TRANSACTIONS 256        /* transactions of a bundle */
+#define BARROWTIDE_MAX_PAGE 256                /* ids of a page */
 #define BARROWTIDE_MAX_IDS 1024                /* ids of the list that a BUMP is written of */
 #define BARROWTIDE_WRITE_ROOM 73728            /* bytes that are enough for any BUMP written */
 
@@ -75,7 +77,8 @@ enum barrowtide_refusal {
     BARROWTIDE_BAD_HEIGHT = 4,    /* a tree height is outside (BUMP 1 to 32, a CMP's first byte
                                      0 to 31) | field start */
     BARROWTIDE_OVER_LIMIT = 5,    /* a count or a block height is over its limit | field start
-                                     a list has too few ids, too many or a part of one | 0 */
+                                     a list or page has too few ids, too many or a part of one |
+                                     0 */
     BARROWTIDE_BAD_OFFSET = 6,    /* an offset or a TSC index is outside the layer | field start
                                      a chosen position is outside the list | 0 */
     BARROWTIDE_BAD_FLAG = 7,      /* flags, a node type or a BEEF byte are not allowed | that byte's
@@ -98,7 +101,7 @@ enum barrowtide_refusal {
     BARROWTIDE_NO_PARENT = 20,    /* an input has no earlier parent | tx */
     BARROWTIDE_BAD_ROOTS = 21,    /* the list of roots is not a multiple of 32 bytes | 0 */
     BARROWTIDE_NO_ROOM = 22,      /* the table has fewer records than transactions | count field
-                                     the bytes to write are more than the room | 0 */
+                                     the bytes to write or the ids are more than the room | 0 */
     BARROWTIDE_UNLIKE = 23,       /* two proofs differ in root, position or layers | 0 */
     BARROWTIDE_SAME_ID = 24       /* two proofs agree and prove one id | 0 */
 };
@@ -183,6 +186,25 @@ uint32_t barrowtide_prove_tsc(const uint8_t *data, size_t len, uint64_t *carried
 uint32_t barrowtide_check_clients(const uint8_t *data, size_t len, uint64_t *carried,
                                   uint8_t root[32]);
 
+/* What a page says of one id: a proof, or a refusal with all but the first two fields 0. */
+typedef struct {
+    uint64_t refusal;  /* 0 if the id is proved, else the number of its refusal */
+    uint64_t carried;  /* what that refusal carries */
+    uint64_t position; /* the id's position in the block */
+    uint64_t layers;   /* the number of layers above it */
+    uint8_t root[32];  /* the Merkle root */
+} barrowtide_answer;
+
+/* Asks one BUMP about a page of up to 256 ids, which stand end to end in ids_len bytes. The row has
+   room for row_len answers; BARROWTIDE_MAX_PAGE are always enough. If the page is answered, each id
+   has the answer that it gets singly from barrowtide_prove_bump, refused or not, in order, and the
+   answers past the ids are zero. A refusal of the call zeroes the whole row.
+   Refused: 5 for more ids or a part of one; 22 for a row shorter than the ids; then as
+   barrowtide_read_bump. */
+uint32_t barrowtide_prove_page(const uint8_t *data, size_t len, const uint8_t *ids,
+                               size_t ids_len, barrowtide_answer *row, size_t row_len,
+                               uint64_t *carried);
+
 /* The form of a proof. Any other number is taken as BARROWTIDE_TSC. */
 enum barrowtide_form { BARROWTIDE_BUMP = 0, BARROWTIDE_CMP = 1, BARROWTIDE_TSC = 2 };
 
@@ -208,13 +230,16 @@ typedef struct {
     uint32_t position; /* its position in the block; 0 if not anchored */
 } barrowtide_record;
 
-/* A record has no padding. */
+/* Records and answers have no padding. */
 #if defined(__cplusplus) && __cplusplus >= 201103L
 static_assert(sizeof(barrowtide_record) == 64, "a record takes 64 bytes");
+static_assert(sizeof(barrowtide_answer) == 64, "an answer takes 64 bytes");
 #elif defined(__STDC_VERSION__) && __STDC_VERSION__ >= 201112L
 _Static_assert(sizeof(barrowtide_record) == 64, "a record takes 64 bytes");
+_Static_assert(sizeof(barrowtide_answer) == 64, "an answer takes 64 bytes");
 #else
 typedef char barrowtide_record_takes_64_bytes[sizeof(barrowtide_record) == 64 ? 1 : -1];
+typedef char barrowtide_answer_takes_64_bytes[sizeof(barrowtide_answer) == 64 ? 1 : -1];
 #endif
 
 /* Judges a BEEF bundle against trusted roots, which stand end to end in roots_len bytes, possibly

@@ -7,6 +7,7 @@
 //! - [`read_varint`], [`read_bump`], [`read_cmp`]: is this path well formed, and what does it hold?
 //! - [`read_transaction`], [`read_tsc`], [`read_beef`]: the same of transactions, proofs and bundles
 //! - [`prove_bump`], [`prove_cmp`], [`prove_tsc`], [`check_clients`]: the root that a proof leads to
+//! - [`prove_page`], [`prove_page_into`]: the same for many ids of one BUMP
 //! - [`compare`]: two proofs under one root that disagree on the id hold two strings of one hash
 //! - [`judge`], [`judge_beef`]: does every payment of a BEEF bundle rest on a trusted root?
 //! - [`write_bump`], [`write_bump_into`]: the BUMP that proves some of a block's ids
@@ -26,6 +27,7 @@ pub mod ffi;
 mod hash;
 pub mod hex;
 mod judge;
+mod page;
 mod prove;
 mod refusal;
 mod transaction;
@@ -39,6 +41,7 @@ pub use cmp::{read_cmp, Cmp};
 pub use compare::{compare, Claim, Collision};
 pub use hash::{join, sha256d, Hash, MAX_INPUT};
 pub use judge::{judge, judge_beef, Record, Verdict, MAX_TRANSACTIONS};
+pub use page::{prove_page, prove_page_into, Answer, MAX_PAGE};
 pub use prove::{check_clients, prove_bump, prove_cmp, prove_tsc, Proof};
 pub use refusal::{Reason, Refusal};
 pub use transaction::{read_transaction, Transaction};

@@ -2,9 +2,9 @@
 //! pointers.
 //!
 //! Each call (but [`join`]) returns 01's refusal number, or 0 if it accepts. A refusal writes what
-//! it carries to `carried` and leaves all other lent memory as it was, except that a lent table is
-//! zeroed. Acceptance writes the values and leaves `carried` as it was, and the room past what is
-//! written.
+//! it carries to `carried` and leaves all other lent memory as it was, except that a lent table or
+//! row is zeroed. Acceptance writes the values and leaves `carried` as it was, and the room past
+//! what is written.
 //!
 //! The functions one module up are made of these and are nicer to use; these show what becomes of
 //! lent memory. All the unsafe code of the crate is here.
@@ -14,6 +14,7 @@ mod bundle;
 mod compare;
 mod hash;
 mod judge;
+mod page;
 mod path;
 mod prove;
 mod write;
@@ -22,6 +23,7 @@ pub use bundle::{read_beef, read_transaction, read_tsc};
 pub use compare::{compare, Lent};
 pub use hash::{join, sha256d};
 pub use judge::judge_beef;
+pub use page::prove_page;
 pub use path::{read_bump, read_cmp, read_varint};
 pub use prove::{check_clients, prove_bump, prove_cmp, prove_tsc};
 pub use write::write_bump;
