@@ -4,7 +4,8 @@ use std::env;
 use std::path::{Path, PathBuf};
 use std::process::Command;
 
-use barrowtide::{Reason, Record, MAX_IDS, MAX_INPUT, MAX_TRANSACTIONS, WRITE_ROOM};
+use barrowtide::{Answer, Reason, Record};
+use barrowtide::{MAX_IDS, MAX_INPUT, MAX_PAGE, MAX_TRANSACTIONS, WRITE_ROOM};
 
 /// A file of the repository.
 fn file(path: &str) -> PathBuf {
@@ -41,9 +42,9 @@ fn header() {
         expected += &format!("{number} {}\n", reason.name());
     }
     expected += &format!("input {MAX_INPUT}\ntransactions {MAX_TRANSACTIONS}\n");
-    expected += &format!("ids {MAX_IDS}\nwrite room {WRITE_ROOM}\n");
-    expected += &format!("record {}\n", size_of::<Record>());
-    expected += "hash of nothing 0\nno bundle 2\nno list 5\ncarried 0\n";
+    expected += &format!("page {MAX_PAGE}\nids {MAX_IDS}\nwrite room {WRITE_ROOM}\n");
+    expected += &format!("record {}\nanswer {}\n", size_of::<Record>(), size_of::<Answer>());
+    expected += "hash of nothing 0\nno bundle 2\nno path 2\nno list 5\ncarried 0\n";
     for standard in ["c99", "c11", "c17"] {
         assert_eq!(run(standard, "bindings/rust/tests/c/header.c", &[]), expected);
     }
