@@ -8,10 +8,11 @@ enum { ROOM = 1 << 20, PAINT = 0xa5 };
 
 static uint8_t stack[ROOM];
 
-/* What a call is lent: the input, and beside it an id, a node or the trusted roots. */
+/* What a call is lent: the input, and beside it an id, a node, a page or the trusted roots. */
 static const uint8_t *data, *more;
 static size_t len, more_len;
 static barrowtide_record table[BARROWTIDE_MAX_TRANSACTIONS];
+static barrowtide_answer answers[BARROWTIDE_MAX_PAGE];
 static uint64_t carried, a, b, c;
 static uint8_t id[32], root[32], first[64], second[64];
 static uint64_t positions[BARROWTIDE_MAX_IDS];
@@ -45,6 +46,11 @@ static void prove_tsc(void)
     refusal = barrowtide_prove_tsc(data, len, &carried, id, &a, &b, root);
 }
 static void check_clients(void) { refusal = barrowtide_check_clients(data, len, &carried, root); }
+static void prove_page(void)
+{
+    refusal = barrowtide_prove_page(data, len, more, more_len, answers, BARROWTIDE_MAX_PAGE,
+                                    &carried);
+}
 static void compare(void)
 {
     refusal = barrowtide_compare(BARROWTIDE_BUMP, data, len, more, BARROWTIDE_BUMP, data, len, more,
@@ -71,7 +77,7 @@ static const struct {
     CALL(sha256d),       CALL(join),             CALL(read_varint), CALL(read_bump),
     CALL(read_cmp),      CALL(read_transaction), CALL(read_tsc),    CALL(read_beef),
     CALL(prove_bump),    CALL(prove_cmp),        CALL(prove_tsc),   CALL(check_clients),
-    CALL(compare),       CALL(judge_beef),       CALL(write_bump),
+    CALL(prove_page),    CALL(compare),          CALL(judge_beef),  CALL(write_bump),
 };
 
 /* Runs a function, and says how many bytes of the painted stack have changed, from its top. */

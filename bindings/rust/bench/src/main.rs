@@ -8,6 +8,7 @@ mod hash;
 mod joins;
 mod judge;
 mod measure;
+mod page;
 mod prove;
 mod read;
 mod stack;
@@ -26,6 +27,7 @@ fn main() {
     hash::run();
     read::run();
     prove::run();
+    page::run();
     judge::run();
     write::run();
     stack::run();

@@ -50,6 +50,7 @@ pub fn run() {
     row(c"prove_cmp", &cmp, &id);
     row(c"prove_tsc", &proof, &[]);
     row(c"check_clients", &bump, &[]);
+    row(c"prove_page", &bump, &[id; 256].concat());
     row(c"compare", &bump, &id);
     row(c"judge_beef", &beef, &roots);
     row(c"write_bump", &random.bytes(32 * 1_024), &[]);

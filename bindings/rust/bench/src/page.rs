@@ -1,0 +1,35 @@
+//! Pages of ids against one BUMP.
+
+use barrowtide::{prove_page_into, Answer, Hash, MAX_PAGE};
+use reference::generate::path::Plan;
+use reference::generate::random::Random;
+use reference::generate::tree::Tree;
+use reference::page::prove_page;
+
+use crate::joins::{heading, row};
+use crate::measure::subject;
+use crate::prove::buried;
+
+/// Prints the table of pages.
+pub fn run() {
+    heading("Pages of 256 ids (a join for each id and layer)");
+    let tree = Tree::random(&mut Random::of("page"), 1_024);
+    let positions: Vec<u64> = (0..MAX_PAGE as u64).map(|number| 4 * number).collect();
+    let ids: Vec<Hash> = positions.iter().map(|&position| tree.hash(0, position)).collect();
+    compare("BUMP of 10 layers", &Plan::of(&tree, &positions), &ids, tree.root());
+    let (path, root) = buried(&tree, &positions);
+    compare("BUMP, 32 levels of 1,024 falling leaves", &path, &ids, root);
+}
+
+fn compare(name: &str, path: &Plan, ids: &[Hash], root: Hash) {
+    let (bump, ids) = (path.bump().bytes, ids.as_flattened());
+    let mut answers = [Answer::default(); MAX_PAGE];
+    assert_eq!(prove_page_into(&bump, ids, &mut answers), Ok(()));
+    assert!(answers.iter().all(|answer| answer.root == root));
+    row(
+        name,
+        MAX_PAGE * path.levels.len(),
+        subject(|| prove_page_into(&bump, ids, &mut answers)),
+        subject(|| prove_page(&bump, ids, MAX_PAGE)),
+    );
+}
