@@ -10,6 +10,7 @@ use Rattle.format.specs.declared.level.Leaf.{Leaf}
 use Rattle.format.specs.declared.path.Found.{Found}
 use Rattle.format.specs.declared.path.Found.the-variants.{Here, Missing}
 use Rattle.format.specs.Parse.{pick, got}
+use Rattle.format.specs.Level.{holds}
 use Rattle.format.specs.Search.{lookup}
 use Rattle.format.specs.Bump.{Bump, bumpWhole}
 use Rattle.format.specs.Refusals.{OVER-LIMIT, NOT-LISTED, BAD-OFFSET, SAME-TX, TWIN, NO-ROOM, MAX-BLOCK}
@@ -26,6 +27,10 @@ use Rattle.encoder.specs.Tree.{size, node, height, treeClimb}
 unfoldable pub under : List ℕ → ℕ → ℕ → Bool
 under [] k j = false
 under (i ∷ chosen) k j = eqb (i / 2 ^ k) j || under chosen k j
+
+-- every chosen position is one of the list
+abbrev pub Below : List (List ℕ) → List ℕ → Type 0
+Below ids chosen = (i : ℕ) → holds i chosen ≡ true → i < length ids
 
 -- which of the siblings needed are left out: none
 unfoldable pub leftOut : List ℕ → ℕ → ℕ → Bool

@@ -1,31 +1,27 @@
 -- The BUMP of a list within the sizes is one that the layout can have.
-use mathlib.Core.Path.{_≡_, refl, sym, ap, ap₂, _∙_, subst}
+use mathlib.Core.Path.{_≡_, refl, sym, ap, _∙_}
 use mathlib.Core.Bool.{Bool, true, false, _&&_, _||_, not}
 use mathlib.Core.List.{List, [], _∷_, _++_}
 use mathlib.Core.Option.{Option, none, some}
-use Prim.Native.Nat.{ℕ, zero, suc, _+_, _-_, _*_, _^_, _/_, _%_, _≤_, _<_}
-use lib.ListN.{length, getD}
-use lib.Dec.{ltb, leb, eqb}
+use Prim.Native.Nat.{ℕ, zero, suc, _+_, _-_, _^_, _/_, _%_, _≤_, _<_}
+use lib.ListN.{length}
+use lib.Dec.{ltb, eqb}
 use lib.Pow.{pow-mono}
 use native.Mathlib.Omega.{arith}
-use native.Mathlib.Nat.{add-zero, zero-add, div-one}
-use borrow.Author.Tests.{lt-ltb, le-ltb, ltb-true, ltb-false, eqb-true, eqb-false, eq-eqb, ne-eqb}
+use borrow.Author.Tests.{ltb-true, ltb-false, eqb-true, eqb-false, eq-eqb, ne-eqb}
+use Rattle.encoder.specs.Truth.{or-true}
 use Rattle.format.specs.Parse.{pick}
 use Rattle.format.specs.Level.{holds}
 use Rattle.format.specs.LevelLaws.{holds-snoc}
-use Rattle.format.specs.Refusals.{MAX-BLOCK, MAX-HEIGHT, MAX-LEAVES}
+use Rattle.format.specs.Refusals.{MAX-BLOCK}
 use Rattle.spv.specs.Climb.{beside}
-use Rattle.spv.specs.ClimbLaws.{beside-odd, beside-even}
-use Rattle.format.specs.Spelling.{AllBytes, Fits}
-use Rattle.format.specs.BumpBytes.{Carried, plain, copy, client, Entry, Content, HashFit, CarriedFit, EntryFit, andEntry, LevelFit, nextLevel, ContentFit}
-use Rattle.encoder.specs.Tree.{layer, size, node, height}
+use Rattle.spv.specs.ClimbLaws.{beside-even}
+use Rattle.format.specs.Spelling.{Fits}
+use Rattle.format.specs.BumpBytes.{Carried, plain, copy, client, CarriedFit, EntryFit, andEntry, LevelFit, nextLevel, ContentFit}
+use Rattle.encoder.specs.Tree.{size, node, height}
 use Rattle.encoder.specs.TreeLaws.{height-holds, height-least, stays, Hashes, layer-hashes}
-use Rattle.encoder.specs.BlockBump.{under, leftOut, siblingAt, asked, rising, levelFor, levelsFor, blockBump, allBelow}
+use Rattle.encoder.specs.BlockBump.{Below, under, leftOut, siblingAt, asked, rising, levelsFor, blockBump, allBelow}
 use Rattle.encoder.specs.RisingLaws.{rising-none, rising-some}
-
--- every chosen position is one of the list
-abbrev pub Below : List (List ℕ) → List ℕ → Type 0
-Below ids chosen = (i : ℕ) → holds i chosen ≡ true → i < length ids
 
 -- a list and positions within the sizes
 pub record Sizes (block : ℕ) (ids : List (List ℕ)) (chosen : List ℕ) : Type 0 where
@@ -46,20 +42,12 @@ under-told (i ∷ chosen) k j e = go (eqb (i / 2 ^ k) j) refl e (λ f. under-tol
         → (x : ℕ) × (holds x (i ∷ chosen) ≡ true) × (x / 2 ^ k ≡ j)
     go true h f r = (i, rw (eq-eqb i i refl), eqb-true _ _ h)
     go false h f r = let y = r f in (y .0, rw (y .1) (or-true (eqb (y .0) i)), y .2)
-      where
-        or-true : (b : Bool) → (b || true) ≡ true
-        or-true true = refl
-        or-true false = refl
 
 pub under-chosen : (chosen : List ℕ) (i k : ℕ) → holds i chosen ≡ true → under chosen k (i / 2 ^ k) ≡ true
 unfolding under holds
 under-chosen [] i k e = absurd (let z : _≡_ {A = ℕ} 0 1 = cc in omega arith)
 under-chosen (x ∷ chosen) i k e = go (eqb i x) refl e (λ f. under-chosen chosen i k f)
   where
-    or-true : (b : Bool) → (b || true) ≡ true
-    or-true true = refl
-    or-true false = refl
-
     go : (t : Bool) → eqb i x ≡ t → (t || holds i chosen) ≡ true → (holds i chosen ≡ true → under chosen k (i / 2 ^ k) ≡ true) → (eqb (x / 2 ^ k) (i / 2 ^ k) || under chosen k (i / 2 ^ k)) ≡ true
     go true h f r = rw (eq-eqb (x / 2 ^ k) (i / 2 ^ k) (ap (λ (n : ℕ). n / 2 ^ k) (sym (eqb-true i x h))))
     go false h f r = rw (r f) (or-true (eqb (x / 2 ^ k) (i / 2 ^ k)))

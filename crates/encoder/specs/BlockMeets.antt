@@ -1,24 +1,24 @@
 -- What is written for a block meets the rules: it is read as that BUMP, with exactly the leaves asked for.
-use mathlib.Core.Path.{_≡_, refl, sym, ap, ap₂, _∙_, subst}
+use mathlib.Core.Path.{_≡_, refl, sym, ap, _∙_}
 use mathlib.Core.Bool.{Bool, true, false}
-use mathlib.Core.List.{List, [], _∷_, _++_, map}
+use mathlib.Core.List.{List, [], _∷_, map}
 use mathlib.Core.Option.{Option, none, some}
 use Prim.Native.Nat.{ℕ, zero, suc, _+_, _-_, _^_, _≤_, _<_}
 use lib.ListN.{length, getD, List·getD-map}
 use lib.Dec.{eqb}
 use native.Mathlib.Omega.{arith}
 use native.Mathlib.Nat.{zero-add, add-zero}
-use borrow.Author.Tests.{eqb-true, eqb-false, eq-eqb, ne-eqb}
+use borrow.Author.Tests.{eqb-true, eqb-false}
 use Rattle.format.specs.declared.level.Leaf.{Leaf}
 use Rattle.format.specs.Parse.{got}
 use Rattle.format.specs.Search.{lookup}
 use Rattle.format.specs.Bump.{Bump, bumpWhole}
-use Rattle.format.specs.BumpBytes.{Carried, Entry, Content, bumpBytes, entryOf, levelsOf, contentOf}
+use Rattle.format.specs.BumpBytes.{Carried, Content, bumpBytes, entryOf, contentOf}
 use Rattle.format.specs.BumpRoundTrip.{bump-read-back}
 use Rattle.encoder.specs.Tree.{height}
 use Rattle.encoder.specs.TreeLaws.{height-holds, height-least}
 use Rattle.encoder.specs.BlockBump.{asked, rising, levelFor, levelsFor, blockBump, foundAs, Rising, Meets}
-use Rattle.encoder.specs.RisingLaws.{at-offset, From, found-says, before-none, at-none, at-first, at-later, rising-none, rising-some}
+use Rattle.encoder.specs.RisingLaws.{at-offset, From, found-says, before-none, at-first, at-later, rising-none, rising-some}
 use Rattle.encoder.specs.BlockFit.{Sizes, block-bump-fits}
 
 -- the leaves asked for rise, and stand where they were asked for
@@ -105,5 +105,5 @@ module _ {block : ℕ} {ids : List (List ℕ)} {chosen s : List ℕ} (r : ReadBa
   }
 
 -- the bytes written meet the rules
-pub written-meets : {block : ℕ} {ids : List (List ℕ)} {chosen : List ℕ} → Sizes block ids chosen → Meets block ids chosen (bumpBytes (blockBump block ids chosen))
-written-meets g = back-meets (read-back g)
+pub bump-meets : {block : ℕ} {ids : List (List ℕ)} {chosen : List ℕ} → Sizes block ids chosen → Meets block ids chosen (bumpBytes (blockBump block ids chosen))
+bump-meets g = back-meets (read-back g)

@@ -1,15 +1,16 @@
 -- "Reading it back proves each chosen id at its position to the list's root" (02, Item 1).
-use mathlib.Core.Path.{_≡_, refl, sym, ap, ap₂, _∙_, subst}
+use mathlib.Core.Path.{_≡_, refl, sym, ap, ap₂, _∙_}
 use mathlib.Core.Bool.{Bool, true, false, _&&_, _||_, not}
-use mathlib.Core.List.{List, [], _∷_, _++_, map}
+use mathlib.Core.List.{List, [], _∷_, map}
 use mathlib.Core.Option.{Option, none, some}
-use Prim.Native.Nat.{ℕ, zero, suc, _+_, _-_, _*_, _^_, _/_, _%_, _≤_, _<_}
+use Prim.Native.Nat.{ℕ, zero, suc, _+_, _-_, _^_, _/_, _%_, _≤_, _<_}
 use lib.ListN.{length, getD}
 use lib.Dec.{ltb, eqb}
-use lib.Pow.{pow-add, pow-pos, shr-shr, shr-lt}
+use lib.Pow.{shr-shr, shr-lt}
 use native.Mathlib.Omega.{arith}
-use native.Mathlib.Nat.{zero-add, add-zero, div-one, pow-suc}
-use borrow.Author.Tests.{eqb-true, eqb-false, eq-eqb, ne-eqb, lt-ltb, ltb-true, ltb-false, not-true}
+use native.Mathlib.Nat.{zero-add, div-one, pow-suc}
+use borrow.Author.Tests.{eqb-true, eqb-false, lt-ltb, ltb-true}
+use Rattle.encoder.specs.Truth.{or-true, absurd-bool}
 use Rattle.format.specs.declared.level.Kind.{Kind}
 use Rattle.format.specs.declared.level.Kind.the-variants.{Plain, Copy, Client}
 use Rattle.format.specs.declared.level.Leaf.{Leaf}
@@ -21,26 +22,22 @@ use Rattle.format.specs.Parse.{pick}
 use Rattle.format.specs.Bytes.{same, same-eq, same-refl, eq-same}
 use Rattle.format.specs.Level.{holds}
 use Rattle.format.specs.Search.{hashAt, lookup, carries, leastOffset}
-use Rattle.format.specs.Bump.{Bump}
 use Rattle.spv.specs.Bundle.{among}
-use Rattle.spv.specs.Climb.{Sibling, value, copied, Siblings, beside, besides, ascend, Outcome, rooted, outcome}
+use Rattle.spv.specs.Climb.{Sibling, value, copied, Siblings, beside, besides}
 use Rattle.spv.specs.ClimbLaws.{beside-odd, beside-even, ascend-agree}
-use Rattle.spv.specs.Compare.{any, read, hits, Proof, proved, proofOf, judge}
+use Rattle.spv.specs.Compare.{any, read, hits, proved, proofOf, judge}
 use Rattle.spv.specs.CompareLaws.{judge-climb, judge-root}
 use Rattle.spv.specs.Siblings.{written, sibling, levelSiblings}
 use Rattle.spv.specs.Readings.{starting, levelsReading, bumpReading, bump-read}
 use Rattle.spv.specs.Surplus.{carriedAt, Least, least-is}
-use Rattle.format.specs.BumpBytes.{Carried, plain, copy, client, Entry, bumpBytes, carriedOf, entryOf}
+use Rattle.format.specs.BumpBytes.{Carried, plain, copy, client, Entry, carriedOf, entryOf}
 use Rattle.encoder.specs.Tree.{layer, size, node, height, root, treeSiblings, treeClimb}
 use Rattle.encoder.specs.TreeLaws.{height-holds}
 use Rattle.encoder.specs.TreeClimb.{climb-roots}
-use Rattle.encoder.specs.BlockBump.{under, leftOut, siblingAt, asked, rising, levelFor, blockBump, distinct, reaches, foundAs}
-use Rattle.encoder.specs.RisingLaws.{at-offset, rising-none, rising-some}
+use Rattle.encoder.specs.BlockBump.{under, leftOut, siblingAt, asked, rising, levelFor, distinct, reaches, foundAs}
+use Rattle.encoder.specs.RisingLaws.{rising-none, rising-some}
 use Rattle.encoder.specs.BlockFit.{Sizes, high, under-chosen, under-size, Asking, as-client, as-sibling, asked-told}
-use Rattle.encoder.specs.BlockMeets.{ReadBack, read-back, height-back, level-back, leaf-back}
-
-absurd-bool : {X : Type 0} → true ≡ false → X
-absurd-bool e = absurd (let z : _≡_ {A = ℕ} 0 1 = cc in omega arith)
+use Rattle.encoder.specs.BlockMeets.{ReadBack, height-back, level-back, leaf-back}
 
 -- ---- siblings
 
@@ -146,10 +143,6 @@ unfolding rising carriedIn carriesAny
 asked-carried id f zero o x a b e = absurd (omega arith)
 asked-carried id f (suc n) o x a b e = go (eqb o x) refl (f o) refl (λ k. asked-carried id f n (o + 1) x k (omega arith) e)
   where
-    or-true : (t : Bool) → (t || true) ≡ true
-    or-true true = refl
-    or-true false = refl
-
     go : (t : Bool) → eqb o x ≡ t → (v : Option Carried) → f o ≡ v → (o + 1 ≤ x → carriedIn id x (rising f (o + 1) n) ≡ true) → carriedIn id x (rising f o (suc n)) ≡ true
     go true h none q r =
         let d : carriesAny id none ≡ true = rw (← (eqb-true o x h), q) at e in
@@ -169,10 +162,6 @@ unfolding among
 among-there x [] j b e = absurd (omega arith)
 among-there x (y ∷ l) zero b e = rw (eq-same y x e)
 among-there x (y ∷ l) (suc j) b e = rw (among-there x l j (omega arith) e) (or-true (same y x))
-  where
-    or-true : (t : Bool) → (t || true) ≡ true
-    or-true true = refl
-    or-true false = refl
 
 pub distinct-told : (l : List (List ℕ)) → distinct l ≡ true → (i j : ℕ) → i < length l → j < length l → getD l i [] ≡ getD l j [] → i ≡ j
 unfolding distinct

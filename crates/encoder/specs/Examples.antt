@@ -2,7 +2,7 @@
 use mathlib.Core.Path.{_≡_, refl}
 use mathlib.Core.List.{List, [], _∷_, _++_, append-nil}
 use Prim.Native.Nat.{ℕ}
-use lib.ListN.{replicate, take, drop, length}
+use lib.ListN.{replicate}
 use Rattle.hash.specs.Sha256.{sha256d}
 use Rattle.format.specs.Bytes.{same}
 use Rattle.spv.specs.Climb.{beside, joined, step, ascend, outcome, ascendBy, outcomeBy}
@@ -11,7 +11,7 @@ use Rattle.format.specs.Spelling.{spells}
 use Rattle.format.specs.Digits.{little, varintBytes}
 use Rattle.format.specs.BumpBytes.{Carried, plain, copy, client, Entry, carriedBytes, entryBytes, levelBytes, bumpBytes}
 use Rattle.encoder.specs.Tree.{above, layer, leastFrom, heightFor, treeSiblings, treeClimb}
-use Rattle.encoder.specs.BlockBump.{under, leftOut, siblingAt, asked, rising, levelsFor, blockBump, sized, noneChosen, allBelow, distinct, reaches, allReach, Writing, writes, refuses, roomFor, writing}
+use Rattle.encoder.specs.BlockBump.{under, leftOut, siblingAt, asked, rising, levelsFor, blockBump, sized, noneChosen, allBelow, distinct, reaches, allReach, writes, refuses, roomFor, writing}
 
 abbrev aa : List ℕ
 aa = replicate 32 0xaa

@@ -1,24 +1,24 @@
 -- Laws of a list of ids and of chosen positions.
-use mathlib.Core.Path.{_≡_, refl, sym, ap, ap₂, _∙_}
+use mathlib.Core.Path.{_≡_, refl, sym, ap, _∙_}
 use mathlib.Core.Bool.{Bool, true, false, _&&_, not}
 use mathlib.Core.List.{List, [], _∷_}
-use Prim.Native.Nat.{ℕ, zero, suc, _+_, _-_, _*_, _/_, _%_, _≤_, _<_}
+use Prim.Native.Nat.{ℕ, zero, suc, _+_, _-_, _*_, _/_, _≤_, _<_}
 use lib.ListN.{length, getD, take, drop, set, length-set, length-drop, drop-of-length-le}
 use lib.Seq.{length-take-le, drop-drop, drop-cons, getD-take, getD-drop, getD-set-same, getD-set-other}
 use lib.Dec.{ltb, eqb}
 use native.Mathlib.Omega.{arith}
 use native.Mathlib.Nat.{sub-zero, mul-zero, add-zero}
 use native.Mathlib.Numerals.{add-one}
-use borrow.Author.Count.{below-more}
 use borrow.Author.Tests.{lt-ltb, le-ltb, ltb-true, eqb-true, eqb-false}
-use Rattle.format.specs.Bytes.{same, same-eq, ne-same}
+use Rattle.format.specs.Bytes.{same, ne-same}
 use Rattle.format.specs.Search.{hashAt}
 use Rattle.format.specs.SearchLaws.{hash-there}
 use Rattle.format.specs.Spelling.{AllBytes, part-bytes}
-use Rattle.spv.specs.Bundle.{hashes, hashesOf, among}
+use Rattle.spv.specs.Bundle.{hashes, hashesOf}
 use Rattle.spv.specs.BundleHashes.{searching, search-here, search-on, search-end, one-less}
 use Rattle.encoder.specs.TreeLaws.{Hashes}
 use Rattle.encoder.specs.BlockBump.{allBelow, distinct}
+use Rattle.encoder.specs.Ids.{idAt, slotAt}
 
 pub hashes-length : (n : ℕ) (l : List ℕ) → length (hashes n l) ≡ n
 unfolding hashes
@@ -67,10 +67,6 @@ below-at n (x ∷ chosen) e i h = go (ltb x n) refl e (λ m j b. below-at n chos
     go false q m r i b = absurd (let z : _≡_ {A = ℕ} 0 1 = cc in omega arith)
 
 -- ---- ids that are all different
-
--- the id at a position
-abbrev pub idAt : List ℕ → ℕ → List ℕ
-idAt list i = take 32 (drop (32 * i) list)
 
 pub id-there : (list : List ℕ) (i : ℕ) → i < length list / 32 → hashAt list (32 * i) ≡ idAt list i
 id-there list i h = hash-there list (32 * i) (omega arith)
@@ -126,9 +122,6 @@ module _ (list : List ℕ) where
       and-false false = refl
 
 -- ---- slots: equal ids have the same
-
-unfoldable pub slotAt : List ℕ → ℕ → ℕ
-slotAt list at = (getD list at 0 + 256 * getD list (at + 1) 0 + 256 * getD list (at + 30) 0 + getD list (at + 31) 0) % 16384
 
 pub slot-below : (list : List ℕ) (at : ℕ) → slotAt list at < 16384
 unfolding slotAt

@@ -1,20 +1,17 @@
 -- "no other bytes meet these rules" (02, Item 1).
 use mathlib.Core.Path.{_≡_, refl, sym, ap, ap₂, _∙_, subst}
 use mathlib.Core.List.{List, [], _∷_, map}
-use mathlib.Core.Option.{Option}
-use Prim.Native.Nat.{ℕ, zero, suc, _+_, _-_, _^_, _≤_, _<_}
+use Prim.Native.Nat.{ℕ, zero, suc, _+_, _-_, _^_, _<_}
 use lib.ListN.{length, getD, List·getD-map}
 use native.Mathlib.Omega.{arith}
 use native.Mathlib.Nat.{zero-add, add-zero}
-use Rattle.format.specs.declared.level.Leaf.{Leaf}
-use Rattle.format.specs.Bump.{Bump}
 use Rattle.format.specs.Spelling.{AllBytes, Fits}
-use Rattle.format.specs.BumpBytes.{Carried, Entry, Content, bumpBytes, entryOf, levelsOf, contentOf, EntryFit, andEntry, LevelFit, nextLevel, ContentFit}
+use Rattle.format.specs.BumpBytes.{Entry, bumpBytes, entryOf, levelsOf, contentOf, LevelFit, nextLevel, ContentFit}
 use Rattle.format.specs.BumpRoundTrip.{bump-written}
 use Rattle.encoder.specs.Tree.{height}
 use Rattle.encoder.specs.TreeLaws.{height-holds, height-least}
-use Rattle.encoder.specs.BlockBump.{asked, rising, levelFor, levelsFor, blockBump, Meets}
-use Rattle.encoder.specs.RisingLaws.{found-says, rising-from, From, Under, fits-under, rising-only}
+use Rattle.encoder.specs.BlockBump.{asked, levelFor, levelsFor, blockBump, Meets}
+use Rattle.encoder.specs.RisingLaws.{found-says, rising-from, Under, fits-under, rising-only}
 
 -- level i + j of levels that fit from i on
 pub level-fits : (h i : ℕ) (ls : List (List Entry)) → Fits (LevelFit h) nextLevel i ls → (j : ℕ) → j < length ls → LevelFit h (i + j) (getD ls j [])

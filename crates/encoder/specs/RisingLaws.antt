@@ -1,19 +1,17 @@
 -- A level's leaves with offsets rising are known by what stands at each offset.
-use mathlib.Core.Path.{_≡_, refl, sym, ap, ap₂, _∙_, subst}
+use mathlib.Core.Path.{_≡_, refl, sym, ap₂, _∙_}
 use mathlib.Core.Bool.{Bool, true, false}
-use mathlib.Core.List.{List, [], _∷_, _++_, map}
+use mathlib.Core.List.{List, [], _∷_, map}
 use mathlib.Core.Option.{Option, none, some}
 use Prim.Native.Nat.{ℕ, zero, suc, _+_, _-_, _≤_, _<_}
-use lib.ListN.{length, getD}
 use lib.Dec.{eqb}
 use native.Mathlib.Omega.{arith}
 use borrow.Author.Tests.{eqb-true, eqb-false, eq-eqb, ne-eqb}
 use Rattle.format.specs.declared.level.Leaf.{Leaf}
-use Rattle.format.specs.declared.path.Found.{Found}
 use Rattle.format.specs.Parse.{pick}
 use Rattle.format.specs.Search.{lookup}
 use Rattle.format.specs.Spelling.{Fits}
-use Rattle.format.specs.BumpBytes.{Carried, Entry, carriedOf, entryOf, EntryFit, andEntry}
+use Rattle.format.specs.BumpBytes.{Carried, Entry, entryOf, EntryFit, andEntry}
 use Rattle.encoder.specs.BlockBump.{rising, foundAs, Rising}
 
 -- what a level's leaves have at an offset

@@ -1,23 +1,23 @@
 -- A climb in the tree that meets no twin comes to the list's root.
-use mathlib.Core.Path.{_≡_, refl, sym, ap, ap₂, _∙_, subst}
+use mathlib.Core.Path.{_≡_, refl, sym, ap, ap₂, _∙_}
 use mathlib.Core.Bool.{Bool, true, false}
-use mathlib.Core.List.{List, [], _∷_, _++_}
-use Prim.Native.Nat.{ℕ, zero, suc, _+_, _-_, _*_, _^_, _/_, _%_, _≤_, _<_}
-use lib.ListN.{length, getD}
-use lib.Dec.{ltb, leb, eqb}
+use mathlib.Core.List.{List, _++_}
+use Prim.Native.Nat.{ℕ, zero, suc, _+_, _-_, _^_, _/_, _%_, _<_}
+use lib.ListN.{length}
+use lib.Dec.{ltb, eqb}
 use lib.Pow.{shr-shr}
 use native.Mathlib.Omega.{arith}
 use native.Mathlib.Nat.{add-zero, zero-add, div-one, div-eq-of-lt}
 use native.Mathlib.Numerals.{add-one}
-use borrow.Author.Tests.{lt-ltb, le-ltb, ltb-true, ltb-false, eqb-true, eqb-false, eq-eqb, ne-eqb}
+use borrow.Author.Tests.{lt-ltb, ltb-true, ltb-false, eqb-true, eqb-false, eq-eqb, ne-eqb}
 use Rattle.hash.specs.Sha256.{sha256d}
 use Rattle.format.specs.Bytes.{same}
 use Rattle.format.specs.Parse.{pick}
 use Rattle.format.specs.Refusals.{TWIN}
-use Rattle.spv.specs.Climb.{Sibling, value, copied, Siblings, odd, beside, Step, joins, fails, joined, step, Ascent, stop, ascend, Outcome, rooted, refused, outcome, ascendBy, outcomeBy}
+use Rattle.spv.specs.Climb.{value, copied, Siblings, odd, beside, Step, joins, fails, joined, step, Ascent, stop, ascend, Outcome, rooted, outcome, ascendBy, outcomeBy}
 use Rattle.spv.specs.ClimbLaws.{joined-even, joined-odd, joined-twin, beside-odd, beside-even, ascend-joins, ascend-fails}
-use Rattle.encoder.specs.Tree.{above, layer, size, node, height, root, treeSiblings, treeClimb}
-use Rattle.encoder.specs.TreeLaws.{above-length, above-pair, above-last, size-suc, stays, height-holds}
+use Rattle.encoder.specs.Tree.{layer, size, node, height, root, treeSiblings, treeClimb}
+use Rattle.encoder.specs.TreeLaws.{above-pair, above-last, size-suc, height-holds}
 use Rattle.encoder.specs.BlockBump.{reaches}
 
 module _ (ids : List (List ℕ)) where

@@ -1,18 +1,18 @@
 -- Laws of the tree: its least height, its sizes and its nodes.
-use mathlib.Core.Path.{_≡_, refl, sym, ap, ap₂, _∙_, subst}
+use mathlib.Core.Path.{_≡_, refl, sym, ap, _∙_}
 use mathlib.Core.Bool.{Bool, true, false}
 use mathlib.Core.List.{List, [], _∷_, _++_}
-use Prim.Native.Nat.{ℕ, zero, suc, _+_, _-_, _*_, _^_, _/_, _%_, _≤_, _<_}
+use Prim.Native.Nat.{ℕ, zero, suc, _+_, _-_, _^_, _/_, _≤_, _<_}
 use lib.ListN.{length, getD}
 use lib.Dec.{ltb, leb}
-use lib.Pow.{pow-mono, pow-pos, shr-shr}
+use lib.Pow.{pow-pos, shr-shr}
 use native.Mathlib.Omega.{arith}
 use native.Mathlib.Nat.{pow-suc, add-zero, zero-add, div-one}
 use native.Mathlib.Numerals.{add-one}
 use borrow.Author.Tests.{leb-true, leb-false, ltb-true, ltb-false}
 use Rattle.hash.specs.Sha256.{sha256d, sha256d-length, sha256d-bytes}
 use Rattle.format.specs.BumpBytes.{HashFit}
-use Rattle.encoder.specs.Tree.{above, layer, size, node, leastFrom, heightFor, height, root}
+use Rattle.encoder.specs.Tree.{above, layer, size, leastFrom, heightFor}
 
 -- ---- the least height
 

@@ -6,7 +6,7 @@ ghost use lib.ListN.{length};
 ghost use Rattle.spv.specs.Bundle.{hashesOf};
 ghost use Rattle.spv.specs.BundleHashes.{searching};
 ghost use Rattle.encoder.specs.BlockBump.{allBelow, distinct};
-ghost use Rattle.encoder.specs.IdsLaws.{idAt, slotAt};
+ghost use Rattle.encoder.specs.Ids.{idAt, slotAt};
 
 pub fn all_below(n: u64, chosen: &[u64]) -> bool
     ensures { λ r. ⌜ r ≡ allBelow n (now (chosen .entry)) ⌝ }

@@ -19,7 +19,7 @@ ghost use Rattle.encoder.specs.BlockBump.{levelsFor};
 ghost use Rattle.encoder.specs.Heap.{nodeIn};
 ghost use Rattle.encoder.specs.Marks.{marked};
 ghost use Rattle.encoder.specs.Leaves.{formAt, leafCount, leafBytes, leafText, levelLeaves, levelSize, leavesText, levelText};
-ghost use Rattle.encoder.specs.LevelText.{Ready};
+ghost use Rattle.encoder.specs.Leaves.{Ready};
 
 // What is asked for at an offset.
 pub enum Asked {

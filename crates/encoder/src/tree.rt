@@ -1,7 +1,7 @@
 // The tree of a block's ids. The node at position j of a level of `width` places stands at index width + j of the heap, 32 bytes an
 // index; level 0 is the lent list itself.
 ghost use mathlib.Core.Path.{_≡_};
-ghost use mathlib.Core.Bool.{Bool, true, false};
+ghost use mathlib.Core.Bool.{true, false};
 ghost use mathlib.Core.List.{List};
 ghost use Prim.Native.Nat.{ℕ, _+_, _*_, _/_, _%_, _^_, _<_, _≤_};
 ghost use lib.ListN.{length};

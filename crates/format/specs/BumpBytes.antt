@@ -1,7 +1,7 @@
 -- A BUMP as its writer has it: its content with the hashes themselves, and the bytes that the layout gives it (document 003; 01, "Layouts").
 use mathlib.Core.Path.{_≡_}
 use mathlib.Core.List.{List, [], _∷_, _++_, map}
-use mathlib.Core.Bool.{Bool, true, false}
+use mathlib.Core.Bool.{false}
 use Prim.Native.Nat.{ℕ, _+_, _-_, _^_, _%_, _≤_, _<_}
 use lib.ListN.{length}
 use Rattle.format.specs.declared.level.Kind.{Kind}

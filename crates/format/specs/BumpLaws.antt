@@ -17,7 +17,7 @@ use Rattle.format.specs.Bump.{Bump, blockField, heightField, bumpField, 
 use Rattle.format.specs.Cmp.{Cmp, topField, cmpField, cmpWhole, cmpHeadOf}
 use Rattle.format.specs.Refusals.{BAD-HEIGHT, MAX-HEIGHT, MAX-TOP}
 
-both : (a b : Bool) → (a && b) ≡ true → (a ≡ true) × (b ≡ true)
+pub both : (a b : Bool) → (a && b) ≡ true → (a ≡ true) × (b ≡ true)
 both true b e = (refl, e)
 both false b e = absurd (false≢true e)
 

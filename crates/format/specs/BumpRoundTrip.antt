@@ -1,9 +1,9 @@
 -- Writing a BUMP and reading it, either way round: the two are inverse, and no other bytes are read as that content.
-use mathlib.Core.Path.{_≡_, refl, sym, ap, _∙_, subst}
-use mathlib.Core.List.{List, [], _∷_, _++_}
+use mathlib.Core.Path.{_≡_, refl, sym, ap, _∙_}
+use mathlib.Core.List.{List, [], _∷_}
 use mathlib.Core.Bool.{Bool, true, false}
-use Prim.Native.Nat.{ℕ, zero, suc, _+_, _*_, _^_, _-_, _≤_, _<_}
-use lib.ListN.{length, getD, length-append}
+use Prim.Native.Nat.{ℕ, _+_, _*_, _^_, _-_, _≤_}
+use lib.ListN.{length, length-append}
 use lib.Dec.{leb, ltb}
 use native.Mathlib.Omega.{arith}
 use borrow.Author.Tests.{ltb-false}
@@ -11,9 +11,9 @@ use Rattle.format.specs.Parse.{Parse, pick, ended, whole, got, bad}
 use Rattle.format.specs.ParseLaws.{onward-told, whole-told}
 use Rattle.format.specs.Whole.{whole-got}
 use Rattle.format.specs.Bump.{Bump, bumpField, bumpWhole}
-use Rattle.format.specs.Refusals.{MAX-INPUT, MAX-LEAVES, EXTRA, TOO-LONG}
-use Rattle.format.specs.Stands.{Stands, stands-self, stands-all}
-use Rattle.format.specs.Spelling.{AllBytes, Spelling, spells, Fits}
+use Rattle.format.specs.Refusals.{MAX-INPUT, EXTRA, TOO-LONG}
+use Rattle.format.specs.Stands.{stands-self, stands-all}
+use Rattle.format.specs.Spelling.{AllBytes, spells, Fits}
 use Rattle.format.specs.Digits.{varintBytes}
 use Rattle.format.specs.VarintSpelling.{varint-length}
 use Rattle.format.specs.BumpBytes.{Carried, plain, copy, client, Entry, Content, carriedBytes, entryBytes, levelBytes, bumpBytes, contentOf, CarriedFit, EntryFit, andEntry, LevelFit, nextLevel, ContentFit}

@@ -1,31 +1,30 @@
 -- The BUMP's reader takes exactly what its writer writes, and says its content.
-use mathlib.Core.Path.{_≡_, refl, sym, ap, ap₂, _∙_, subst}
-use mathlib.Core.List.{List, [], _∷_, _++_, map}
+use mathlib.Core.Path.{_≡_, refl, sym, ap, _∙_, subst}
+use mathlib.Core.List.{List, [], _∷_, map}
 use mathlib.Core.Bool.{Bool, true, false, _&&_, _||_, not}
-use Prim.Native.Nat.{ℕ, zero, suc, _+_, _-_, _*_, _^_, _%_, _≤_, _<_}
-use lib.ListN.{length, getD, take, drop, length-append}
+use Prim.Native.Nat.{ℕ, _+_, _-_, _^_, _%_, _≤_, _<_}
+use lib.ListN.{length, take, drop}
 use lib.Dec.{ltb, leb, eqb}
 use lib.Pow.{pow-mono}
 use native.Mathlib.Omega.{arith}
-use native.Mathlib.Nat.{add-zero}
-use borrow.Author.Tests.{le-ltb, lt-ltb, le-leb, lt-leb, ltb-true, ltb-false, leb-true, eqb-true, eqb-false, eq-eqb, ne-eqb, not-true}
+use borrow.Author.Tests.{lt-ltb, le-leb, ltb-true, leb-true, eqb-true, eq-eqb, not-true}
 use Rattle.format.specs.declared.level.Layout.{Layout}
 use Rattle.format.specs.declared.level.Kind.{Kind}
 use Rattle.format.specs.declared.level.Kind.the-variants.{Plain, Copy, Client}
 use Rattle.format.specs.declared.level.Leaf.{Leaf}
-use Rattle.format.specs.Parse.{Parse, Reader, pick, onward, each, given, pure, _passing_else_, many, whole, got, bad}
-use Rattle.format.specs.ParseLaws.{passing-told, onward-told, each-got, whole-told, many-length}
-use Rattle.format.specs.Whole.{whole-got}
-use Rattle.format.specs.Field.{bytes, byte, varint}
+use Rattle.format.specs.Parse.{Parse, Reader, pick, each, given, pure, _passing_else_, got}
+use Rattle.format.specs.ParseLaws.{onward-told, each-got}
+use Rattle.format.specs.Field.{bytes, varint}
 use Rattle.format.specs.FieldLaws.{bytes-here}
 use Rattle.format.specs.Level.{holds, offsetField, flagAllowed, flagField, kindField, carriedField, leafField, andOffset, leafFields, levelField, levelInTurn, nextTurn, levelFields, written}
 use Rattle.format.specs.Search.{hashAt}
 use Rattle.format.specs.SearchLaws.{hash-there, hash-at-length}
-use Rattle.format.specs.Bump.{Bump, blockField, heightField, bumpField, bumpWhole}
-use Rattle.format.specs.Refusals.{BAD-OFFSET, REPEATED, BAD-FLAG, OVER-LIMIT, BAD-HEIGHT, MAX-BLOCK, MAX-HEIGHT, MAX-LEAVES, MAX-INPUT}
-use Rattle.format.specs.Stands.{Stands, stands-none, stands-join, stands-split, stands-fits, stands-get, stands-take, stands-here, stands-self, stands-all}
+use Rattle.format.specs.BumpLaws.{both}
+use Rattle.format.specs.Bump.{Bump, blockField, heightField, bumpField}
+use Rattle.format.specs.Refusals.{BAD-OFFSET, REPEATED, BAD-FLAG, OVER-LIMIT, BAD-HEIGHT, MAX-BLOCK, MAX-HEIGHT, MAX-LEAVES}
+use Rattle.format.specs.Stands.{Stands, stands-join, stands-split, stands-fits, stands-take, stands-here}
 use Rattle.format.specs.Spelling.{AllBytes, Spelling, itself, part-bytes, byte-spelling, tested-spelling, bytes-told, spells, Fits, many-spelling}
-use Rattle.format.specs.VarintSpelling.{varint-spelling, varint-length}
+use Rattle.format.specs.VarintSpelling.{varint-spelling}
 use Rattle.format.specs.Digits.{varintBytes}
 use Rattle.format.specs.BumpBytes.{Carried, plain, copy, client, Entry, Content, carriedBytes, entryBytes, levelBytes, bumpBytes, carriedOf, entryOf, levelsOf, contentOf, HashFit, CarriedFit, EntryFit, andEntry, LevelFit, nextLevel, ContentFit}
 
@@ -182,10 +181,6 @@ levels-spelling height low =
 block-spelling : Spelling blockField itself varintBytes (λ b. b ≤ MAX-BLOCK)
 unfolding blockField
 block-spelling = refit (λ n f. (omega arith, le-leb n MAX-BLOCK f)) (λ n f. leb-true n MAX-BLOCK (f .1)) (tested-spelling (λ b. leb b MAX-BLOCK) OVER-LIMIT varint-spelling)
-
-both : (a b : Bool) → (a && b) ≡ true → (a ≡ true) × (b ≡ true)
-both true b e = (refl, e)
-both false b e = absurd (let x : _≡_ {A = ℕ} 0 1 = cc in omega arith)
 
 height-spelling : Spelling heightField itself (λ b. b ∷ []) (λ h. (1 ≤ h) × (h ≤ MAX-HEIGHT))
 unfolding heightField

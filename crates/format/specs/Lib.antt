@@ -38,6 +38,7 @@ pub mod BeefLaws
 pub mod Stands
 pub mod Spelling
 pub mod Digits
+pub mod DigitsLaws
 pub mod VarintSpelling
 pub mod Page
 pub mod BumpBytes

@@ -1,16 +1,16 @@
 -- Readers and writers of one layout. `Spelling p say spell Fit`: the reader p takes exactly the strings spell b, b that fit, and says b of them.
 use mathlib.Core.Path.{_≡_, refl, sym, ap, ap₂, _∙_, subst}
 use mathlib.Core.List.{List, [], _∷_, _++_, map}
-use mathlib.Core.Bool.{Bool, true, false, _&&_}
-use Prim.Native.Nat.{ℕ, zero, suc, _+_, _-_, _*_, _/_, _%_, _^_, _≤_, _<_, min}
+use mathlib.Core.Bool.{Bool, true, false}
+use Prim.Native.Nat.{ℕ, zero, suc, _+_, _-_, _≤_, _<_}
 use lib.ListN.{length, getD, take, drop, length-take, List·getD-eq-default}
-use lib.Dec.{ltb, leb, eqb}
+use lib.Dec.{ltb, leb}
 use lib.Seq.{drop-cons, getD-take, getD-drop}
 use native.Mathlib.Omega.{arith}
-use native.Mathlib.Nat.{add-zero, zero-add}
-use borrow.Author.Tests.{le-ltb, lt-ltb, le-leb, lt-leb, ltb-true, ltb-false, leb-true, eq-eqb}
-use Rattle.format.specs.Parse.{Parse, Reader, pick, onward, _passing_else_, tested, at-start, many, each, got, bad}
-use Rattle.format.specs.ParseLaws.{passing-told, onward-told, each-got, many-told}
+use native.Mathlib.Nat.{add-zero}
+use borrow.Author.Tests.{lt-ltb, ltb-true, ltb-false, leb-true}
+use Rattle.format.specs.Parse.{Reader, pick, _passing_else_, many, each, got, bad}
+use Rattle.format.specs.ParseLaws.{passing-told, many-told}
 use Rattle.format.specs.Field.{bytes, byte}
 use Rattle.format.specs.Stands.{Stands, stands-none, stands-join, stands-split, stands-fits, stands-get, stands-here}
 

@@ -1,7 +1,7 @@
 -- Bytes that stand in an input between two places: the common ground of readers, which take an input and a place, and of writers, which make a string.
 use mathlib.Core.Path.{_≡_, refl, sym, ap, _∙_}
-use mathlib.Core.List.{List, [], _∷_, _++_, append-assoc, append-nil}
-use Prim.Native.Nat.{ℕ, zero, suc, _+_, _-_, _≤_, _<_}
+use mathlib.Core.List.{List, [], _++_, append-assoc, append-nil}
+use Prim.Native.Nat.{ℕ, _+_, _-_, _≤_, _<_}
 use lib.ListN.{length, getD, take, drop, length-append, length-drop, take-append-drop, drop-of-length-le, List·getD-append}
 use lib.Seq.{length-take-le, drop-length, drop-append-seam, take-append-seam, getD-drop, drop-drop}
 use native.Mathlib.Omega.{arith}

@@ -1,22 +1,21 @@
 -- The VarInt: its reader takes exactly what its writer writes.
 use mathlib.Core.Path.{_≡_, refl, sym, ap, ap₂, _∙_, subst}
-use mathlib.Core.List.{List, [], _∷_, _++_}
+use mathlib.Core.List.{List, [], _∷_}
 use mathlib.Core.Bool.{Bool, true, false}
-use Prim.Native.Nat.{ℕ, zero, suc, _+_, _-_, _*_, _/_, _%_, _^_, _≤_, _<_}
+use Prim.Native.Nat.{ℕ, _+_, _-_, _^_, _≤_, _<_}
 use lib.ListN.{length, getD, take, drop}
 use lib.Dec.{ltb, leb, eqb}
-use lib.Seq.{length-take-le}
 use native.Mathlib.Omega.{arith}
-use native.Mathlib.Nat.{add-zero}
-use borrow.Author.Tests.{le-ltb, lt-ltb, le-leb, ltb-true, ltb-false, leb-true, eqb-true, eqb-false}
-use Rattle.format.specs.Parse.{Parse, pick, onward, _passing_else_, at-start, got, bad}
+use borrow.Author.Tests.{le-ltb, lt-ltb, ltb-true, ltb-false, leb-true, eqb-true, eqb-false}
+use Rattle.format.specs.Parse.{Parse, pick, _passing_else_, at-start, got, bad}
 use Rattle.format.specs.ParseLaws.{passing-told, onward-told}
-use Rattle.format.specs.Field.{bytes, number, announced, varint, le2, le4, le8}
+use Rattle.format.specs.Field.{bytes, number, varint, le2, le4, le8}
 use Rattle.format.specs.FieldLaws.{long-value, varint-none, varint-announced, varint-small}
 use Rattle.format.specs.Refusals.{LONG-VARINT}
-use Rattle.format.specs.Stands.{Stands, stands-join, stands-split, stands-fits, stands-get, stands-here}
+use Rattle.format.specs.Stands.{Stands, stands-join, stands-split, stands-fits, stands-here}
 use Rattle.format.specs.Spelling.{AllBytes, Spelling, itself, first-is, stands-one, bytes-told, part-bytes}
-use Rattle.format.specs.Digits.{little, varintBytes, num, numAt, little-length, num-little, little-num, num-below, num-stands, le2-is, le4-is, le8-is}
+use Rattle.format.specs.Digits.{little, varintBytes}
+use Rattle.format.specs.DigitsLaws.{num, numAt, little-length, num-little, little-num, num-below, num-stands, le2-is, le4-is, le8-is}
 
 -- the forms of a VarInt
 module _ (n : ℕ) where

@@ -1,5 +1,4 @@
-use borrow.Author.Needs.{needs}
-use mathlib.Core.Path.{_≡_, refl, sym, ap, ap₂, _∙_}
+use mathlib.Core.Path.{refl}
 use Rattle.encoder.specs.BlockBump.{writtenOf}
 use Rattle.encoder.proofs.block.refused.Statement.{statement}
 use Rattle.encoder.proofs.block.refused.Tie as tie

@@ -1,6 +1,4 @@
-use borrow.Author.Needs.{needs}
-use mathlib.Core.Path.{_≡_, refl, sym, ap, ap₂, _∙_}
-use Rattle.encoder.specs.Call.{sized-block, sized-whole, sized-few, sized-many}
+use Rattle.encoder.specs.CallLaws.{sized-block, sized-whole, sized-few, sized-many}
 use Rattle.encoder.proofs.block.within_sizes.Statement.{statement}
 use Rattle.encoder.proofs.block.within_sizes.Tie as tie
 

@@ -1,12 +1,12 @@
 use native.Mathlib.Omega.{arith}
-use mathlib.Core.Path.{_≡_, refl, sym, ap, ap₂, _∙_}
-use Prim.Native.Nat.{ℕ, _+_, _-_, _*_, _/_, _%_, _^_, _<_, _≤_}
+use mathlib.Core.Path.{refl, sym, _∙_}
+use Prim.Native.Nat.{_-_}
 use borrow.Author.Tests.{not-true, not-false}
 use Rattle.format.specs.VarintSpelling.{varint-length}
-use Rattle.encoder.specs.Heap.{grown}
+use Rattle.encoder.specs.HeapLaws.{grown}
 use Rattle.encoder.specs.IdsLaws.{below-at}
-use Rattle.encoder.specs.LevelText.{ready}
-use Rattle.encoder.specs.Call.{refuses-size, refuses-none, refuses-outside, refuses-equal, refuses-twin, refuses-room, writes-all, refused-so, size-is, wrote-all, written-so, sized-told, shape-told, fits-in}
+use Rattle.encoder.specs.LevelLaws.{ready}
+use Rattle.encoder.specs.CallLaws.{refuses-size, refuses-none, refuses-outside, refuses-equal, refuses-twin, refuses-room, writes-all, refused-so, size-is, wrote-all, written-so, sized-told, shape-told, fits-in}
 use borrow.Author.Needs.{needs}
 use Rattle.encoder.proofs.block.write_bump.Statement.{statement}
 use Rattle.encoder.proofs.block.write_bump.Tie as tie

@@ -1,8 +1,6 @@
 use borrow.Author.Needs.{needs}
 use native.Mathlib.Omega.{arith}
-use mathlib.Core.Path.{_≡_, refl, sym, ap, ap₂, _∙_}
-use Prim.Native.Nat.{ℕ, _+_, _-_, _*_, _/_, _%_, _^_, _<_, _≤_}
-use lib.ListN.{length, drop, getD, set}
+use Prim.Native.Nat.{_-_}
 use Rattle.encoder.specs.IdsLaws.{Differing, differing-start, differing-stop, differing-on, differing-end}
 use Rattle.encoder.proofs.ids.all_differ.Statement.{statement}
 use Rattle.encoder.proofs.ids.all_differ.Tie as tie

@@ -1,8 +1,7 @@
 use borrow.Author.Needs.{needs}
-use native.Mathlib.Omega.{arith}
-use mathlib.Core.Path.{_≡_, refl, sym, ap, ap₂, _∙_}
-use Prim.Native.Nat.{ℕ, _+_, _-_, _*_, _/_, _%_, _^_, _<_, _≤_}
-use lib.ListN.{length, drop, getD, set}
+use mathlib.Core.Path.{_≡_, refl, sym, _∙_}
+use Prim.Native.Nat.{_-_, _/_}
+use lib.ListN.{length}
 use Rattle.spv.specs.BundleHashes.{searching, search-end}
 use Rattle.encoder.specs.IdsLaws.{found-here, not-here}
 use Rattle.encoder.proofs.ids.among_from.Statement.{statement}

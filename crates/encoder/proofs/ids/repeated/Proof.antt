@@ -1,5 +1,4 @@
-use native.Mathlib.Omega.{arith}
-use mathlib.Core.Path.{_≡_, refl, sym, ap, ap₂, _∙_}
+use mathlib.Core.Path.{sym}
 use Rattle.encoder.specs.IdsLaws.{looked-for}
 use borrow.Author.Needs.{needs}
 use Rattle.encoder.proofs.ids.repeated.Statement.{statement}

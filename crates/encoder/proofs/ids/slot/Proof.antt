@@ -1,6 +1,5 @@
 use native.Mathlib.Omega.{arith}
-use mathlib.Core.Path.{_≡_, refl, sym, ap, ap₂, _∙_}
-use Rattle.encoder.specs.IdsLaws.{slotAt}
+use Rattle.encoder.specs.Ids.{slotAt}
 use borrow.Author.Needs.{needs}
 use Rattle.encoder.proofs.ids.slot.Statement.{statement}
 use Rattle.encoder.proofs.ids.slot.Tie as tie

@@ -1,6 +1,6 @@
 use borrow.Author.Tests.{not-true, not-false}
-use mathlib.Core.Path.{_≡_, _∙_, sym}
-use Rattle.encoder.specs.Leaves.{form-client, form-nothing, form-plain, form-copy, beside-told, beside-in}
+use mathlib.Core.Path.{_∙_, sym}
+use Rattle.encoder.specs.LeavesLaws.{form-client, form-nothing, form-plain, form-copy, beside-told, beside-in}
 use borrow.Author.Needs.{needs}
 use native.Mathlib.Omega.{arith}
 use Rattle.encoder.proofs.level.asked_at.Statement.{statement}

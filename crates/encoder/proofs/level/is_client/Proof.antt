@@ -1,6 +1,6 @@
 use borrow.Author.Tests.{not-true, not-false}
-use mathlib.Core.Path.{_≡_, _∙_, sym}
-use Rattle.encoder.specs.Leaves.{not-base, at-base}
+use mathlib.Core.Path.{_∙_}
+use Rattle.encoder.specs.LeavesLaws.{not-base, at-base}
 use borrow.Author.Needs.{needs}
 use Rattle.encoder.proofs.level.is_client.Statement.{statement}
 use Rattle.encoder.proofs.level.is_client.Tie as tie

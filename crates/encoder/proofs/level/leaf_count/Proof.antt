@@ -1,4 +1,3 @@
-use mathlib.Core.Path.{_≡_}
 use Rattle.encoder.specs.Leaves.{leafCount}
 use borrow.Author.Needs.{needs}
 use Rattle.encoder.proofs.level.leaf_count.Statement.{statement}

@@ -1,9 +1,9 @@
 use borrow.Author.Needs.{needs}
 use native.Mathlib.Omega.{arith}
-use mathlib.Core.Path.{_≡_, _∙_, sym, refl, ap}
-use Prim.Native.Nat.{ℕ, _≤_, _-_, _+_, _*_}
-use Rattle.encoder.specs.Leaves.{levelLeaves, levelSize, formAt, leafCount, leafBytes, sumFrom, sum-start, sum-on, sum-end, count-one, bytes-few}
-use Rattle.encoder.specs.declared.level.Asked.{Asked}
+use mathlib.Core.Path.{_≡_, _∙_, ap}
+use Prim.Native.Nat.{_≤_, _-_, _+_, _*_}
+use Rattle.encoder.specs.Leaves.{levelLeaves, levelSize, formAt, leafCount, leafBytes, sumFrom}
+use Rattle.encoder.specs.LeavesLaws.{sum-start, sum-on, sum-end, count-one, bytes-few}
 use Rattle.encoder.proofs.level.level_tally.Statement.{statement}
 use Rattle.encoder.proofs.level.level_tally.Tie as tie
 

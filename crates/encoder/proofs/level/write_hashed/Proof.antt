@@ -1,6 +1,4 @@
-use native.Mathlib.Omega.{arith}
-use mathlib.Core.Path.{_≡_, refl, sym, ap, ap₂, _∙_}
-use Rattle.encoder.specs.Leaves.{wrote-hashed}
+use Rattle.encoder.specs.LeavesLaws.{wrote-hashed}
 use borrow.Author.Needs.{needs}
 use Rattle.encoder.proofs.level.write_hashed.Statement.{statement}
 use Rattle.encoder.proofs.level.write_hashed.Tie as tie

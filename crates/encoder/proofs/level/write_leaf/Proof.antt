@@ -1,6 +1,4 @@
-use native.Mathlib.Omega.{arith}
-use mathlib.Core.Path.{_≡_, refl, sym, ap, ap₂, _∙_}
-use Rattle.encoder.specs.Leaves.{text-nothing, text-plain, text-copy, text-client}
+use Rattle.encoder.specs.LeavesLaws.{text-nothing, text-plain, text-copy, text-client}
 use borrow.Author.Needs.{needs}
 use Rattle.encoder.proofs.level.write_leaf.Statement.{statement}
 use Rattle.encoder.proofs.level.write_leaf.Tie as tie

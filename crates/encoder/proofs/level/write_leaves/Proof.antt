@@ -1,10 +1,10 @@
-use borrow.Author.Needs.{needs}
 use native.Mathlib.Omega.{arith}
-use mathlib.Core.Path.{_≡_, _∙_, sym, refl, ap}
+use mathlib.Core.Path.{_≡_, _∙_, sym, refl}
 use Prim.Native.Nat.{_≤_, _-_}
 use lib.ListN.{length}
 use Rattle.format.specs.Page.{page, writeOn}
-use Rattle.encoder.specs.Leaves.{leavesText, formAt, leafText, textFrom, text-start, text-on, text-end, asked-text}
+use Rattle.encoder.specs.Leaves.{leavesText, formAt, leafText, textFrom}
+use Rattle.encoder.specs.LeavesLaws.{text-start, text-on, text-end, asked-text}
 use Rattle.encoder.proofs.level.write_leaves.Statement.{statement}
 use Rattle.encoder.proofs.level.write_leaves.Tie as tie
 

@@ -1,4 +1,4 @@
-use Rattle.encoder.specs.Leaves.{wrote-level}
+use Rattle.encoder.specs.LeavesLaws.{wrote-level}
 use borrow.Author.Needs.{needs}
 use Rattle.encoder.proofs.level.write_level.Statement.{statement}
 use Rattle.encoder.proofs.level.write_level.Tie as tie

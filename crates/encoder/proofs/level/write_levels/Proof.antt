@@ -1,14 +1,16 @@
 use borrow.Author.Needs.{needs}
 use native.Mathlib.Omega.{arith}
-use mathlib.Core.Path.{_≡_, refl, sym, ap, ap₂, _∙_}
-use Prim.Native.Nat.{ℕ, _+_, _-_, _*_, _/_, _%_, _^_, _<_, _≤_}
+use mathlib.Core.Path.{_≡_, refl, _∙_}
+use Prim.Native.Nat.{ℕ, _-_, _≤_}
 use mathlib.Core.List.{List}
-use lib.ListN.{length, drop, getD, set}
+use lib.ListN.{length}
 use Rattle.spv.specs.Bundle.{hashesOf}
 use Rattle.format.specs.Page.{page, writeOn}
 use Rattle.encoder.specs.Tree.{size as layerSize}
-use Rattle.encoder.specs.Heap.{Level, level-start, level-small, level-on}
-use Rattle.encoder.specs.LevelText.{Ready, rest, rest-all, count-start, count-on, written-on, written-end}
+use Rattle.encoder.specs.Heap.{Level}
+use Rattle.encoder.specs.HeapLaws.{level-start, level-small, level-on}
+use Rattle.encoder.specs.Leaves.{Ready}
+use Rattle.encoder.specs.LevelLaws.{rest, count-start, count-on, written-on, written-end}
 use Rattle.encoder.proofs.level.write_levels.Statement.{statement}
 use Rattle.encoder.proofs.level.write_levels.Tie as tie
 

@@ -1,9 +1,7 @@
 use borrow.Author.Needs.{needs}
 use native.Mathlib.Omega.{arith}
-use mathlib.Core.Path.{_≡_, refl, sym, ap, ap₂, _∙_}
-use Prim.Native.Nat.{ℕ, _+_, _-_, _*_, _/_, _%_, _^_, _<_, _≤_}
-use lib.ListN.{length, drop, getD, set}
-use Rattle.encoder.specs.Marks.{Marking, marking-start, marking-in, marking-on, marking-end}
+use Prim.Native.Nat.{_-_}
+use Rattle.encoder.specs.MarksLaws.{Marking, marking-start, marking-in, marking-on, marking-end}
 use Rattle.encoder.proofs.marks.mark.Statement.{statement}
 use Rattle.encoder.proofs.marks.mark.Tie as tie
 

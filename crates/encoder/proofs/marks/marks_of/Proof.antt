@@ -1,9 +1,9 @@
 use borrow.Author.Needs.{needs}
 use native.Mathlib.Omega.{arith}
-use mathlib.Core.Path.{_≡_, refl, sym, ap, ap₂, _∙_}
-use Prim.Native.Nat.{ℕ, _+_, _-_, _*_, _/_, _%_, _^_, _<_, _≤_}
-use lib.ListN.{length, drop, getD, set}
-use Rattle.encoder.specs.Marks.{Passed, passed-start, passed-on, passed-end}
+use mathlib.Core.Path.{_≡_}
+use Prim.Native.Nat.{_-_, _≤_}
+use lib.ListN.{length}
+use Rattle.encoder.specs.MarksLaws.{Passed, passed-start, passed-on, passed-end}
 use Rattle.encoder.proofs.marks.marks_of.Statement.{statement}
 use Rattle.encoder.proofs.marks.marks_of.Tie as tie
 

@@ -1,12 +1,13 @@
 use borrow.Author.Needs.{needs}
 use native.Mathlib.Omega.{arith}
-use mathlib.Core.Path.{_≡_, refl, sym, ap, ap₂, _∙_}
-use Prim.Native.Nat.{ℕ, _+_, _-_, _*_, _/_, _%_, _^_, _<_, _≤_}
-use lib.ListN.{length, drop, getD, set}
+use mathlib.Core.Path.{_≡_, refl, sym, _∙_}
+use Prim.Native.Nat.{_-_, _≤_}
+use lib.ListN.{length, drop}
 use borrow.Author.Tests.{not-true, not-false}
 use Rattle.spv.specs.Bundle.{hashesOf}
 use Rattle.encoder.specs.BlockBump.{allReach}
-use Rattle.encoder.specs.Heap.{Grown, reach-stop, reach-on, reach-end}
+use Rattle.encoder.specs.Heap.{Grown}
+use Rattle.encoder.specs.HeapLaws.{reach-stop, reach-on, reach-end}
 use Rattle.encoder.specs.IdsLaws.{below-at}
 use Rattle.encoder.proofs.tree.all_free.Statement.{statement}
 use Rattle.encoder.proofs.tree.all_free.Tie as tie

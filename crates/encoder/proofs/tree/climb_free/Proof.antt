@@ -1,9 +1,10 @@
 use borrow.Author.Needs.{needs}
 use native.Mathlib.Omega.{arith}
-use mathlib.Core.Path.{_≡_, refl, sym, ap, ap₂, _∙_}
-use Prim.Native.Nat.{ℕ, _+_, _-_, _*_, _/_, _%_, _^_, _<_, _≤_}
-use lib.ListN.{length, drop, getD, set}
-use Rattle.encoder.specs.Heap.{Level, level-start, level-small, level-on, Grown, Climbing, climb-start, climb-twin, climb-on, climb-end}
+use mathlib.Core.Path.{sym, _∙_}
+use Prim.Native.Nat.{_-_, _/_, _<_, _≤_}
+use lib.ListN.{length}
+use Rattle.encoder.specs.Heap.{Level, Grown}
+use Rattle.encoder.specs.HeapLaws.{level-start, level-small, level-on, Climbing, climb-start, climb-twin, climb-on, climb-end}
 use Rattle.encoder.proofs.tree.climb_free.Statement.{statement}
 use Rattle.encoder.proofs.tree.climb_free.Tie as tie
 

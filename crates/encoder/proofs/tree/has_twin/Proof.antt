@@ -1,6 +1,4 @@
-use native.Mathlib.Omega.{arith}
-use mathlib.Core.Path.{_≡_, refl, sym, ap, ap₂, _∙_}
-use Rattle.encoder.specs.Heap.{twin-even, twin-odd}
+use Rattle.encoder.specs.HeapLaws.{twin-even, twin-odd}
 use borrow.Author.Needs.{needs}
 use Rattle.encoder.proofs.tree.has_twin.Statement.{statement}
 use Rattle.encoder.proofs.tree.has_twin.Tie as tie

@@ -1,26 +1,25 @@
 -- The call, case by case: what is refused, and what is written.
-use mathlib.Core.Path.{_≡_, refl, sym, ap, ap₂, _∙_}
-use mathlib.Core.Bool.{Bool, true, false, _&&_, not}
+use mathlib.Core.Path.{_≡_, refl, sym, ap, _∙_}
+use mathlib.Core.Bool.{true, false}
 use mathlib.Core.List.{List, [], _∷_, _++_}
-use Prim.Native.Nat.{ℕ, zero, suc, _+_, _*_, _/_, _%_, _^_, _≤_, _<_, min}
-use lib.ListN.{length, getD, drop, take, length-append}
+use Prim.Native.Nat.{ℕ, _+_, _/_, _%_, _^_, _≤_, _<_, min}
+use lib.ListN.{length, drop, length-append}
 use lib.Seq.{take-all}
 use lib.Dec.{leb, eqb}
 use native.Mathlib.Omega.{arith}
 use borrow.Author.Tests.{le-leb, lt-leb, leb-true, eq-eqb, ne-eqb}
-use Rattle.format.specs.Parse.{pick}
-use Rattle.format.specs.Page.{Page, page, putOn, writeOn, filled, write-whole, write-then, write-cons, wrote-then}
+use Rattle.format.specs.BumpLaws.{both}
+use Rattle.format.specs.Page.{Page, page, putOn, writeOn, filled, write-whole, write-cons, wrote-then}
 use Rattle.format.specs.Digits.{varintBytes}
 use Rattle.format.specs.Spelling.{spells}
 use Rattle.format.specs.BumpBytes.{levelBytes, bumpBytes}
 use Rattle.format.specs.Refusals.{OVER-LIMIT, NOT-LISTED, BAD-OFFSET, SAME-TX, TWIN, NO-ROOM, MAX-BLOCK}
 use Rattle.spv.specs.Bundle.{hashesOf}
 use Rattle.encoder.specs.declared.block.Written.{Written}
-use Rattle.encoder.specs.declared.block.Written.the-variants.{Bytes, Refused}
-use Rattle.encoder.specs.Tree.{height, heightFor}
+use Rattle.encoder.specs.declared.block.Written.the-variants.{Bytes}
+use Rattle.encoder.specs.Tree.{heightFor}
 use Rattle.encoder.specs.TreeLaws.{height-holds, height-least}
 use Rattle.encoder.specs.IdsLaws.{hashes-length}
-use Rattle.encoder.specs.Written.{both}
 use Rattle.encoder.specs.BlockBump.{levelsFor, blockBump, sized, noneChosen, allBelow, distinct, allReach, Writing, writes, refuses, roomFor, writing, writtenOf, outputAfter}
 
 -- ---- the sizes

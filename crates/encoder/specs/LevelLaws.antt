@@ -1,11 +1,11 @@
--- The level that the code counts and writes is the level asked for.
-use mathlib.Core.Path.{_≡_, refl, sym, ap, ap₂, _∙_, subst}
-use mathlib.Core.Bool.{Bool, true, false, _&&_, _||_, not}
+-- The levels that the code counts and writes are those asked for.
+use mathlib.Core.Path.{_≡_, refl, sym, ap, ap₂, _∙_}
+use mathlib.Core.Bool.{Bool, true, false, _&&_, not}
 use mathlib.Core.List.{List, [], _∷_, _++_}
 use mathlib.Core.Option.{Option, none, some}
 use Prim.Native.Nat.{ℕ, zero, suc, _+_, _-_, _*_, _/_, _%_, _^_, _≤_, _<_}
-use lib.ListN.{length, getD, length-append}
-use lib.Dec.{ltb, leb, eqb}
+use lib.ListN.{length, length-append}
+use lib.Dec.{ltb, eqb}
 use native.Mathlib.Omega.{arith}
 use borrow.Author.Tests.{ltb-true, eqb-true}
 use Rattle.format.specs.Parse.{pick}
@@ -15,20 +15,20 @@ use Rattle.encoder.specs.declared.level.Asked.{Asked}
 use Rattle.encoder.specs.declared.level.Asked.the-variants.{Nothing, Plain, Copy, Client}
 use Rattle.format.specs.Spelling.{spells}
 use Rattle.format.specs.Digits.{varintBytes}
-use Rattle.format.specs.BumpBytes.{Carried, plain, copy, client, Entry, carriedBytes, entryBytes, levelBytes}
+use Rattle.format.specs.BumpBytes.{Carried, plain, copy, client, carriedBytes, entryBytes, levelBytes}
 use Rattle.encoder.specs.Tree.{layer, size, node}
-use Rattle.encoder.specs.BlockBump.{allBelow, under, leftOut, siblingAt, asked, rising, levelFor, levelsFor}
+use Rattle.encoder.specs.BlockBump.{Below, allBelow, under, leftOut, siblingAt, asked, rising, levelFor, levelsFor}
 use Rattle.encoder.specs.RisingLaws.{rising-none, rising-some}
-use Rattle.encoder.specs.BlockFit.{Below, under-below, below-told}
-use Rattle.encoder.specs.Heap.{nodeIn, Stored, Heap, Level}
-use Rattle.encoder.specs.Marks.{marked, Marked}
+use Rattle.encoder.specs.BlockFit.{under-below, below-told}
+use Rattle.encoder.specs.Heap.{Stored, Heap, Level}
+use Rattle.encoder.specs.Marks.{Marked}
 use Rattle.format.specs.Page.{Page, writeOn, write-then, write-none}
 use Rattle.encoder.specs.IdsLaws.{hashes-length}
 use Rattle.encoder.specs.TreeLaws.{size-suc}
-use lib.Pow.{pow-mono, pow-pos}
 use native.Mathlib.Nat.{pow-suc, sub-zero}
 use native.Mathlib.Numerals.{add-one}
-use Rattle.encoder.specs.Leaves.{formAt, leafCount, leafText, sumFrom, textFrom, levelLeaves, levelSize, leavesText, levelText, level-size, beside-in}
+use Rattle.encoder.specs.Leaves.{Ready, formAt, leafCount, leafText, sumFrom, textFrom, levelLeaves, levelSize, leavesText, levelText}
+use Rattle.encoder.specs.LeavesLaws.{level-size, beside-in}
 
 -- the text of what is asked for at an offset
 unfoldable pub askedText : ℕ → Option Carried → List ℕ
@@ -119,13 +119,6 @@ module _ (list chosen : List ℕ) (g : Below (hashesOf list) chosen) (heap marks
 below-ids : (list chosen : List ℕ) → allBelow (length list / 32) chosen ≡ true → Below (hashesOf list) chosen
 unfolding hashesOf
 below-ids list chosen b i m = rw (hashes-length (length list / 32) list) (below-told (length list / 32) chosen b i m)
-
--- what the code has made before it writes
-pub record Ready (list heap marks chosen : List ℕ) (h n : ℕ) : Type 0 where
-  pub below : Below (hashesOf list) chosen
-  pub nodes : Heap list heap h h
-  pub climbs : Marked marks chosen h
-  pub count : n ≡ length list / 32
 
 pub ready : (list heap marks chosen : List ℕ) (h : ℕ) → allBelow (length list / 32) chosen ≡ true → Heap list heap h h → Marked marks chosen h → Ready list heap marks chosen h (length list / 32)
 ready list heap marks chosen h b n m = record { below = below-ids list chosen b; nodes = n; climbs = m; count = refl }

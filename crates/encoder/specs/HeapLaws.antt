@@ -1,0 +1,358 @@
+-- Laws of the tree as the code keeps it.
+use mathlib.Core.Path.{_≡_, refl, sym, ap, ap₂, _∙_}
+use mathlib.Core.Bool.{Bool, true, false}
+use mathlib.Core.List.{List, [], _++_, append-assoc}
+use Prim.Native.Nat.{ℕ, zero, suc, _+_, _-_, _*_, _/_, _%_, _^_, _≤_, _<_}
+use lib.ListN.{length, getD, take, drop, length-drop, take-append-drop, drop-of-length-le}
+use lib.Seq.{paste, length-paste, drop-paste, length-take-le, take-all, take-append-le, drop-append-le, drop-at, take-at, drop-drop, drop-cons}
+use lib.Dec.{ltb, leb, eqb}
+use lib.Pow.{pow-mono}
+use native.Mathlib.Omega.{arith}
+use native.Mathlib.Nat.{pow-suc, sub-zero}
+use native.Mathlib.Numerals.{add-one}
+use borrow.Author.Tests.{lt-ltb, le-ltb, ltb-true, ltb-false, leb-true, leb-false, eq-eqb, ne-eqb}
+use Rattle.hash.specs.Sha256.{sha256d, sha256d-length}
+use borrow.Author.Count.{below-more}
+use Rattle.format.specs.Bytes.{same}
+use Rattle.format.specs.Parse.{pick}
+use Rattle.format.specs.Search.{hashAt}
+use Rattle.format.specs.SearchLaws.{hash-there, hash-none, hash-at-length}
+use Rattle.spv.specs.Bundle.{hashesOf}
+use Rattle.encoder.specs.Tree.{above, layer, size, node, heightFor, treeClimb}
+use Rattle.encoder.specs.TreeLaws.{above-length, above-pair, above-last, height-holds, height-least, size-suc}
+use Rattle.encoder.specs.IdsLaws.{hashes-length, hashes-at}
+use Rattle.encoder.specs.BlockBump.{reaches, allReach}
+use Rattle.encoder.specs.TreeClimb.{twinAt, free, free-end, free-twin, free-on, free-all}
+use Rattle.encoder.specs.Heap.{nodeIn, rightIn, Stored, Heap, Level, twinIn, Grown}
+
+-- ---- a level and its places
+
+pub level-start : (h top : ℕ) → top ≡ 2 ^ h → Level h 0 top
+level-start h top e = record { low = omega arith; wide = e ∙ ap (λ (k : ℕ). 2 ^ k) (sym (sub-zero h)) }
+
+module _ (h k width : ℕ) (b : Level h k width) (more : k < h) where
+  halved : 2 ^ (h - k) ≡ 2 ^ (h - (k + 1)) * 2
+  halved = let e : h - k ≡ suc (h - (k + 1)) = omega (arith, add-one (h - (k + 1))) in ap (λ (x : ℕ). 2 ^ x) e ∙ pow-suc 2 (h - (k + 1))
+
+  pub level-on : Level h (k + 1) (width / 2)
+  level-on = record { low = omega arith; wide = let a = b .wide in omega (arith, halved) }
+
+  pub level-small : h ≤ 10 → (width % 2 ≡ 0) × (width ≤ 1024)
+  level-small l =
+      let p : 2 ^ (h - k) ≤ 2 ^ 10 = pow-mono {j = 10} (omega arith) in
+      let w = b .wide in
+      (omega (arith, halved), omega arith)
+
+-- ---- the least height, step by step
+
+pub height-is : (n h : ℕ) → n ≤ 2 ^ h → ((g : ℕ) → g < h → 2 ^ g < n) → h ≡ heightFor n
+height-is n h e f = go (ltb (heightFor n) h) refl
+  where
+    go : (t : Bool) → ltb (heightFor n) h ≡ t → h ≡ heightFor n
+    go true q = absurd (let a = f (heightFor n) (ltb-true (heightFor n) h q) in let b = height-holds n in omega arith)
+    go false q = let a = height-least n h e in let b = ltb-false (heightFor n) h q in omega arith
+
+-- ---- a hash stored
+
+front : (a rest : List ℕ) (p : ℕ) → p + 32 ≤ length a → take 32 (drop p (a ++ rest)) ≡ take 32 (drop p a)
+front a rest p h =
+    ap (take 32) (drop-append-le p a rest (omega arith)) ∙ take-append-le 32 (drop p a) rest (let e = length-drop p a in omega arith)
+
+module _ (heap hash : List ℕ) (q : ℕ) (long : length hash ≡ 32) (inside : 32 * q + 32 ≤ length heap) where
+  stored : List ℕ
+  stored = paste heap (32 * q) hash 32
+
+  size-same : length (paste heap (32 * q) hash 32) ≡ length heap
+  size-same = length-paste heap (32 * q) hash 32 inside (omega arith)
+
+  pub stored-here : hashAt (paste heap (32 * q) hash 32) (32 * q) ≡ hash
+  stored-here =
+      let a : List ℕ = take (32 * q) heap in
+      let c : List ℕ = drop (32 * q + 32) heap in
+      let whole : take 32 hash ≡ hash = take-all 32 hash (omega arith) in
+      let la : length a ≡ 32 * q = length-take-le (32 * q) heap (omega arith) in
+      hash-there (paste heap (32 * q) hash 32) (32 * q) (let e = size-same in omega arith)
+      ∙ ap (λ (l : List ℕ). take 32 (drop (32 * q) l)) (append-assoc a (take 32 hash) c)
+      ∙ ap (take 32) (drop-at a (take 32 hash ++ c) (32 * q) la)
+      ∙ ap (λ (l : List ℕ). take 32 (l ++ c)) whole
+      ∙ take-at hash c 32 long
+
+  parts : (p : ℕ) → (p ≡ q → ⊥) → (t : Bool) → ltb p q ≡ t → take 32 (drop (32 * p) (paste heap (32 * q) hash 32)) ≡ take 32 (drop (32 * p) heap)
+  parts p d true e =
+      let lt = ltb-true p q e in
+      let a : List ℕ = take (32 * q) heap in
+      let la : length a ≡ 32 * q = length-take-le (32 * q) heap (omega arith) in
+      ap (λ (l : List ℕ). take 32 (drop (32 * p) l)) (append-assoc a (take 32 hash) (drop (32 * q + 32) heap))
+      ∙ front a (take 32 hash ++ drop (32 * q + 32) heap) (32 * p) (omega arith)
+      ∙ sym (front a (drop (32 * q) heap) (32 * p) (omega arith))
+      ∙ ap (λ (l : List ℕ). take 32 (drop (32 * p) l)) (take-append-drop (32 * q) heap)
+  parts p d false e =
+      let ge = ltb-false p q e in
+      let m : ℕ = 32 * p - (32 * q + 32) in
+      let back : 32 * q + 32 + m ≡ 32 * p = omega arith in
+      ap (take 32)
+      (ap (λ (k : ℕ). drop k (paste heap (32 * q) hash 32)) (sym back)
+      ∙ sym (drop-drop m (32 * q + 32) (paste heap (32 * q) hash 32))
+      ∙ ap (drop m) (drop-paste heap (32 * q) hash 32 (omega arith) (omega arith))
+      ∙ drop-drop m (32 * q + 32) heap
+      ∙ ap (λ (k : ℕ). drop k heap) back)
+
+  pub stored-other : (p : ℕ) → (p ≡ q → ⊥) → hashAt (paste heap (32 * q) hash 32) (32 * p) ≡ hashAt heap (32 * p)
+  stored-other p d = go (leb (32 * p + 32) (length heap)) refl
+    where
+      go : (t : Bool) → leb (32 * p + 32) (length heap) ≡ t → hashAt (paste heap (32 * q) hash 32) (32 * p) ≡ hashAt heap (32 * p)
+      go true e =
+          let h = leb-true (32 * p + 32) (length heap) e in
+          hash-there (paste heap (32 * q) hash 32) (32 * p) (let s = size-same in omega arith) ∙ parts p d (ltb p q) refl ∙ sym (hash-there heap (32 * p) h)
+      go false e =
+          let h = leb-false (32 * p + 32) (length heap) e in
+          hash-none (paste heap (32 * q) hash 32) (32 * p) (let s = size-same in omega arith) ∙ sym (hash-none heap (32 * p) h)
+
+-- ---- a level raised: j of its nodes stand
+
+-- the node that is made of a pair
+unfoldable pub pairIn : List ℕ → List ℕ → Bool → ℕ → ℕ → ℕ → List ℕ
+pairIn list heap base width count j = sha256d (nodeIn list heap base width (2 * j) ++ rightIn list heap base width count (2 * j))
+
+module _ (list heap : List ℕ) (base : Bool) (width : ℕ) (l : List (List ℕ)) (h : Stored list heap base width l) where
+  pub pair-above : (j : ℕ) → j < length (above l) → pairIn list heap base width (length l) j ≡ getD (above l) j []
+  unfolding pairIn rightIn
+  pair-above j b = go (ltb (2 * j + 1) (length l)) refl
+    where
+      few : 2 * j < length l
+      few = let e = above-length l in omega arith
+
+      go : (t : Bool) → ltb (2 * j + 1) (length l) ≡ t
+          → sha256d (nodeIn list heap base width (2 * j) ++ pick t (nodeIn list heap base width (2 * j + 1)) (nodeIn list heap base width (2 * j))) ≡ getD (above l) j []
+      go true e =
+          let lt = ltb-true (2 * j + 1) (length l) e in
+          ap₂ (λ (x y : List ℕ). sha256d (x ++ y)) (h (2 * j) few) (h (2 * j + 1) lt ∙ ap (λ (k : ℕ). getD l k []) (add-one (2 * j)))
+          ∙ sym (above-pair l j (2 * j) (omega arith) (omega arith))
+      go false e =
+          let ge = ltb-false (2 * j + 1) (length l) e in
+          let f = few in
+          ap₂ (λ (x y : List ℕ). sha256d (x ++ y)) (h (2 * j) few) (h (2 * j) few) ∙ sym (above-last l j (2 * j) (omega arith) (omega arith))
+
+-- ---- for the functions' proofs
+
+module _ (list heap : List ℕ) (width j : ℕ) where
+  pub node-base : {base : Bool} → base ≡ true → hashAt list (32 * j) ≡ nodeIn list heap base width j
+  unfolding nodeIn
+  node-base e = rw e
+
+  pub node-heap : {base : Bool} → base ≡ false → hashAt heap (32 * (width + j)) ≡ nodeIn list heap base width j
+  unfolding nodeIn
+  node-heap e = rw e
+
+pub node-length : (list heap : List ℕ) (base : Bool) (width j : ℕ) → length (nodeIn list heap base width j) ≡ 32
+unfolding nodeIn
+node-length list heap true width j = hash-at-length list (32 * j)
+node-length list heap false width j = hash-at-length heap (32 * (width + j))
+
+module _ (list heap : List ℕ) (base : Bool) (width count j : ℕ) where
+  pub right-next : j + 1 < count → nodeIn list heap base width (j + 1) ≡ rightIn list heap base width count j
+  unfolding rightIn
+  right-next h = rw (lt-ltb (j + 1) count h)
+
+  pub right-copy : count ≤ j + 1 → nodeIn list heap base width j ≡ rightIn list heap base width count j
+  unfolding rightIn
+  right-copy h = rw (le-ltb (j + 1) count h)
+
+module _ (n h w : ℕ) (e : w ≡ 2 ^ h) (f : (g : ℕ) → g < h → 2 ^ g < n) where
+  pub shape-on : w < n → (2 * w ≡ 2 ^ (h + 1)) × ((g : ℕ) → g < h + 1 → 2 ^ g < n)
+  shape-on l = (let p = pow-suc 2 h in rw (add-one h) (omega arith), below-more (λ (g : ℕ). 2 ^ g < n) h f (rw (← e) l))
+
+  pub shape-end : n ≤ w → (h ≡ heightFor n) × (w ≡ 2 ^ heightFor n)
+  shape-end l = let is = height-is n h (rw (← e) l) f in (is, e ∙ ap (λ (k : ℕ). 2 ^ k) is)
+
+-- ---- a loop that raises a level: j of its nodes are made of the level as it was, and nothing from the level on is touched
+
+pub record Raising (list heap₀ : List ℕ) (base : Bool) (width count : ℕ) (heap : List ℕ) (j : ℕ) : Type 0 where
+  pub few : j ≤ (count + 1) / 2
+  pub long : length heap ≡ length heap₀
+  pub kept : (p : ℕ) → width ≤ p → hashAt heap (32 * p) ≡ hashAt heap₀ (32 * p)
+  pub made : (i : ℕ) → i < j → hashAt heap (32 * (width / 2 + i)) ≡ pairIn list heap₀ base width count i
+
+pub raising-start : (list heap₀ : List ℕ) (base : Bool) (width count : ℕ) → Raising list heap₀ base width count heap₀ 0
+raising-start list heap₀ base width count = record { few = omega arith; long = refl; kept = λ p h. refl; made = λ i h. absurd (omega arith) }
+
+node-kept : (list heap heap₀ : List ℕ) (base : Bool) (width j : ℕ) → ((p : ℕ) → width ≤ p → hashAt heap (32 * p) ≡ hashAt heap₀ (32 * p)) → nodeIn list heap base width j ≡ nodeIn list heap₀ base width j
+unfolding nodeIn
+node-kept list heap heap₀ true width j k = refl
+node-kept list heap heap₀ false width j k = k (width + j) (omega arith)
+
+pair-kept : (list heap heap₀ : List ℕ) (base : Bool) (width count j : ℕ) → ((p : ℕ) → width ≤ p → hashAt heap (32 * p) ≡ hashAt heap₀ (32 * p))
+    → pairIn list heap base width count j ≡ pairIn list heap₀ base width count j
+unfolding pairIn rightIn
+pair-kept list heap heap₀ base width count j k =
+    ap₂ (λ (x y : List ℕ). sha256d (x ++ y)) (node-kept list heap heap₀ base width (2 * j) k)
+    (ap₂ (pick (ltb (2 * j + 1) count)) (node-kept list heap heap₀ base width (2 * j + 1) k) (node-kept list heap heap₀ base width (2 * j) k))
+
+module _ (list heap₀ : List ℕ) (base : Bool) (width count : ℕ) (heap : List ℕ) (j : ℕ) (r : Raising list heap₀ base width count heap j) where
+  pub raising-on : (even : width % 2 ≡ 0) (low : width ≤ 1024) (inside : count ≤ width) (room : length heap₀ ≡ 32768) (more : j < (count + 1) / 2)
+      (left right hash heap′ : List ℕ) → left ≡ nodeIn list heap base width (2 * j) → right ≡ rightIn list heap base width count (2 * j) → hash ≡ sha256d (left ++ right)
+      → heap′ ≡ paste heap (32 * (width / 2 + j)) hash 32 → Raising list heap₀ base width count heap′ (j + 1)
+  unfolding pairIn
+  raising-on even low inside room more left right hash heap′ el er eh e =
+      let q : ℕ = width / 2 + j in
+      let is : hash ≡ pairIn list heap base width count j = eh ∙ ap₂ (λ (x y : List ℕ). sha256d (x ++ y)) el er in
+      let lh : length hash ≡ 32 = ap length eh ∙ sha256d-length (left ++ right) in
+      let at : 32 * q + 32 ≤ length heap = let l = r .long in omega arith in
+      rw e
+      (record {
+        few = omega arith;
+        long = length-paste heap (32 * q) hash 32 at (omega arith) ∙ r .long;
+        kept = λ p h. stored-other heap hash q lh at p (λ d. omega arith) ∙ r .kept p h;
+        made = below-more (λ (i : ℕ). hashAt (paste heap (32 * q) hash 32) (32 * (width / 2 + i)) ≡ pairIn list heap₀ base width count i) j
+            (λ i h. stored-other heap hash q lh at (width / 2 + i) (λ d. omega arith) ∙ r .made i h)
+            (stored-here heap hash q lh at ∙ is ∙ pair-kept list heap heap₀ base width count j (r .kept));
+      })
+
+  pub raising-end : (count + 1) / 2 ≤ j → (l : List (List ℕ)) → length l ≡ count → Stored list heap₀ base width l → Stored list heap false (width / 2) (above l)
+  unfolding nodeIn
+  raising-end h l e s i b =
+      let n = above-length l in
+      r .made i (omega arith) ∙ ap (λ (k : ℕ). pairIn list heap₀ base width k i) (sym e) ∙ pair-above list heap₀ base width l s i b
+
+-- ---- every level
+
+-- k levels stand, and the next one's places and count are known
+pub record Building (list heap : List ℕ) (h n width count k : ℕ) : Type 0 where
+  pub low : k ≤ h
+  pub wide : width ≡ 2 ^ (h - k)
+  pub count-is : count ≡ size (hashesOf list) k
+  pub inside : count ≤ width
+  pub stand : Heap list heap h k
+
+pub base-stored : (list heap : List ℕ) (width : ℕ) → Stored list heap true width (hashesOf list)
+unfolding nodeIn hashesOf
+base-stored list heap width j b =
+    let low : j < length list / 32 = rw (hashes-length (length list / 32) list) at b in
+    hash-there list (32 * j) (omega arith) ∙ sym (hashes-at (length list / 32) list j low)
+
+pub building-start : (list heap : List ℕ) (h n top : ℕ) → top ≡ 2 ^ h → n ≤ top → n ≡ length list / 32 → Building list heap h n top n 0
+unfolding layer hashesOf nodeIn
+building-start list heap h n top e l f = record {
+  low = omega arith;
+  wide = e ∙ ap (λ (k : ℕ). 2 ^ k) (sym (sub-zero h));
+  count-is = f ∙ sym (hashes-length (length list / 32) list);
+  inside = l;
+  stand = first;
+}
+  where
+    first : (m : ℕ) → m ≤ 0 → Stored list heap (eqb m 0) (2 ^ (h - m)) (layer (hashesOf list) m)
+    first zero b = base-stored list heap (2 ^ (h - 0))
+    first (suc m) b = absurd (omega arith)
+
+module _ (list heap : List ℕ) (h n width count k : ℕ) (b : Building list heap h n width count k) (more : k < h) where
+  pub building-wide : h ≤ 10 → (width % 2 ≡ 0) × (width ≤ 1024) × (count ≤ width)
+  building-wide l =
+      let e : h - k ≡ suc (h - (k + 1)) = omega (arith, add-one (h - (k + 1))) in
+      let d : 2 ^ (h - k) ≡ 2 ^ (h - (k + 1)) * 2 = ap (λ (x : ℕ). 2 ^ x) e ∙ pow-suc 2 (h - (k + 1)) in
+      let p : 2 ^ (h - k) ≤ 2 ^ 10 = pow-mono {j = 10} (omega arith) in
+      let w = b .wide in
+      (omega arith, omega arith, b .inside)
+
+  pub building-on : (heap′ : List ℕ) (w c : ℕ)
+      → ((l : List (List ℕ)) → length l ≡ count → Stored list heap (eqb k 0) width l → Stored list heap′ false (width / 2) (above l))
+      → ((p : ℕ) → width ≤ p → hashAt heap′ (32 * p) ≡ hashAt heap (32 * p)) → w ≡ width / 2 → c ≡ (count + 1) / 2
+      → Building list heap′ h n w c (k + 1)
+  unfolding layer
+  building-on heap′ w c rises keeps ew ec = record {
+    low = omega arith;
+    wide = let a = b .wide in omega (arith, halved);
+    count-is = let a = b .count-is in let s = size-suc (hashesOf list) k in rw (add-one k) (omega arith);
+    inside = let a = b .inside in let d = b .wide in omega (arith, halved);
+    stand = λ m d. each m (leb m k) refl d;
+  }
+    where
+      halved : 2 ^ (h - k) ≡ 2 ^ (h - (k + 1)) * 2
+      halved = let e : h - k ≡ suc (h - (k + 1)) = omega (arith, add-one (h - (k + 1))) in ap (λ (x : ℕ). 2 ^ x) e ∙ pow-suc 2 (h - (k + 1))
+
+      next : Stored list heap′ (eqb (k + 1) 0) (2 ^ (h - (k + 1))) (layer (hashesOf list) (k + 1))
+      next =
+          let half : width / 2 ≡ 2 ^ (h - (k + 1)) = let a = b .wide in omega (arith, halved) in
+          let up = rises (layer (hashesOf list) k) (sym (b .count-is)) (rw (b .wide) (b .stand k (omega arith))) in
+          rw (ne-eqb (k + 1) 0 (λ q. omega arith), ← half, add-one k) up
+
+      each : (m : ℕ) (t : Bool) → leb m k ≡ t → m ≤ k + 1 → Stored list heap′ (eqb m 0) (2 ^ (h - m)) (layer (hashesOf list) m)
+      each m true e d = λ j c.
+          let l = leb-true m k e in
+          let wider : width ≤ 2 ^ (h - m) = let a = b .wide in let p : 2 ^ (h - k) ≤ 2 ^ (h - m) = pow-mono {j = h - m} (omega arith) in omega arith in
+          node-kept list heap′ heap (eqb m 0) (2 ^ (h - m)) j (λ p g. keeps p (omega arith)) ∙ b .stand m l j c
+      each m false e d = let g = leb-false m k e in let is : m ≡ k + 1 = omega arith in rw is next
+
+-- ---- climbs in the heap
+
+module _ (list heap : List ℕ) (base : Bool) (width j : ℕ) where
+  pub twin-even : j % 2 ≡ 0 → false ≡ twinIn list heap base width j
+  unfolding twinIn
+  twin-even e = rw (ne-eqb (j % 2) 1 (λ q. omega arith))
+
+  pub twin-odd : (j % 2 ≡ 0 → ⊥) → {a b : List ℕ} {r : Bool} → a ≡ nodeIn list heap base width (j - 1) → b ≡ nodeIn list heap base width j → r ≡ same a b → r ≡ twinIn list heap base width j
+  unfolding twinIn
+  twin-odd d e f g = rw (eq-eqb (j % 2) 1 (omega arith)) (g ∙ ap₂ same e f)
+
+pub grown : (list heap : List ℕ) (h : ℕ) → h ≡ heightFor (length list / 32) → Heap list heap h h → Grown list heap h
+grown list heap h e f = record { least = e; nodes = f }
+
+-- a climb from i that has come to position j of layer k
+pub record Climbing (list : List ℕ) (h i k j : ℕ) : Type 0 where
+  pub inside : j < size (hashesOf list) k
+  pub same-end : free (hashesOf list) k (h - k) j ≡ reaches (treeClimb (hashesOf list) i)
+
+module _ {list heap : List ℕ} {h : ℕ} (g : Grown list heap h) where
+  pub climb-start : (i : ℕ) → i < length list / 32 → Climbing list h i 0 i
+  unfolding layer hashesOf
+  climb-start i b =
+      let n = hashes-length (length list / 32) list in
+      record {
+        inside = omega arith;
+        same-end = ap (λ (x : ℕ). free (hashesOf list) 0 x i) (sub-zero h ∙ g .least ∙ ap heightFor (sym n)) ∙ free-all (hashesOf list) i;
+      }
+
+  module _ (k width j : ℕ) (b : Level h k width) (more : k < h) (inside : j < size (hashesOf list) k) where
+    twin-is : twinIn list heap (eqb k 0) width j ≡ twinAt (hashesOf list) k j
+    unfolding twinIn twinAt
+    twin-is = go (eqb (j % 2) 1) refl
+      where
+        at : (x : ℕ) → x < size (hashesOf list) k → nodeIn list heap (eqb k 0) width x ≡ node (hashesOf list) k x
+        at x l = rw (b .wide) (g .nodes k (omega arith) x l)
+
+        go : (t : Bool) → eqb (j % 2) 1 ≡ t → pick t (same (nodeIn list heap (eqb k 0) width (j - 1)) (nodeIn list heap (eqb k 0) width j)) false
+            ≡ pick t (same (node (hashesOf list) k (j - 1)) (node (hashesOf list) k j)) false
+        go true e = ap₂ same (at (j - 1) (omega arith)) (at j inside)
+        go false e = refl
+
+    one : h - k ≡ suc (h - (k + 1))
+    one = omega (arith, add-one (h - (k + 1)))
+
+    pub climb-twin : twinIn list heap (eqb k 0) width j ≡ true → free (hashesOf list) k (h - k) j ≡ false
+    climb-twin e = ap (λ (x : ℕ). free (hashesOf list) k x j) one ∙ free-twin (hashesOf list) k (h - (k + 1)) j inside (sym twin-is ∙ e)
+
+    pub climb-on : (i : ℕ) → twinIn list heap (eqb k 0) width j ≡ false → Climbing list h i k j → Climbing list h i (k + 1) (j / 2)
+    climb-on i e c = record {
+      inside = let s = size-suc (hashesOf list) k in rw (add-one k) (omega arith);
+      same-end =
+          ap (λ (x : ℕ). free (hashesOf list) x (h - (k + 1)) (j / 2)) (add-one k)
+          ∙ sym (free-on (hashesOf list) k (h - (k + 1)) j inside (sym twin-is ∙ e))
+          ∙ ap (λ (x : ℕ). free (hashesOf list) k x j) (sym one)
+          ∙ c .same-end;
+    }
+
+pub climb-end : (list : List ℕ) (h i k j : ℕ) → h ≤ k → Climbing list h i k j → true ≡ reaches (treeClimb (hashesOf list) i)
+climb-end list h i k j l c = let z : h - k ≡ 0 = omega arith in sym (free-end (hashesOf list) k j) ∙ ap (λ (x : ℕ). free (hashesOf list) k x j) (sym z) ∙ c .same-end
+
+-- every chosen climb
+module _ (ids : List (List ℕ)) (chosen : List ℕ) (i : ℕ) (more : i < length chosen) where
+  pub reach-stop : reaches (treeClimb ids (getD chosen i 0)) ≡ false → allReach ids (drop i chosen) ≡ false
+  unfolding allReach
+  reach-stop e = rw (drop-cons chosen i 0 more) (rw e)
+
+  pub reach-on : reaches (treeClimb ids (getD chosen i 0)) ≡ true → allReach ids (drop i chosen) ≡ allReach ids (drop (i + 1) chosen)
+  unfolding allReach
+  reach-on e = rw (add-one i, drop-cons chosen i 0 more) (rw e)
+
+pub reach-end : (ids : List (List ℕ)) (chosen : List ℕ) (i : ℕ) → length chosen ≤ i → allReach ids (drop i chosen) ≡ true
+unfolding allReach
+reach-end ids chosen i e = rw (drop-of-length-le chosen e)
