@@ -18,8 +18,11 @@ use format::refusal::OVER_LIMIT;
 use format::refusal::SAME_TX;
 use format::refusal::TWIN;
 ghost use mathlib.Core.Path.{_≡_};
+ghost use mathlib.Core.Bool.{true};
+ghost use Prim.Native.Nat.{_/_};
 ghost use lib.ListN.{length};
-ghost use Rattle.encoder.specs.BlockBump.{refuses, sized, writing, writtenOf, outputAfter};
+ghost use Rattle.spv.specs.Bundle.{hashesOf};
+ghost use Rattle.encoder.specs.BlockBump.{allBelow, distinct, outputAfter, refuses, sized, writing, writtenOf};
 
 // How many bytes were written, or a refusal.
 pub enum Written {
@@ -50,6 +53,32 @@ fn within_sizes(block: u64, ids: &[u8]) -> bool
     n <= 1024
 }
 
+// The BUMP of ids and positions that are not refused for themselves: the tree is made, then the bytes.
+fn write_tree(block: u64, ids: &[u8], chosen: &[u64], out: &mut [u8]) -> Written
+    requires { ⌜ (sized block (now ids) ≡ true) × (length (now chosen) ≡ 0 → ⊥) × (allBelow (length (now ids) / 32) (now chosen) ≡ true) × (distinct (hashesOf (now ids)) ≡ true) ⌝ }
+    ensures { λ r. ⌜ (r ≡ writtenOf (writing block (now (ids .entry)) (now (chosen .entry)) (length (now (out .entry)))))
+        × (now (out .exit) ≡ outputAfter (writing block (now (ids .entry)) (now (chosen .entry)) (length (now (out .entry)))) (now (out .entry))) ⌝ }
+{
+    let n = ids.len() / 32;
+    let shape = shape_for(n);
+    let height = shape.height;
+    let top = shape.width;
+    let mut heap = [0u8; 32768];
+    build(ids, &mut heap, height, n, top);
+    if !all_free(ids, &heap, chosen, height, top) {
+        return refused(TWIN);
+    }
+    let marks = marks_of(chosen, height, top);
+    let size = varint_size(block) + 1 + levels_size(&marks, height, n, top);
+    if out.len() < size {
+        return refused(NO_ROOM);
+    }
+    let mut next = write_varint(out, 0, block);
+    next = put(out, next, height as u8);
+    next = write_levels(ids, &heap, &marks, out, next, height, n, top);
+    Written::Bytes(next)
+}
+
 // The BUMP of the chosen positions of a list of ids.
 pub fn write_bump(block: u64, ids: &[u8], chosen: &[u64], out: &mut [u8]) -> Written
     ensures { λ r. ⌜ (r ≡ writtenOf (writing block (now (ids .entry)) (now (chosen .entry)) (length (now (out .entry)))))
@@ -68,21 +97,5 @@ pub fn write_bump(block: u64, ids: &[u8], chosen: &[u64], out: &mut [u8]) -> Wri
     if !all_differ(ids) {
         return refused(SAME_TX);
     }
-    let shape = shape_for(n);
-    let height = shape.height;
-    let top = shape.width;
-    let mut heap = [0u8; 32768];
-    build(ids, &mut heap, height, n, top);
-    if !all_free(ids, &heap, chosen, height, top) {
-        return refused(TWIN);
-    }
-    let marks = marks_of(chosen, height, top);
-    let size = varint_size(block) + 1 + levels_size(&marks, height, n, top);
-    if out.len() < size {
-        return refused(NO_ROOM);
-    }
-    let mut next = write_varint(out, 0, block);
-    next = put(out, next, height as u8);
-    next = write_levels(ids, &heap, &marks, out, next, height, n, top);
-    Written::Bytes(next)
+    write_tree(block, ids, chosen, out)
 }
