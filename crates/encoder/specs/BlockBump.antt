@@ -55,6 +55,7 @@ rising f o (suc n) = elim (f o) [ none ↦ rising f (o + 1) n | some c ↦ recor
 abbrev pub levelFor : List (List ℕ) → List ℕ → ℕ → ℕ → List Entry
 levelFor ids chosen h k = rising (asked ids chosen k) 0 (2 ^ (h - k))
 
+-- n levels from level k on
 unfoldable pub levelsFor : List (List ℕ) → List ℕ → ℕ → ℕ → ℕ → List (List Entry)
 levelsFor ids chosen h k zero = []
 levelsFor ids chosen h k (suc n) = levelFor ids chosen h k ∷ levelsFor ids chosen h (k + 1) n
@@ -65,7 +66,7 @@ blockBump block ids chosen = record { block = block; height = height ids; levels
 
 -- ---- the call
 
--- a block height or list outside the sizes, or a list that isn't whole ids
+-- a block height and a list within the sizes, the list of whole ids
 unfoldable pub sized : ℕ → List ℕ → Bool
 sized block list = leb block MAX-BLOCK && (eqb (length list % 32) 0 && (leb 2 (length list / 32) && leb (length list / 32) 1024))
 
@@ -73,18 +74,22 @@ unfoldable pub noneChosen : List ℕ → Bool
 noneChosen [] = true
 noneChosen (i ∷ chosen) = false
 
+-- every chosen position stands in a list of n ids
 unfoldable pub allBelow : ℕ → List ℕ → Bool
 allBelow n [] = true
 allBelow n (i ∷ chosen) = ltb i n && allBelow n chosen
 
+-- no two ids of the list are equal
 unfoldable pub distinct : List (List ℕ) → Bool
 distinct [] = true
 distinct (x ∷ l) = not (among x l) && distinct l
 
+-- a climb that meets no twin
 unfoldable pub reaches : Outcome → Bool
 reaches (rooted r) = true
 reaches (refused number k q) = false
 
+-- .. of every chosen position
 unfoldable pub allReach : List (List ℕ) → List ℕ → Bool
 allReach ids [] = true
 allReach ids (i ∷ chosen) = reaches (treeClimb ids i) && allReach ids chosen
