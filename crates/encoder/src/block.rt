@@ -7,6 +7,7 @@ use super::marks::marks_of;
 use super::tree::all_free;
 use super::tree::build;
 use super::tree::shape_for;
+use format::Bump;
 use format::Refusal;
 use format::page::put;
 use format::page::varint_size;
@@ -40,7 +41,7 @@ fn refused(number: u8) -> Written
 fn within_sizes(block: u64, ids: &[u8]) -> bool
     ensures { λ r. ⌜ r ≡ sized block (now (ids .entry)) ⌝ }
 {
-    if 4294967295 < block {
+    if Bump::MAX_BLOCK < block {
         return false;
     }
     if ids.len() % 32 != 0 {
