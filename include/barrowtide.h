@@ -34,9 +34,10 @@
  * Stack. As built by the kit a call needs at most
  *   - 192 KiB  barrowtide_judge_beef
  *   - 112 KiB  barrowtide_read_beef
+ *   -  48 KiB  barrowtide_write_bump
  *   -  24 KiB  barrowtide_compare
- *   -  16 KiB  barrowtide_prove_bump, barrowtide_prove_cmp, barrowtide_check_clients,
- *              barrowtide_read_bump, barrowtide_read_cmp
+ *   -  16 KiB  barrowtide_prove_bump, barrowtide_prove_cmp, barrowtide_prove_page,
+ *              barrowtide_check_clients, barrowtide_read_bump, barrowtide_read_cmp
  *   -   8 KiB  barrowtide_prove_tsc
  *   -   4 KiB  every other call
  * with the C library's memcpy and memset, which are all that it calls. Nothing recurses.
