@@ -7,11 +7,11 @@ use crate::Hash;
 /// A sibling as a proof gives it.
 #[derive(Debug, Clone, Copy, PartialEq, Eq)]
 pub enum Sibling {
-    /// Its hash is written.
-    Written(Hash),
+    /// Its value, written or worked out.
+    Value(Hash),
     /// It is a copy of the working hash.
     Copy,
-    /// It is not written.
+    /// It has no value.
     Missing,
 }
 
@@ -57,14 +57,14 @@ pub fn climb(
     id: Hash,
     position: u64,
     height: u64,
-    sibling: impl Fn(usize, u64) -> Sibling,
+    mut sibling: impl FnMut(usize, u64) -> Sibling,
 ) -> Result<Climb, u32> {
     let mut layers = Vec::new();
     let mut working = id;
     let mut at = position;
     for layer in 0..height as usize {
         let other = match sibling(layer, beside(at)) {
-            Sibling::Written(hash) => hash,
+            Sibling::Value(hash) => hash,
             Sibling::Copy => working,
             Sibling::Missing => return Err(MISSING),
         };

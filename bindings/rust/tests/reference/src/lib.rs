@@ -24,6 +24,7 @@ pub mod refusal;
 pub mod sha256;
 pub mod transaction;
 pub mod tsc;
+pub mod values;
 pub mod write;
 
 /// 32 bytes in stored order: an id, a node or a root.

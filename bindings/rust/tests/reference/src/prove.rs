@@ -6,6 +6,7 @@ use crate::cmp;
 use crate::path::{Node, Path};
 use crate::refusal::{Refusal, NOT_LISTED, ROOTS_DIFFER};
 use crate::tsc::{self, Tsc};
+use crate::values::Values;
 use crate::Hash;
 
 /// Proves an id by a BUMP.
@@ -33,25 +34,26 @@ fn plain(number: u32) -> Refusal {
     Refusal { number, carried: 0 }
 }
 
-/// The climb of an id in a path: from the level-0 leaf that carries it, of several the least
-/// offset.
+/// The climb of an id in a path.
 pub fn climb_path(path: &Path, id: &Hash) -> Result<Climb, u32> {
+    climb_from(path, *id, start(path, id).ok_or(NOT_LISTED)?)
+}
+
+/// Where the climb starts: at the level-0 leaf that carries the id, of several the least offset.
+pub fn start(path: &Path, id: &Hash) -> Option<u64> {
     let carriers = path.levels[0].iter().filter(|leaf| leaf.node.hash() == Some(id));
-    let start = carriers.map(|leaf| leaf.offset).min().ok_or(NOT_LISTED)?;
-    climb_from(path, *id, start)
+    carriers.map(|leaf| leaf.offset).min()
 }
 
 fn climb_from(path: &Path, id: Hash, position: u64) -> Result<Climb, u32> {
-    climb(id, position, path.tree_height(), |layer, offset| match path.leaf(layer, offset) {
-        None => Sibling::Missing,
-        Some(leaf) => leaf.node.hash().map_or(Sibling::Copy, |hash| Sibling::Written(*hash)),
-    })
+    let mut values = Values::of(path);
+    climb(id, position, path.tree_height(), |layer, offset| values.sibling(layer, offset))
 }
 
 fn climb_tsc(proof: &Tsc) -> Result<Climb, u32> {
     let height = proof.nodes.len() as u64;
     let climb = climb(proof.id, proof.index, height, |layer, _| match proof.nodes[layer] {
-        tsc::Node::Hash(hash) => Sibling::Written(hash),
+        tsc::Node::Hash(hash) => Sibling::Value(hash),
         tsc::Node::Copy => Sibling::Copy,
     })?;
     match proof.target.root() {

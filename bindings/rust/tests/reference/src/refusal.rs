@@ -40,7 +40,7 @@ pub const BAD_TX: u32 = 11;
 pub const EMPTY: u32 = 12;
 /// Id not at level 0, or no leaf is a client's.
 pub const NOT_LISTED: u32 = 13;
-/// Sibling not written.
+/// Sibling not written and not to be worked out.
 pub const MISSING: u32 = 14;
 /// Sibling equal to the working hash at an odd position.
 pub const TWIN: u32 = 15;

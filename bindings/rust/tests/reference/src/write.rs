@@ -60,7 +60,7 @@ fn layers(ids: Vec<Hash>) -> Vec<Vec<Hash>> {
 
 /// What stands at a position of a layer: a node, or beside the last of an odd number its copy.
 fn node(layer: &[Hash], position: u64) -> Sibling {
-    layer.get(position as usize).map_or(Sibling::Copy, |hash| Sibling::Written(*hash))
+    layer.get(position as usize).map_or(Sibling::Copy, |hash| Sibling::Value(*hash))
 }
 
 fn meets_twin(tree: &[Vec<Hash>], position: u64) -> bool {
@@ -70,21 +70,24 @@ fn meets_twin(tree: &[Vec<Hash>], position: u64) -> bool {
 }
 
 /// The bytes: at each level the siblings that the chosen positions' climbs need, and at level 0 the
-/// chosen ids, offsets rising.
+/// chosen ids, offsets rising. Above level 0 a sibling is left out if a chosen position lies under
+/// it.
 fn bump(block_height: u64, tree: &[Vec<Hash>], chosen: &BTreeSet<u64>) -> Vec<u8> {
     let mut bytes = varint(block_height);
     bytes.push(tree.len() as u8);
     for (level, layer) in tree.iter().enumerate() {
-        let mut offsets: BTreeSet<u64> =
-            chosen.iter().map(|position| beside(position >> level)).collect();
+        let above: BTreeSet<u64> = chosen.iter().map(|position| position >> level).collect();
+        let mut offsets: BTreeSet<u64> = above.iter().map(|&offset| beside(offset)).collect();
         if level == 0 {
-            offsets.extend(chosen);
+            offsets.extend(&above);
+        } else {
+            offsets.retain(|offset| !above.contains(offset));
         }
         bytes.extend(varint(offsets.len() as u64));
         for offset in offsets {
             bytes.extend(varint(offset));
             match node(layer, offset) {
-                Sibling::Written(hash) => {
+                Sibling::Value(hash) => {
                     bytes.push(if level == 0 && chosen.contains(&offset) { 2 } else { 0 });
                     bytes.extend(hash);
                 }
@@ -115,6 +118,10 @@ mod tests {
         assert_eq!(
             written("[aa] [bb] [cc]", &[0]),
             [expand("00 02 02 00 02 [aa] 01 00 [bb] 01 01 00"), right.to_vec()].concat()
+        );
+        assert_eq!(
+            written("[aa] [bb] [cc]", &[0, 2]),
+            expand("00 02 04 00 02 [aa] 01 00 [bb] 02 02 [cc] 03 01 00")
         );
     }
 

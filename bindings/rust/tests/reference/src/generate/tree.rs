@@ -46,7 +46,7 @@ impl Tree {
     pub fn node(&self, layer: usize, position: u64) -> Sibling {
         let nodes = &self.layers[layer];
         match nodes.get(position as usize) {
-            Some(hash) => Sibling::Written(*hash),
+            Some(hash) => Sibling::Value(*hash),
             None if position % 2 == 1 && position as usize == nodes.len() => Sibling::Copy,
             None => Sibling::Missing,
         }
