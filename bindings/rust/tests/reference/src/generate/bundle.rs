@@ -4,6 +4,7 @@ use super::draft::Draft;
 use super::random::Random;
 use super::tree::Tree;
 use super::{path, transaction};
+use crate::prove::by_bump;
 use crate::Hash;
 
 /// A bundle to write.
@@ -52,14 +53,22 @@ impl Plan {
     }
 
     /// Adds a block that holds these ids, the first of them clients, in some order; its root is
-    /// trusted.
+    /// trusted. For a single client it may be a path of no block.
     fn add_block(&mut self, random: &mut Random, mut block: Vec<Hash>, clients: usize) {
         let ids = block[..clients].to_vec();
+        if clients == 1 && random.one_in(3) {
+            let bump = path::Plan::grown(random, ids[0]);
+            let climb = by_bump(&bump.bump().bytes, &ids[0]).expect("a sound path");
+            self.bumps.push(bump);
+            self.roots.push(climb.root());
+            return;
+        }
         random.shuffle(&mut block);
         let tree = Tree::new(block);
         let place = |id: &Hash| tree.ids().iter().position(|other| other == id);
         let positions: Vec<u64> = ids.iter().filter_map(place).map(|at| at as u64).collect();
         let mut bump = path::Plan::of(&tree, &positions);
+        bump.thin(random, &tree);
         bump.vary(random, &tree);
         self.bumps.push(bump);
         self.roots.push(tree.root());
@@ -87,7 +96,10 @@ impl Plan {
             6 => self.entries[one].0.lock_time ^= 1,
             7 | 8 => {
                 let bump = random.index(self.bumps.len());
-                self.bumps[bump].spoil(random);
+                match random.one_in(2) {
+                    true => self.bumps[bump].spoil(random),
+                    false => self.bumps[bump].unsettle(random),
+                }
             }
             9 => drop(self.roots.pop()),
             _ => {

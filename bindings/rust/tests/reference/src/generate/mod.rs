@@ -5,6 +5,7 @@ pub mod bundle;
 pub mod damage;
 pub mod draft;
 pub mod list;
+pub mod merged;
 pub mod path;
 pub mod random;
 pub mod tally;

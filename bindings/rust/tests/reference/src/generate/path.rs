@@ -1,6 +1,6 @@
 //! BUMPs and CMPs.
 
-use std::collections::BTreeMap;
+use std::collections::{BTreeMap, BTreeSet};
 
 use super::draft::Draft;
 use super::random::Random;
@@ -56,6 +56,7 @@ impl Plan {
         let positions: Vec<u64> =
             (0..random.within(1..=4)).map(|_| random.index(count) as u64).collect();
         let mut plan = Self::of(tree, &positions);
+        plan.thin(random, tree);
         plan.vary(random, tree);
         plan
     }
@@ -64,9 +65,11 @@ impl Plan {
     /// another block.
     pub fn vary(&mut self, random: &mut Random, tree: &Tree) {
         self.block_height = random.number() % (1 << 32);
+        let clients = self.levels[0].iter().filter(|leaf| leaf.flags == 2);
+        let asked = clients.flat_map(|leaf| self.asked(leaf.hash, leaf.offset)).collect();
         for level in 0..self.levels.len() {
             for _ in 0..random.within(0..=2) {
-                self.add_surplus(random, tree, level);
+                self.add_surplus(random, tree, level, &asked);
             }
             if random.one_in(2) {
                 random.shuffle(&mut self.levels[level]);
@@ -79,12 +82,18 @@ impl Plan {
         }
     }
 
-    /// Adds a leaf at an offset that has none: the tree's node, or something else that no climb of
-    /// a client asks for.
-    fn add_surplus(&mut self, random: &mut Random, tree: &Tree, level: usize) {
+    /// Adds a leaf at an offset that has none and that no climb of a client asks about: the tree's
+    /// node, or something else.
+    fn add_surplus(
+        &mut self,
+        random: &mut Random,
+        tree: &Tree,
+        level: usize,
+        asked: &BTreeSet<(usize, u64)>,
+    ) {
         let end = 1 << (self.levels.len() - level);
         let offset = random.within(0..=end - 1);
-        if self.levels[level].iter().any(|leaf| leaf.offset == offset) {
+        if asked.contains(&(level, offset)) || self.leaf(level, offset).is_some() {
             return;
         }
         let mut leaf = node_leaf(tree, level, offset);
@@ -95,6 +104,11 @@ impl Plan {
             _ => {}
         }
         self.levels[level].push(leaf);
+    }
+
+    /// The leaf at an offset of a level.
+    pub fn leaf(&self, level: usize, offset: u64) -> Option<&Leaf> {
+        self.levels[level].iter().find(|leaf| leaf.offset == offset)
     }
 
     /// A change that may break a rule or a climb.
@@ -166,7 +180,7 @@ impl Plan {
 }
 
 /// The tree's node at an offset as a leaf.
-fn node_leaf(tree: &Tree, layer: usize, offset: u64) -> Leaf {
+pub(super) fn node_leaf(tree: &Tree, layer: usize, offset: u64) -> Leaf {
     let flags = if tree.node(layer, offset) == Sibling::Copy { 1 } else { 0 };
     Leaf { offset, flags, hash: tree.hash(layer, offset) }
 }
