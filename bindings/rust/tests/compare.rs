@@ -98,9 +98,11 @@ fn examples() {
 /// A proof of an id in a form of choice.
 fn claim(random: &mut Random, tree: &Tree, position: u64) -> Claim {
     let id: Hash = tree.ids()[position as usize];
+    let mut path = Plan::of(tree, &[position]);
+    path.thin(random, tree);
     match random.within(0..=2) {
-        0 => Claim::Bump(Plan::of(tree, &[position]).bump().bytes, id),
-        1 => Claim::Cmp(Plan::of(tree, &[position]).cmp().bytes, id),
+        0 => Claim::Bump(path.bump().bytes, id),
+        1 => Claim::Cmp(path.cmp().bytes, id),
         _ => Claim::Tsc(tsc::Plan::of(tree, position).draft().bytes),
     }
 }
@@ -160,6 +162,7 @@ fn damaged_pairs() {
 fn damaged(random: &mut Random, tree: &Tree, position: u64) -> Claim {
     let id = tree.ids()[position as usize];
     let mut plan = Plan::of(tree, &[position]);
+    plan.thin(random, tree);
     let mut proof = tsc::Plan::of(tree, position);
     let spoil = random.one_in(2);
     if spoil {

@@ -84,11 +84,13 @@ fn examples() {
     let zero = (0, 0, 0, 0);
     assert_eq!(summary, [(13, 0, 0, 0), (0, 0, 1, 1), (0, 0, 0, 1), (0, 0, 1, 1), zero, zero]);
     assert_eq!((row[1].root, row[4]), (row[2].root, Answer::default()));
-    // A sibling of layer 1 that is missing for the left pair and a twin for the right one.
+    // A sibling of layer 1 that is worked out for the left pair and a twin for the right one, and
+    // one that is missing.
     let parent = encode(&join(&[0xcc; 32], &[0xdd; 32]));
     let level = "04 00 02 [aa] 01 00 [bb] 02 02 [cc] 03 00 [dd]";
     let row = page(&format!("00 02 {level} 01 00 00 {parent}"), "[aa] [cc]", 2).expect("a page");
-    assert_eq!([row[0].refusal, row[1].refusal], [14, 15]);
+    assert_eq!([row[0].refusal, row[1].refusal], [0, 15]);
+    let row = page("00 02 02 00 02 [aa] 01 00 [bb] 00", "[aa]", 1).expect("a page");
     assert_eq!(row[0], Answer { refusal: 14, ..Answer::default() });
 }
 
@@ -159,7 +161,11 @@ fn random_pages() {
     for _ in 0..rounds() {
         let count = random.within(2..=24) as usize;
         let tree = Tree::random(&mut random, count);
-        let mut plan = Plan::random(&mut random, &tree);
+        let id = random.hash();
+        let mut plan = match random.one_in(3) {
+            true => Plan::grown(&mut random, id),
+            false => Plan::random(&mut random, &tree),
+        };
         for _ in 0..random.within(0..=2) {
             plan.spoil(&mut random);
         }

@@ -2,10 +2,12 @@
 //! against the trees that the proofs were made from.
 
 mod common;
+#[path = "common/proofs.rs"]
+mod proofs;
 
 use barrowtide::{ffi, Hash, Proof, MAX_INPUT};
 use common::{expected, plain, FILL};
-use reference::climb::Climb;
+use proofs::{check_bump, check_clients, check_cmp, fill, number, proof, Answer};
 use reference::generate::damage::{field_edits, random_edit, truncations};
 use reference::generate::path::{Leaf, Plan};
 use reference::generate::random::{rounds, Random};
@@ -14,39 +16,6 @@ use reference::generate::tree::Tree;
 use reference::generate::tsc;
 use reference::hex::{decode, expand, printed, show};
 use reference::prove;
-use reference::refusal::Refusal;
-
-type Answer = Result<Proof, Refusal>;
-
-fn proof(climb: Climb) -> Proof {
-    let layers = climb.layers.len() as u64;
-    Proof { id: climb.id, position: climb.position, layers, root: climb.root() }
-}
-
-/// Lent memory of a proof before the call; a lent id is not memory that the call writes.
-fn fill(id: Hash) -> Proof {
-    Proof { id, position: FILL, layers: FILL, root: [0xa5; 32] }
-}
-
-fn check_bump(data: &[u8], id: &Hash) -> Answer {
-    let told = prove::by_bump(data, id).map(proof);
-    let (mut carried, mut lent) = (FILL, fill(*id));
-    let Proof { position, layers, root, .. } = &mut lent;
-    let number = ffi::prove_bump(data, id, &mut carried, position, layers, root);
-    assert_eq!((number, carried, lent), expected(told, fill(*id)), "{}", show(data));
-    assert_eq!(barrowtide::prove_bump(data, id).map_err(plain), told, "{}", show(data));
-    told
-}
-
-fn check_cmp(data: &[u8], id: &Hash) -> Answer {
-    let told = prove::by_cmp(data, id).map(proof);
-    let (mut carried, mut lent) = (FILL, fill(*id));
-    let Proof { position, layers, root, .. } = &mut lent;
-    let number = ffi::prove_cmp(data, id, &mut carried, position, layers, root);
-    assert_eq!((number, carried, lent), expected(told, fill(*id)), "{}", show(data));
-    assert_eq!(barrowtide::prove_cmp(data, id).map_err(plain), told, "{}", show(data));
-    told
-}
 
 fn check_tsc(data: &[u8]) -> Answer {
     let told = prove::by_tsc(data).map(proof);
@@ -56,26 +25,6 @@ fn check_tsc(data: &[u8]) -> Answer {
     assert_eq!((number, carried, lent), expected(told, fill([0xa5; 32])), "{}", show(data));
     assert_eq!(barrowtide::prove_tsc(data).map_err(plain), told, "{}", show(data));
     told
-}
-
-fn check_clients(data: &[u8]) -> Result<Hash, Refusal> {
-    let told = prove::all_clients(data);
-    let (mut carried, mut root) = (FILL, [0xa5; 32]);
-    let number = ffi::check_clients(data, &mut carried, &mut root);
-    assert_eq!((number, carried, root), expected(told, [0xa5; 32]), "{}", show(data));
-    assert_eq!(barrowtide::check_clients(data).map_err(plain), told, "{}", show(data));
-    told
-}
-
-/// The number of a refusal that carries 0, or 0 for acceptance.
-fn number<T>(answer: Result<T, Refusal>) -> u32 {
-    answer.map_or_else(
-        |refusal| {
-            assert_eq!(refusal.carried, 0);
-            refusal.number
-        },
-        |_| 0,
-    )
 }
 
 #[test]

@@ -1,0 +1,66 @@
+//! Proofs by paths: the library against the reference.
+
+use barrowtide::{ffi, Hash, Proof};
+use reference::climb::Climb;
+use reference::hex::show;
+use reference::prove;
+use reference::refusal::Refusal;
+
+use crate::common::{expected, plain, FILL};
+
+/// What a call that proves an id answers.
+pub type Answer = Result<Proof, Refusal>;
+
+/// A climb as the library tells it.
+pub fn proof(climb: Climb) -> Proof {
+    let layers = climb.layers.len() as u64;
+    Proof { id: climb.id, position: climb.position, layers, root: climb.root() }
+}
+
+/// Lent memory of a proof before the call; a lent id is not memory that the call writes.
+pub fn fill(id: Hash) -> Proof {
+    Proof { id, position: FILL, layers: FILL, root: [0xa5; 32] }
+}
+
+/// Compares what the two say of an id by a BUMP.
+pub fn check_bump(data: &[u8], id: &Hash) -> Answer {
+    let told = prove::by_bump(data, id).map(proof);
+    let (mut carried, mut lent) = (FILL, fill(*id));
+    let Proof { position, layers, root, .. } = &mut lent;
+    let number = ffi::prove_bump(data, id, &mut carried, position, layers, root);
+    assert_eq!((number, carried, lent), expected(told, fill(*id)), "{}", show(data));
+    assert_eq!(barrowtide::prove_bump(data, id).map_err(plain), told, "{}", show(data));
+    told
+}
+
+/// Compares what they say of an id by a CMP.
+pub fn check_cmp(data: &[u8], id: &Hash) -> Answer {
+    let told = prove::by_cmp(data, id).map(proof);
+    let (mut carried, mut lent) = (FILL, fill(*id));
+    let Proof { position, layers, root, .. } = &mut lent;
+    let number = ffi::prove_cmp(data, id, &mut carried, position, layers, root);
+    assert_eq!((number, carried, lent), expected(told, fill(*id)), "{}", show(data));
+    assert_eq!(barrowtide::prove_cmp(data, id).map_err(plain), told, "{}", show(data));
+    told
+}
+
+/// Compares what they say of all clients of a BUMP.
+pub fn check_clients(data: &[u8]) -> Result<Hash, Refusal> {
+    let told = prove::all_clients(data);
+    let (mut carried, mut root) = (FILL, [0xa5; 32]);
+    let number = ffi::check_clients(data, &mut carried, &mut root);
+    assert_eq!((number, carried, root), expected(told, [0xa5; 32]), "{}", show(data));
+    assert_eq!(barrowtide::check_clients(data).map_err(plain), told, "{}", show(data));
+    told
+}
+
+/// The number of a refusal that carries 0, or 0 for acceptance.
+pub fn number<T>(answer: Result<T, Refusal>) -> u32 {
+    answer.map_or_else(
+        |refusal| {
+            assert_eq!(refusal.carried, 0);
+            refusal.number
+        },
+        |_| 0,
+    )
+}
