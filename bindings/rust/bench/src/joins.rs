@@ -3,6 +3,7 @@
 use barrowtide::join;
 
 use crate::measure::{seconds, subject, time, Subject};
+use crate::read::seconds_of;
 
 /// Prints the heading of such a table.
 pub fn heading(name: &str) {
@@ -15,9 +16,21 @@ pub fn heading(name: &str) {
 
 /// Prints a row of it; `joins` is how many the call makes.
 pub fn row(name: &str, joins: usize, library: Subject, reference: Subject) {
+    print(name, &seconds(vec![library, reference, alone(joins)]));
+}
+
+/// The same for calls that take long.
+pub fn long_row(name: &str, joins: usize, library: Subject, reference: Subject) {
+    print(name, &[library, reference, alone(joins)].map(seconds_of));
+}
+
+/// So many joins, one after the other.
+fn alone(joins: usize) -> Subject<'static> {
     let node = [7; 32];
-    let alone = subject(|| (0..joins).fold(node, |last, _| join(&last, &node)));
-    let times = seconds(vec![library, reference, alone]);
+    subject(move || (0..joins).fold(node, |last, _| join(&last, &node)))
+}
+
+fn print(name: &str, times: &[f64]) {
     println!(
         "{name:<42} {:>12} {:>12} {:>6.2} {:>12} {:>6.2}",
         time(times[0]),

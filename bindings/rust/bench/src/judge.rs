@@ -94,7 +94,7 @@ fn chain(random: &mut Random, count: usize) -> Plan {
 }
 
 /// 256 transactions anchored in one BUMP of 32 full levels.
-pub fn anchored_in_one(random: &mut Random) -> Plan {
+fn anchored_in_one(random: &mut Random) -> Plan {
     let entries: Vec<_> = (0..256).map(|_| (transaction::Plan::random(random), Some(0))).collect();
     let tree = Tree::new(entries.iter().map(|entry| entry.0.id()).collect());
     let positions: Vec<u64> = (0..256).collect();

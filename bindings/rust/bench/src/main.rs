@@ -8,6 +8,7 @@ mod hash;
 mod joins;
 mod judge;
 mod measure;
+mod merged;
 mod page;
 mod prove;
 mod read;
@@ -29,6 +30,7 @@ fn main() {
     prove::run();
     page::run();
     judge::run();
+    merged::run();
     write::run();
     stack::run();
 }

@@ -2,12 +2,12 @@
 
 use std::ffi::{c_char, CStr};
 
-use reference::generate::path::Plan;
+use barrowtide::prove_bump;
 use reference::generate::random::Random;
 use reference::generate::tree::Tree;
-use reference::generate::{transaction, tsc};
+use reference::generate::{bundle, transaction, tsc};
 
-use crate::judge::anchored_in_one;
+use crate::merged::copied;
 
 extern "C" {
     fn stack_of(
@@ -27,14 +27,16 @@ pub fn run() {
     let mut ids = vec![[7; 32]; 1_000];
     ids[777] = id;
     let tree = Tree::new(ids);
-    let path = Plan::of(&tree, &[777]);
+    let path = copied(id);
     let (bump, cmp) = (path.bump().bytes, path.cmp().bytes);
     let mut proof = tsc::Plan::of(&tree, 777);
     proof.stated = Some(raw.bytes.len() as u64);
     proof.body = raw.clone();
     proof.aim(4, &mut random);
     let proof = proof.draft().bytes;
-    let bundle = anchored_in_one(&mut random);
+    let root = prove_bump(&bump, &id).expect("a sound path").root;
+    let bundle =
+        bundle::Plan { bumps: vec![path], entries: vec![(own, Some(0))], roots: vec![root] };
     let (beef, roots) = (bundle.draft().bytes, bundle.root_list());
 
     println!("\nStack of a call, in bytes");
