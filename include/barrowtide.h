@@ -40,7 +40,21 @@
  *              barrowtide_check_clients, barrowtide_read_bump, barrowtide_read_cmp
  *   -   8 KiB  barrowtide_prove_tsc
  *   -   4 KiB  every other call
- * with the C library's memcpy and memset, which are all that it calls. Nothing recurses.
+ * with the C library's memcpy and memset, which are all that it calls. Only the working out of a
+ * sibling recurses, once a level, and is counted here.
+ *
+ * Cost. Working out a sibling takes fewer joins than leaves lie under it, so one climb makes fewer
+ * joins than its path has layers and leaves: fewer than 32 + n / 2 by a path of n bytes, and fewer
+ * than 24,606 by any. Each node that is asked for is searched for among the leaves of its level.
+ * Nothing is kept from one climb to the next: a page climbs once for each id, all clients once for
+ * each client leaf, and a bundle once for each transaction that names a BUMP. The worst inputs
+ * known, on a machine where a join takes a microsecond:
+ *   - one climb, by a BUMP of 150 KB that is mostly copies: 21,484 joins, 0.2 s;
+ *   - a page of 256 ids by such a BUMP, or a bundle of 170 KB with 256 transactions in it: 5.5
+ *     million joins, 40 s;
+ *   - all clients of a BUMP of 880 KB: 22 million joins, 3 minutes; of one of 36 KB that has 1,024
+ *     clients and nothing else: 1 million joins, 3 s.
+ * A caller who has less time bounds the bytes that it takes, or the transactions that name a BUMP.
  */
 #ifndef BARROWTIDE_H
 #define BARROWTIDE_H
@@ -62,7 +76,7 @@
 #define BARROWTIDE_MAX_TRANSACTIONS 256        /* transactions of a bundle */
 #define BARROWTIDE_MAX_PAGE 256                /* ids of a page */
 #define BARROWTIDE_MAX_IDS 1024                /* ids of the list that a BUMP is written of */
-#define BARROWTIDE_WRITE_ROOM 73728            /* bytes that are enough for any BUMP written */
+#define BARROWTIDE_WRITE_ROOM 36864            /* bytes that are enough for any BUMP written */
 
 #ifdef __cplusplus
 extern "C" {
@@ -93,7 +107,7 @@ enum barrowtide_refusal {
     BARROWTIDE_EMPTY = 12,        /* a BEEF has no transaction | count field */
     BARROWTIDE_NOT_LISTED = 13,   /* the id is not at level 0, no leaf is a client's, or no position
                                      is chosen | tx */
-    BARROWTIDE_MISSING = 14,      /* a sibling is not written | tx */
+    BARROWTIDE_MISSING = 14,      /* a sibling is not written and can't be worked out | tx */
     BARROWTIDE_TWIN = 15,         /* a sibling equals the working hash at an odd position | tx */
     BARROWTIDE_ROOTS_DIFFER = 16, /* roots of clients differ, or a TSC target is another | 0 */
     BARROWTIDE_UNTRUSTED = 17,    /* the root is not in the list | tx */
@@ -167,12 +181,15 @@ uint32_t barrowtide_read_beef(const uint8_t *data, size_t len, uint64_t *carried
 
 /* Proves a lent id by a BUMP: its position in the block, the number of layers above it, and the
    Merkle root. The climb starts at the level-0 leaf that carries the id, of several at the least
-   offset. Refused after reading: 13, then 14 or 15. */
+   offset. A sibling above level 0 that is not written is worked out: it is the join of its two
+   children one level lower, each written or worked out in turn. As a sibling, a copy (flags 01)
+   repeats the working hash; below one it has the value of the node on its left.
+   Refused after reading: 13, then 14 or 15. */
 uint32_t barrowtide_prove_bump(const uint8_t *data, size_t len, const uint8_t id[32],
                                uint64_t *carried, uint64_t *position, uint64_t *layers,
                                uint8_t root[32]);
 
-/* The same by a compound path. */
+/* The same by a compound path, which has no copies. */
 uint32_t barrowtide_prove_cmp(const uint8_t *data, size_t len, const uint8_t id[32],
                               uint64_t *carried, uint64_t *position, uint64_t *layers,
                               uint8_t root[32]);
@@ -182,8 +199,9 @@ uint32_t barrowtide_prove_cmp(const uint8_t *data, size_t len, const uint8_t id[
 uint32_t barrowtide_prove_tsc(const uint8_t *data, size_t len, uint64_t *carried, uint8_t id[32],
                               uint64_t *position, uint64_t *layers, uint8_t root[32]);
 
-/* Climbs from every client leaf (flags 02) of a BUMP in written order; all must lead to one root.
-   Refused after reading: 13 if there is none; leaf by leaf 14 or 15, then 16. */
+/* Climbs from every client leaf (flags 02) of a BUMP in written order, each climb as for
+   barrowtide_prove_bump; all must lead to one root. This is the call that can take the longest: see
+   "Cost" above. Refused after reading: 13 if there is none; leaf by leaf 14 or 15, then 16. */
 uint32_t barrowtide_check_clients(const uint8_t *data, size_t len, uint64_t *carried,
                                   uint8_t root[32]);
 
@@ -259,10 +277,11 @@ uint32_t barrowtide_judge_beef(const uint8_t *data, size_t len, const uint8_t *r
 /* Writes the BUMP that proves chosen ids of a block. The block's ids, 2 to 1,024, stand end to end
    in ids_len bytes; the chosen positions count from 0, in any order, and one named twice counts
    once. The BUMP has the least tree height that holds the list, offsets rising, the chosen ids with
-   flags 02, every sibling that their climbs need and no other leaf; a copy (flags 01) stands beside
-   the last node of an odd layer. The room out has out_len bytes; BARROWTIDE_WRITE_ROOM are always
-   enough. On acceptance *written is the number of bytes, which are the first ones of out; the room
-   past them stays as it was, and all of out on a refusal.
+   flags 02, every sibling that their climbs need and no other leaf; but above level 0 a sibling is
+   left out if a chosen position lies under it, as it can be worked out. A copy (flags 01) stands
+   beside the last node of an odd layer. The room out has out_len bytes; BARROWTIDE_WRITE_ROOM are
+   always enough. On acceptance *written is the number of bytes, which are the first ones of out;
+   the room past them stays as it was, and all of out on a refusal.
    Refused: 5 for a block height over 32 bits, for fewer or more ids or a part of one; 13 for no
    position; 6 for one outside the list; 19 for equal ids; 15 if a climb meets a twin; 22 if the
    bytes needed are more than out_len. */

@@ -19,6 +19,10 @@ pub struct Proof {
 
 /// Proves an id by a BUMP.
 ///
+/// A sibling above level 0 that is not written is worked out: it is the join of its two children,
+/// each written or worked out in turn. A copy as sibling repeats the working hash; below a sibling
+/// it has the value of the node on its left. What this can [cost](crate#cost) is bounded.
+///
 /// ```
 /// use barrowtide::{join, prove_bump, Reason};
 /// let (id, sibling) = ([0xaa; 32], [0xbb; 32]);
@@ -27,13 +31,20 @@ pub struct Proof {
 /// let proof = prove_bump(&bump, &id)?;
 /// assert_eq!((proof.position, proof.layers, proof.root), (0, 1, join(&id, &sibling)));
 /// assert_eq!(prove_bump(&bump, &[0xcc; 32]).unwrap_err().reason, Reason::NotListed);
+///
+/// // Four leaves and nothing above them: the sibling at level 1 is the join of the other two.
+/// let ids = [0xa0, 0xa1, 0xa2, 0xa3].map(|byte| [byte; 32]);
+/// let leaf = |at: usize| [&[at as u8, 0x02][..], &ids[at]].concat();
+/// let merged = [vec![0x00, 0x02, 0x04], leaf(0), leaf(1), leaf(2), leaf(3), vec![0x00]].concat();
+/// let root = join(&join(&ids[0], &ids[1]), &join(&ids[2], &ids[3]));
+/// assert_eq!(prove_bump(&merged, &ids[2])?.root, root);
 /// # Ok::<(), barrowtide::Refusal>(())
 /// ```
 pub fn prove_bump(data: &[u8], id: &Hash) -> Result<Proof, Refusal> {
     prove_path(ffi::prove_bump, data, id)
 }
 
-/// Proves an id by a compound path.
+/// Proves an id by a compound path, with siblings worked out as by a BUMP.
 ///
 /// ```
 /// use barrowtide::{join, prove_cmp};
@@ -78,6 +89,9 @@ pub fn prove_tsc(data: &[u8]) -> Result<Proof, Refusal> {
 }
 
 /// Climbs from every client leaf of a BUMP and gives the one root that all of them lead to.
+///
+/// Each climb works its siblings out anew, so this is the call whose [cost](crate#cost) can grow the
+/// most.
 ///
 /// ```
 /// use barrowtide::{check_clients, join};

@@ -33,7 +33,7 @@ pub enum Reason {
     Empty = 12,
     /// The id is not at level 0, no leaf is a client's, or no position is chosen.
     NotListed = 13,
-    /// A sibling is not written.
+    /// A sibling is not written and can't be worked out.
     Missing = 14,
     /// A sibling equals the working hash at an odd position.
     Twin = 15,
@@ -72,7 +72,7 @@ const REASONS: [(Reason, &str, &str); 24] = [
     (Reason::BadTx, "BAD_TX", "no inputs, no outputs, or not the stated length"),
     (Reason::Empty, "EMPTY", "BEEF with no transaction"),
     (Reason::NotListed, "NOT_LISTED", "id not at level 0, or none chosen"),
-    (Reason::Missing, "MISSING", "sibling not written"),
+    (Reason::Missing, "MISSING", "sibling not written and not to be worked out"),
     (Reason::Twin, "TWIN", "sibling equal to the working hash at an odd position"),
     (Reason::RootsDiffer, "ROOTS_DIFFER", "roots differ"),
     (Reason::Untrusted, "UNTRUSTED", "root not in the list"),

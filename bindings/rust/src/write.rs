@@ -7,7 +7,7 @@ use crate::refusal::{answer, Refusal};
 pub const MAX_IDS: usize = 1_024;
 
 /// Room in bytes that is enough for any BUMP written.
-pub const WRITE_ROOM: usize = 73_728;
+pub const WRITE_ROOM: usize = 36_864;
 
 /// Writes the BUMP that proves the ids at the chosen positions of a block into lent room, and gives
 /// the number of bytes written.
@@ -42,7 +42,8 @@ pub fn write_bump_into(
 ///
 /// The block's ids, 2 to [`MAX_IDS`] of them, stand end to end in their order. Positions count from
 /// 0, in any order; one that is named twice counts once. The BUMP has the chosen ids as client
-/// leaves and every sibling that their climbs need, and nothing more.
+/// leaves and every sibling that their climbs need, and nothing more; above level 0 a sibling is left
+/// out if a chosen position lies under it, as it can be worked out.
 ///
 /// Refused, in this order and carrying 0: 5 for a block height over 32 bits, for too few or too many
 /// ids or a part of one, 13 for no position, 6 for one outside the list, 19 for equal ids, 15 if a
