@@ -35,9 +35,10 @@
  *   - 192 KiB  barrowtide_judge_beef
  *   - 112 KiB  barrowtide_read_beef
  *   -  48 KiB  barrowtide_write_bump
- *   -  24 KiB  barrowtide_compare
- *   -  16 KiB  barrowtide_prove_bump, barrowtide_prove_cmp, barrowtide_prove_page,
- *              barrowtide_check_clients, barrowtide_read_bump, barrowtide_read_cmp
+ *   -  32 KiB  barrowtide_compare
+ *   -  24 KiB  barrowtide_prove_bump, barrowtide_prove_cmp, barrowtide_prove_page,
+ *              barrowtide_check_clients
+ *   -  16 KiB  barrowtide_read_bump, barrowtide_read_cmp
  *   -   8 KiB  barrowtide_prove_tsc
  *   -   4 KiB  every other call
  * with the C library's memcpy and memset, which are all that it calls. Only the working out of a
@@ -45,10 +46,11 @@
  *
  * Cost. Working out a sibling takes fewer joins than leaves lie under it, so one climb makes fewer
  * joins than its path has layers and leaves: fewer than 32 + n / 2 by a path of n bytes, and fewer
- * than 24,606 by any. Each node that is asked for is searched for among the leaves of its level.
+ * than 24,606 by any. Each node that is asked for is searched for among the leaves of its level;
+ * where offsets rise this takes a third as long as the joins, and else up to six times as long.
  * Nothing is kept from one climb to the next: a page climbs once for each id, all clients once for
  * each client leaf, and a bundle once for each transaction that names a BUMP. The worst inputs
- * known, on a machine where a join takes a microsecond:
+ * known, offsets in no order, on a machine where a join takes a microsecond:
  *   - one climb, by a BUMP of 150 KB that is mostly copies: 21,484 joins, 0.2 s;
  *   - a page of 256 ids by such a BUMP, or a bundle of 170 KB with 256 transactions in it: 5.5
  *     million joins, 40 s;
