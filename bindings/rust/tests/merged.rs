@@ -190,6 +190,46 @@ fn grown_paths() {
     }
 }
 
+/// Levels of many leaves, in which a search may take a short way: offsets rising, but for one leaf,
+/// or in no order, with gaps between them.
+#[test]
+fn large_levels() {
+    let mut random = Random::of("large_levels");
+    let mut tally = Tally::default();
+    for _ in 0..rounds() / 20 {
+        let count = random.within(100..=1_024) as usize;
+        let tree = Tree::random(&mut random, count);
+        let mut plan = Plan::whole(&tree);
+        let ground = random.pick(&[300, 3_000, 30_000]);
+        for (level, leaves) in plan.levels.iter_mut().enumerate() {
+            let written = random.pick(&[2, 4, 9]);
+            leaves.retain(|_| match level {
+                0 => !random.one_in(ground),
+                _ => random.one_in(written),
+            });
+            match random.within(0..=3) {
+                0 => random.shuffle(leaves),
+                1 if !leaves.is_empty() => {
+                    let (one, other) = (random.index(leaves.len()), random.index(leaves.len()));
+                    leaves.swap(one, other);
+                }
+                _ => {}
+            }
+        }
+        let (bump, cmp) = (plan.bump().bytes, plan.cmp().bytes);
+        for _ in 0..4 {
+            let id = tree.ids()[random.index(count)];
+            for answer in [check_bump(&bump, &id), check_cmp(&cmp, &id)] {
+                assert!(answer.is_err() || answer.unwrap().root == tree.root());
+                tally.note(answer);
+            }
+        }
+    }
+    if rounds() >= 1_000 {
+        tally.assert_met(&[0, 14]);
+    }
+}
+
 /// Leaves that a climb does not ask about may be left out, changed or added: its answer stays.
 #[test]
 fn other_leaves_are_ignored() {
