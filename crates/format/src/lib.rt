@@ -62,6 +62,7 @@ pub use path::bump_path;
 pub use path::cmp_path;
 pub use path::find;
 pub use path::find_id;
+pub use path::find_in_level;
 pub use path::tsc_path;
 pub use refusal::Refusal;
 pub use tsc::Subject;

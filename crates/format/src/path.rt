@@ -74,7 +74,7 @@ fn seek_leaf(s: &[u8], c: Cursor, layout: Layout, count: u64, position: u64) -> 
 }
 
 // The leaf at a position of the level at c.
-fn find_in_level(s: &[u8], c: Cursor, layout: Layout, position: u64) -> Found
+pub fn find_in_level(s: &[u8], c: Cursor, layout: Layout, position: u64) -> Found
     ensures { λ r. ⌜ r ≡ leafOfLevel layout (now (s .entry)) (c .at) position ⌝ }
 {
     let field = read_varint(s, c);

@@ -14,7 +14,6 @@ use Rattle.format.specs.ParseLaws.{many-told, onward-told, otherwise-got, other
 use Rattle.format.specs.Field.{varint}
 use Rattle.format.specs.Path.{bumpPath}
 use Rattle.format.specs.BumpLaws.{BumpRead, bump-whole-told}
-use Rattle.format.specs.PathLaws.{bump-leaf-in}
 use Rattle.format.specs.SearchLaws.{level-loose}
 use Rattle.format.specs.Level.{levelInTurn, nextTurn}
 use Rattle.format.specs.Refusals.{NOT-LISTED}
@@ -22,8 +21,9 @@ use Rattle.format.specs.Search.{hashAt, looseLeaf, looseLevel}
 use Rattle.format.specs.Bump.{Bump, bumpWhole}
 use Rattle.spv.specs.Climb.{Siblings}
 use Rattle.spv.specs.Compare.{Target, any, exactly, read, Verdict, denied, proved, judge}
-use Rattle.spv.specs.Siblings.{sibling, levelSiblings, pathSiblings}
-use Rattle.spv.specs.Readings.{judge-same, bump-layers}
+use Rattle.spv.specs.Siblings.{levelSiblings, pathSiblings}
+use Rattle.spv.specs.SiblingsLaws.{path-levels}
+use Rattle.spv.specs.Readings.{judge-same, bump-layers, bump-leads}
 
 -- the root that all clients come to, or a refusal
 pub data Check : Type 0 where
@@ -137,12 +137,12 @@ bump-lowest s {q} b r = go (b .height) (r .some) (r .levels)
 
 -- a BUMP that was read, by its path's places
 pub bump-clients : (s : List ℕ) (b : Bump) (q : ℕ) → bumpWhole s ≡ got b q → clientsOfLevel (pathSiblings s (bumpPath s b)) (bumpPath s b .layers) s (b .start) ≡ bumpClients s
-unfolding bumpClients pathSiblings levelSiblings
+unfolding bumpClients
 bump-clients s b q e =
     let r = bump-whole-told s e in
     clients-level (pathSiblings s (bumpPath s b)) (bumpPath s b .layers) s (b .start) (bump-lowest s b r .1)
     ∙ ap (λ (h : ℕ). clients (pathSiblings s (bumpPath s b)) h s any (getD (b .levels) 0 [])) (bump-layers s b r)
-    ∙ clients-same (pathSiblings s (bumpPath s b)) (levelSiblings s (b .levels)) (b .height) s any (getD (b .levels) 0 []) (λ k j h. ap (sibling s) (bump-leaf-in s b r k j h))
+    ∙ clients-same (pathSiblings s (bumpPath s b)) (levelSiblings s (b .levels)) (b .height) s any (getD (b .levels) 0 []) (path-levels s (bumpPath s b) (b .height) (b .levels) (bump-leads s b r))
     ∙ rw e
 
 pub clients-refused : (s : List ℕ) (number place : ℕ) → bumpWhole s ≡ bad number place → bumpClients s ≡ rejected number place 0 0

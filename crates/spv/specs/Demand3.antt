@@ -11,14 +11,15 @@ use Rattle.format.specs.declared.path.Form.{Form}
 use Rattle.format.specs.declared.path.Start.{Start}
 use Rattle.format.specs.declared.path.Start.the-variants.{At, Nowhere}
 use Rattle.format.specs.Parse.{Parse, got, bad}
-use Rattle.format.specs.Search.{lookup, leastOffset}
+use Rattle.format.specs.Search.{leastOffset}
 use Rattle.format.specs.SearchLaws.{hash-at-length}
 use Rattle.format.specs.Bump.{bumpWhole}
 use Rattle.format.specs.Cmp.{cmpWhole}
 use Rattle.format.specs.Tsc.{tscWhole}
 use Rattle.spv.specs.Compare.{Reading, Proof, Verdict, denied, proved, judgeBy, judge, Answer, told, pair, compareBy, compare, Collision}
 use Rattle.spv.specs.Collide.{WholeReading, CollidedBy, Collided, demand3-whole, Colliding, compare-pair}
-use Rattle.spv.specs.Siblings.{levelSiblings, nodeSiblings, written-whole, sibling-whole}
+use Rattle.spv.specs.Siblings.{levelSiblings, nodeSiblings, written-whole}
+use Rattle.spv.specs.SiblingsLaws.{levelSiblings-whole}
 use Rattle.format.specs.Id.{subjectId}
 use Rattle.spv.specs.Readings.{readAs, starting, levelsReading, bumpReading, cmpReading, tscReading, reading}
 use Rattle.spv.specs.Surplus.{Least, least-is}
@@ -32,8 +33,8 @@ use Rattle.spv.specs.declared.comparing.Compared.{Compared}
 -- ---- whatever a form reads has ids and siblings of 32 bytes
 
 starting-whole : (s id : List ℕ) (h : ℕ) (levels : List (List Leaf)) (x : Start) → Least s id (getD levels 0 []) x → WholeReading (starting (levelSiblings s levels) h id x)
-unfolding starting WholeReading Least levelSiblings
-starting-whole s id h levels (At i) l = (carrier s id i (getD levels 0 []) (l .0) .long, λ k q. sibling-whole s (lookup q (getD levels k [])))
+unfolding starting WholeReading Least
+starting-whole s id h levels (At i) l = (carrier s id i (getD levels 0 []) (l .0) .long, levelSiblings-whole s levels)
 starting-whole s id h levels Nowhere l = tt
 
 levels-whole : (s id : List ℕ) (h : ℕ) (levels : List (List Leaf)) → WholeReading (levelsReading s h levels id)

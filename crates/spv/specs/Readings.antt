@@ -11,7 +11,7 @@ use Rattle.format.specs.declared.path.Start.the-variants.{At, Nowhere}
 use Rattle.format.specs.declared.path.Path.{Path}
 use Rattle.format.specs.Parse.{Parse, got, bad}
 use Rattle.format.specs.Refusals.{NOT-LISTED}
-use Rattle.format.specs.Search.{lookup, leastOffset}
+use Rattle.format.specs.Search.{leastOffset}
 use Rattle.format.specs.Path.{leafIn, startIn, bumpPathOf, bumpPath, cmpPathOf, cmpPath}
 use Rattle.format.specs.BumpLaws.{BumpRead, bump-whole-told, CmpRead, cmp-whole-told}
 use Rattle.format.specs.PathLaws.{bump-leaf-in, bump-start-in, cmp-leaf-in, cmp-start-in}
@@ -28,7 +28,8 @@ use Rattle.spv.specs.Climb.{Siblings}
 use Rattle.spv.specs.ClimbLaws.{ascend-same}
 use Rattle.spv.specs.Compare.{Target, any, targetOf, Reading, unread, read, Proof, proved, judgeBy, judge}
 use Rattle.spv.specs.CompareLaws.{judge-climb}
-use Rattle.spv.specs.Siblings.{sibling, levelSiblings, nodeSiblings, pathSiblings}
+use Rattle.spv.specs.Siblings.{levelSiblings, nodeSiblings, joinIn, pathSiblings}
+use Rattle.spv.specs.SiblingsLaws.{LeadsTo, path-levels, path-nodes}
 
 -- a refusal of reading is the proof's
 abbrev pub readAs : {A : Type 0} → Parse A → (A → Reading) → Reading
@@ -84,15 +85,14 @@ starting-same σ τ h id (At i) f = judge-same σ τ h i id any f
 starting-same σ τ h id Nowhere f = refl
 
 -- a path whose places lead to the levels proves what the levels prove
-pub path-judge : (s : List ℕ) (path : Path) (h : ℕ) (levels : List (List Leaf)) (id : List ℕ) → path .layers ≡ h
-    → ((k q : ℕ) → k < h → leafIn s path k q ≡ lookup q (getD levels k []))
+pub path-judge : (s : List ℕ) (path : Path) (h : ℕ) (levels : List (List Leaf)) (id : List ℕ) → LeadsTo s path h levels
     → startIn s path id ≡ leastOffset s id (getD levels 0 [])
     → judge (pathReading s path id) ≡ judge (levelsReading s h levels id)
-unfolding pathReading levelsReading pathSiblings levelSiblings
-path-judge s path h levels id l f e =
-    ap (λ (n : ℕ). judge (starting (pathSiblings s path) n id (startIn s path id))) l
+unfolding pathReading levelsReading
+path-judge s path h levels id l e =
+    ap (λ (n : ℕ). judge (starting (pathSiblings s path) n id (startIn s path id))) (l .layers)
     ∙ ap (λ (x : Start). judge (starting (pathSiblings s path) h id x)) e
-    ∙ starting-same (pathSiblings s path) (levelSiblings s levels) h id (leastOffset s id (getD levels 0 [])) (λ k q b. ap (sibling s) (f k q b))
+    ∙ starting-same (pathSiblings s path) (levelSiblings s levels) h id (leastOffset s id (getD levels 0 [])) (path-levels s path h levels l)
 
 pub bump-refused : (s id : List ℕ) (number place : ℕ) → bumpWhole s ≡ bad number place → bumpReading s id ≡ unread number place
 unfolding bumpReading
@@ -119,9 +119,18 @@ pub cmp-layers : (s : List ℕ) {q : ℕ} (p : Cmp) → CmpRead s q p → cmpPat
 unfolding cmpPathOf
 cmp-layers s p r = let low = r .low in omega arith
 
+-- the places of what was read lead to its levels
+pub bump-leads : (s : List ℕ) {q : ℕ} (b : Bump) → BumpRead s q b → LeadsTo s (bumpPath s b) (b .height) (b .levels)
+unfolding bumpPathOf joinIn
+bump-leads s b r = record { layers = bump-layers s b r; few = let low = r .low in omega arith; leaf = bump-leaf-in s b r; join = λ w k q. refl }
+
+pub cmp-leads : (s : List ℕ) {q : ℕ} (p : Cmp) → CmpRead s q p → LeadsTo s (cmpPath s p) (p .height) (p .levels)
+unfolding cmpPathOf joinIn
+cmp-leads s p r = record { layers = cmp-layers s p r; few = let low = r .low in omega arith; leaf = cmp-leaf-in s p r; join = λ w k q. refl }
+
 -- a BUMP that was read, alone or in a bundle: its path proves what its levels prove
 pub bump-path-judge : (s id : List ℕ) {q : ℕ} (b : Bump) → BumpRead s q b → judge (pathReading s (bumpPath s b) id) ≡ judge (levelsReading s (b .height) (b .levels) id)
-bump-path-judge s id b r = path-judge s (bumpPath s b) (b .height) (b .levels) id (bump-layers s b r) (bump-leaf-in s b r) (bump-start-in s b r id)
+bump-path-judge s id b r = path-judge s (bumpPath s b) (b .height) (b .levels) id (bump-leads s b r) (bump-start-in s b r id)
 
 pub bump-judge : (s id : List ℕ) (b : Bump) (q : ℕ) → bumpWhole s ≡ got b q → judge (pathReading s (bumpPath s b) id) ≡ judge (bumpReading s id)
 bump-judge s id b q e = bump-path-judge s id b (bump-whole-told s e) ∙ sym (ap judge (bump-read s id b q e))
@@ -129,7 +138,7 @@ bump-judge s id b q e = bump-path-judge s id b (bump-whole-told s e) ∙ sym (ap
 pub cmp-judge : (s id : List ℕ) (p : Cmp) (q : ℕ) → cmpWhole s ≡ got p q → judge (pathReading s (cmpPath s p) id) ≡ judge (cmpReading s id)
 cmp-judge s id p q e =
     let r = cmp-whole-told s e in
-    path-judge s (cmpPath s p) (p .height) (p .levels) id (cmp-layers s p r) (cmp-leaf-in s p r) (cmp-start-in s p r id) ∙ sym (ap judge (cmp-read s id p q e))
+    path-judge s (cmpPath s p) (p .height) (p .levels) id (cmp-leads s p r) (cmp-start-in s p r id) ∙ sym (ap judge (cmp-read s id p q e))
 
 pub tsc-refused : (s : List ℕ) (number place : ℕ) → tscWhole s ≡ bad number place → tscReading s ≡ unread number place
 unfolding tscReading
@@ -146,11 +155,10 @@ tsc-layers s t r = let low = r .low in omega arith
 
 pub tsc-judge : (s : List ℕ) (t : Tsc) (q : ℕ) → tscWhole s ≡ got t q
     → judge (read (pathSiblings s (tscPath s t)) (tscPath s t .layers) (t .index) (subjectHash s (t .subject)) (tscTarget s t)) ≡ judge (tscReading s)
-unfolding pathSiblings nodeSiblings sibling
 tsc-judge s t q e =
     let r = tsc-whole-told s e in
     ap (λ (h : ℕ). judge (read (pathSiblings s (tscPath s t)) h (t .index) (subjectHash s (t .subject)) (tscTarget s t))) (tsc-layers s t r)
     ∙ ap (λ (id : List ℕ). judge (read (pathSiblings s (tscPath s t)) (length (t .nodes)) (t .index) id (tscTarget s t))) (subject-hash s t r (whole-size tscField s e))
     ∙ judge-same (pathSiblings s (tscPath s t)) (nodeSiblings s (t .nodes)) (length (t .nodes)) (t .index) (subjectId s (t .subject)) (tscTarget s t)
-    (λ k j b. ap (sibling s) (tsc-leaf-in s t r k j b))
+    (λ k j b. path-nodes s (tscPath s t) k j (t .nodes) (tsc-leaf-in s t r k j b))
     ∙ sym (ap judge (tsc-read s t q e))

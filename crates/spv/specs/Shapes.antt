@@ -16,6 +16,7 @@ use Rattle.format.specs.Bytes.{same}
 use Rattle.spv.specs.Climb.{Sibling, value, copied, absent, Step, joins, fails, Outcome, rooted, refused, ascend, strings}
 use Rattle.spv.specs.Compare.{targetOf, Reading, unread, read, Proof, Verdict, denied, proved, Met, at, never, hits, judgeBy, judge, proofOf, Answer, told, pair, answerOf, alike, against, compareBy, compare, meet}
 use Rattle.spv.specs.CompareLaws.{judge-proved, alike-told, against-unlike, against-same, against-meet, compare-second, compare-both}
+use Rattle.spv.specs.Values.{hasValue}
 use Rattle.spv.specs.Siblings.{pathSiblings}
 use Rattle.format.specs.IdLaws.{subjectHash}
 use Rattle.spv.specs.Readings.{tscTarget, tscReading, tsc-judge}
@@ -76,6 +77,19 @@ module _ (f : Node) where
   pub is-absent : f .kind ≡ Absent → siblingOf f ≡ absent
   unfolding siblingOf siblingBy
   is-absent e = ap (λ (k : NodeKind). siblingBy k (f .hash)) e
+
+  pub is-valued : hasValue (siblingOf f) ≡ true → siblingOf f ≡ value (f .hash)
+  unfolding siblingOf siblingBy hasValue
+  is-valued e = go (f .kind) e
+    where
+      go : (k : NodeKind) → hasValue (siblingBy k (f .hash)) ≡ true → siblingBy k (f .hash) ≡ value (f .hash)
+      go Value e = refl
+      go Copied e = let z : _≡_ {A = ℕ} 0 1 = cc in absurd (omega arith)
+      go Absent e = let z : _≡_ {A = ℕ} 0 1 = cc in absurd (omega arith)
+
+-- a node made of a sibling says it
+pub node-says : (f : Node) (x : Sibling) → f ≡ nodeOf x → siblingOf f ≡ x
+node-says f x e = ap siblingOf e ∙ sibling-node x
 
 -- what a layer's fate says of it
 module _ (r : Joined) where

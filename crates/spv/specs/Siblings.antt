@@ -3,18 +3,23 @@ use Prim.Native.Nat.{ℕ}
 use mathlib.Core.Path.{_≡_, sym, ap, _∙_}
 use mathlib.Core.List.{List, []}
 use lib.ListN.{length, getD}
+use lib.Dec.{ltb}
 use native.Mathlib.Omega.{arith}
 use Rattle.format.specs.declared.level.Kind.{Kind}
 use Rattle.format.specs.declared.level.Kind.the-variants.{Plain, Copy, Client}
+use Rattle.format.specs.declared.level.Layout.{Layout}
 use Rattle.format.specs.declared.level.Leaf.{Leaf}
 use Rattle.format.specs.declared.path.Found.{Found}
 use Rattle.format.specs.declared.path.Found.the-variants.{Here, Missing}
+use Rattle.format.specs.declared.path.Form.{Form}
 use Rattle.format.specs.declared.path.Path.{Path}
-use Rattle.format.specs.Search.{hashAt, lookup}
+use Rattle.format.specs.Search.{hashAt, lookup, leafOfLevel}
 use Rattle.format.specs.SearchLaws.{hash-at-length}
-use Rattle.format.specs.Path.{leafIn}
+use Rattle.format.specs.Parse.{pick}
+use Rattle.format.specs.Path.{leafIn, layersOf}
 use Rattle.spv.specs.Climb.{Sibling, value, copied, absent, Siblings}
 use Rattle.spv.specs.Collide.{Whole}
+use Rattle.spv.specs.Values.{valueBy, joinOf, workedOut}
 
 -- a leaf's 32 bytes, any flags, or a copy
 unfoldable pub written : List ℕ → Kind → Sibling
@@ -26,17 +31,39 @@ unfoldable pub sibling : List ℕ → Found → Sibling
 sibling s (Here kind) = written s kind
 sibling s Missing = absent
 
--- of the levels of a BUMP or CMP: the leaf at the layer and position
+-- what a search by layer and position finds written
+abbrev pub writtenBy : List ℕ → (ℕ → ℕ → Found) → Siblings
+writtenBy s find k q = sibling s (find k q)
+
+-- the search among levels that were read
+abbrev pub findIn : List (List Leaf) → ℕ → ℕ → Found
+findIn levels k q = lookup q (getD levels k [])
+
+-- the search in levels by their places
+abbrev pub findAt : Layout → List ℕ → List ℕ → ℕ → ℕ → Found
+findAt layout s places k q = leafOfLevel layout s (getD places k 0) q
+
+-- of the levels of a BUMP or CMP: the leaf at the layer and position, or what is worked out
 unfoldable pub levelSiblings : List ℕ → List (List Leaf) → Siblings
-levelSiblings s levels k q = sibling s (lookup q (getD levels k []))
+levelSiblings s levels = workedOut (writtenBy s (findIn levels))
 
 -- of the nodes of a TSC proof: one for each layer
 unfoldable pub nodeSiblings : List ℕ → List Kind → Siblings
 nodeSiblings s nodes k q = written s (getD nodes k Copy)
 
+-- where nothing is written: the join of the children, but in a TSC proof, which has a node for each layer and no children
+unfoldable pub joinIn : Form → Siblings → Siblings
+joinIn Form.Bump w k q = joinOf w k q
+joinIn Form.Cmp w k q = joinOf w k q
+joinIn Form.Tsc w k q = absent
+
+-- the same in a path, below its layers
+unfoldable pub pathJoin : List ℕ → Path → Siblings
+pathJoin s path k q = pick (ltb k (layersOf (path .layers))) (joinIn (path .form) (writtenBy s (leafIn s path)) k q) absent
+
 -- of a path of any form, by its places
 unfoldable pub pathSiblings : List ℕ → Path → Siblings
-pathSiblings s path k q = sibling s (leafIn s path k q)
+pathSiblings s path k q = valueBy (writtenBy s (leafIn s path) k q) copied (pathJoin s path k q)
 
 pub written-whole : (s : List ℕ) (kind : Kind) → Whole (written s kind)
 unfolding Whole written

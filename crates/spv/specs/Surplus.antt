@@ -1,5 +1,5 @@
 -- Surplus leaves are ignored (01, "The climb"): two well-formed paths of one form that agree on tree height, on which level-0 leaves carry
--- the id, and on the climb's siblings give that id the same answer. (The block height is not part of that answer.)
+-- the id, and on every leaf that the climb's values ask for give that id the same answer. (The block height is not part of that answer.)
 use Prim.Native.Nat.{ℕ, _<_, _≤_, min}
 use mathlib.Core.Path.{_≡_, refl, sym, ap, _∙_}
 use mathlib.Core.Bool.{Bool, true, false, _&&_, _||_}
@@ -7,7 +7,7 @@ use mathlib.Core.List.{List, [], _∷_}
 use lib.ListN.{getD}
 use lib.Dec.{eqb, ltb}
 use native.Mathlib.Omega.{arith}
-use native.Mathlib.Nat.{min-eq-left, min-eq-right, zero-add}
+use native.Mathlib.Nat.{min-eq-left, min-eq-right}
 use borrow.Author.Tests.{eq-eqb, ne-eqb, ltb-true, ltb-false}
 use Rattle.format.specs.declared.level.Leaf.{Leaf}
 use Rattle.format.specs.declared.path.Start.{Start}
@@ -16,11 +16,12 @@ use Rattle.format.specs.Parse.{got, pick}
 use Rattle.format.specs.Search.{carries, lesser, leastOffset}
 use Rattle.format.specs.Bump.{Bump, bumpWhole}
 use Rattle.format.specs.Cmp.{Cmp, cmpWhole}
-use Rattle.spv.specs.Climb.{Siblings, besides}
-use Rattle.spv.specs.ClimbLaws.{ascend-agree}
+use Rattle.spv.specs.Climb.{Siblings, ascend}
+use Rattle.spv.specs.Asked.{climbAsks, SameAt}
+use Rattle.spv.specs.AskedLaws.{climb-agree}
 use Rattle.spv.specs.Compare.{any, judge}
 use Rattle.spv.specs.CompareLaws.{judge-climb}
-use Rattle.spv.specs.Siblings.{levelSiblings}
+use Rattle.spv.specs.Siblings.{writtenBy, findIn, levelSiblings}
 use Rattle.spv.specs.Readings.{starting, levelsReading, bumpReading, cmpReading, bump-read, cmp-read}
 
 -- a leaf at the offset o carries the id
@@ -95,22 +96,22 @@ least-same s t id l m e (At i) (At j) h k = ap At (go (ltb i j) refl (ltb j i) r
 pub start-same : (s t id : List ℕ) (l m : List Leaf) → ((o : ℕ) → carriedAt s id o l ≡ carriedAt t id o m) → leastOffset s id l ≡ leastOffset t id m
 start-same s t id l m e = least-same s t id l m e (leastOffset s id l) (leastOffset t id m) (least-is s id l) (least-is t id m)
 
--- agreement of two paths over h layers, as far as an id asks
+-- agreement of two paths over h layers, as far as an id asks: on the leaves that carry it, and on every leaf that its climb's values ask for
 pub record Agree (s t id : List ℕ) (h : ℕ) (levels others : List (List Leaf)) : Type 0 where
   pub carriers : (o : ℕ) → carriedAt s id o (getD levels 0 []) ≡ carriedAt t id o (getD others 0 [])
-  pub siblings : (i : ℕ) → leastOffset s id (getD levels 0 []) ≡ At i → (k : ℕ) → k < h
-      → levelSiblings s levels k (getD (besides i h) k 0) ≡ levelSiblings t others k (getD (besides i h) k 0)
+  pub leaves : (i : ℕ) → leastOffset s id (getD levels 0 []) ≡ At i
+      → SameAt (writtenBy s (findIn levels)) (writtenBy t (findIn others)) (climbAsks (writtenBy s (findIn levels)) 0 h i id)
 
-starting-agree : (σ τ : Siblings) (h : ℕ) (id : List ℕ) (x : Start) → ((i : ℕ) → x ≡ At i → (k : ℕ) → k < h → σ k (getD (besides i h) k 0) ≡ τ k (getD (besides i h) k 0))
-    → judge (starting σ h id x) ≡ judge (starting τ h id x)
+starting-agree : (σ τ : Siblings) (h : ℕ) (id : List ℕ) (x : Start) → ((i : ℕ) → x ≡ At i → ascend σ 0 h i id ≡ ascend τ 0 h i id) → judge (starting σ h id x) ≡ judge (starting τ h id x)
 unfolding starting
 starting-agree σ τ h id Nowhere f = refl
-starting-agree σ τ h id (At i) f = judge-climb σ τ h i id any (ascend-agree σ τ 0 h i id (λ m b. rw zero-add (f i refl m b)))
+starting-agree σ τ h id (At i) f = judge-climb σ τ h i id any (f i refl)
 
 pub surplus : (s t id : List ℕ) (h : ℕ) (levels others : List (List Leaf)) → Agree s t id h levels others → judge (levelsReading s h levels id) ≡ judge (levelsReading t h others id)
-unfolding levelsReading
+unfolding levelsReading levelSiblings
 surplus s t id h levels others a =
-    starting-agree (levelSiblings s levels) (levelSiblings t others) h id (leastOffset s id (getD levels 0 [])) (a .siblings)
+    starting-agree (levelSiblings s levels) (levelSiblings t others) h id (leastOffset s id (getD levels 0 []))
+    (λ i e. climb-agree (writtenBy s (findIn levels)) (writtenBy t (findIn others)) 0 h i id (a .leaves i e))
     ∙ ap (λ (x : Start). judge (starting (levelSiblings t others) h id x)) (start-same s t id (getD levels 0 []) (getD others 0 []) (a .carriers))
 
 -- the two forms that have such leaves

@@ -1,13 +1,16 @@
 // The climb of 01, the same for every form.
+use super::values::join_in;
 use format::Found;
 use format::Kind;
 use format::Path;
 use format::refusal::MISSING;
 use format::refusal::TWIN;
 ghost use mathlib.Core.Path.{_≡_};
+ghost use Prim.Native.Nat.{_<_};
 ghost use Rattle.spv.specs.Climb.{joined, step, odd, beside, ascend, outcome, strings, absent, value, fails};
 ghost use Rattle.format.specs.Search.{hashAt};
-ghost use Rattle.spv.specs.Siblings.{written, sibling, pathSiblings};
+ghost use Rattle.spv.specs.Siblings.{written, pathSiblings};
+ghost use Rattle.spv.specs.Low.{Low};
 ghost use Rattle.spv.specs.Shapes.{nodeOf, siblingOf, joinedOf, climbedOf};
 
 // What stands beside the climb; the hash is zero unless there is a value.
@@ -49,7 +52,7 @@ pub struct Climbed {
     pub root: [u8; 32],
 }
 
-fn absent_node() -> Node
+pub(crate) fn absent_node() -> Node
     ensures { λ r. ⌜ r ≡ nodeOf absent ⌝ }
 {
     Node {
@@ -58,7 +61,7 @@ fn absent_node() -> Node
     }
 }
 
-fn value_at(s: &[u8], place: usize) -> Node
+pub(crate) fn value_at(s: &[u8], place: usize) -> Node
     ensures { λ r. ⌜ r ≡ nodeOf (value (hashAt (now (s .entry)) place)) ⌝ }
 {
     let hash = format::hash_at(s, place);
@@ -82,14 +85,15 @@ fn written_node(s: &[u8], kind: Kind) -> Node
     }
 }
 
-// What a path has at a layer and position.
+// What a path has at a layer and position, or what can be worked out.
 fn sibling_at(s: &[u8], path: Path, layer: usize, position: u64) -> Node
-    ensures { λ r. ⌜ r ≡ nodeOf (pathSiblings (now (s .entry)) path layer position) ⌝ }
+    requires { ⌜ (layer < 64 → Low layer position) ⌝ }
+    ensures { λ r. ⌜ siblingOf r ≡ pathSiblings (now (s .entry)) path layer position ⌝ }
 {
     let found = format::find(s, path, layer, position);
     match found {
         Found::Here(kind) => written_node(s, kind),
-        Found::Missing => absent_node(),
+        Found::Missing => join_in(s, path, layer, position),
     }
 }
 
@@ -145,6 +149,7 @@ fn beside_of(j: u64) -> u64
 
 // One layer of a climb in a path, from c at position j.
 pub(crate) fn layer_of(s: &[u8], path: Path, layer: usize, j: u64, c: [u8; 32]) -> Joined
+    requires { ⌜ Low layer j ⌝ }
     ensures { λ r. ⌜ r ≡ joinedOf (step (pathSiblings (now (s .entry)) path layer (beside j)) (odd j) c) ⌝ }
 {
     let q = beside_of(j);

@@ -6,6 +6,7 @@ mod climb;
 mod comparing;
 mod prove;
 mod table;
+mod values;
 
 pub use bundle::Ruling;
 pub use bundle::Verdict;

@@ -1,8 +1,7 @@
-use mathlib.Core.Path.{_∙_, sym, ap}
+use mathlib.Core.Path.{sym, _∙_}
+use Rattle.spv.specs.SiblingsLaws.{path-here, path-missing}
+use Rattle.spv.specs.Shapes.{node-says}
 use borrow.Author.Needs.{needs}
-use Rattle.format.specs.declared.path.Found.{Found}
-use Rattle.spv.specs.Siblings.{sibling, pathSiblings}
-use Rattle.spv.specs.Shapes.{nodeOf}
 use Rattle.spv.proofs.climb.sibling_at.Statement.{statement}
 use Rattle.spv.proofs.climb.sibling_at.Tie as tie
 
@@ -18,16 +17,18 @@ written-node-requires c κs = search needs
 enum-told : tie.Need-enum-told
 enum-told c = search needs
 
-absent-node-requires : tie.Need-absent-node-requires
-absent-node-requires c κs = search needs
+join-in-requires : tie.Need-join-in-requires
+join-in-requires c κs = search needs
 
 returns : tie.Need-returns
-unfolding sibling pathSiblings
-returns c = c .written-node .ensures ∙ sym (ap (λ (f : Found). nodeOf (sibling (c .before .before .before .before .before .before .args .s .now) f)) (sym (c .before .before .before .before .find .ensures) ∙ c .before .before .found .given .1))
+returns c =
+    let a = c .before .before .before .before .before .before .args in
+    node-says _ _ (c .written-node .ensures) ∙ sym (path-here (a .s .now) (a .path) (a .layer) (a .position) _ (sym (c .before .before .before .before .find .ensures) ∙ c .before .before .found .given .1))
 
 returns-2 : tie.Need-returns-2
-unfolding sibling pathSiblings
-returns-2 c = c .absent-node .ensures ∙ sym (ap (λ (f : Found). nodeOf (sibling (c .before .before .before .before .before .args .s .now) f)) (sym (c .before .before .before .find .ensures) ∙ c .before .enum-told .given .1))
+returns-2 c =
+    let a = c .before .before .before .before .before .args in
+    c .join-in .ensures ∙ sym (path-missing (a .s .now) (a .path) (a .layer) (a .position) (sym (c .before .before .before .find .ensures) ∙ c .before .enum-told .given .1))
 
 pub sibling-at-spec : {M : Type 1} → statement M
 sibling-at-spec =
@@ -37,6 +38,6 @@ sibling-at-spec =
     enum-known-found
     written-node-requires
     enum-told
-    absent-node-requires
+    join-in-requires
     returns
     returns-2)

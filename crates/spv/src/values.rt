@@ -1,0 +1,132 @@
+// Values that can be worked out: a node's value and the join of its two children call each other, one level lower at each turn.
+use super::climb::Node;
+use super::climb::NodeKind;
+use super::climb::absent_node;
+use super::climb::value_at;
+use format::Cursor;
+use format::Form;
+use format::Found;
+use format::Kind;
+use format::Layout;
+use format::Path;
+ghost use mathlib.Core.Path.{_≡_};
+ghost use Prim.Native.Nat.{_≤_, _<_};
+ghost use lib.ListN.{length};
+ghost use Rattle.spv.specs.Climb.{absent};
+ghost use Rattle.spv.specs.Values.{hasValue, valueBy, joinBoth, joinOf, valueOf};
+ghost use Rattle.spv.specs.Siblings.{written, writtenBy, findAt, pathJoin};
+ghost use Rattle.spv.specs.Low.{Low};
+ghost use Rattle.spv.specs.Shapes.{siblingOf};
+
+fn has_value(node: Node) -> bool
+    ensures { λ r. ⌜ r ≡ hasValue (siblingOf node) ⌝ }
+{
+    let kind = node.kind;
+    match kind {
+        NodeKind::Value => true,
+        NodeKind::Copied => false,
+        NodeKind::Absent => false,
+    }
+}
+
+// The join of two children that both have a value.
+fn join_both(l: Node, r: Node) -> Node
+    ensures { λ n. ⌜ siblingOf n ≡ joinBoth (siblingOf l) (siblingOf r) ⌝ }
+{
+    if !has_value(l) {
+        return absent_node();
+    }
+    if !has_value(r) {
+        return absent_node();
+    }
+    let a = l.hash;
+    let b = r.hash;
+    let hash = hash::join(a, b);
+    Node {
+        kind: NodeKind::Value,
+        hash,
+    }
+}
+
+// The value of a leaf that is written, by the value that a copy there has.
+fn value_here(s: &[u8], kind: Kind, copy: Node) -> Node
+    ensures { λ r. ⌜ siblingOf r ≡ valueBy (written (now (s .entry)) kind) (siblingOf copy) absent ⌝ }
+{
+    match kind {
+        Kind::Plain(place) => value_at(s, place),
+        Kind::Client(place) => value_at(s, place),
+        Kind::Copy => copy,
+    }
+}
+
+// What is written at a layer and position.
+fn find_at(s: &[u8], places: &[usize], layout: Layout, layer: usize, position: u64) -> Found
+    requires { ⌜ layer < length (now places) ⌝ }
+    ensures { λ r. ⌜ r ≡ findAt layout (now (s .entry)) (now (places .entry)) layer position ⌝ }
+{
+    let at = places[layer];
+    format::find_in_level(s, Cursor { at }, layout, position)
+}
+
+// The join of a node's children: nothing more is looked up once the left one has no value, and a copy on the right takes that value as it is at hand.
+fn join_of(s: &[u8], places: &[usize], layout: Layout, layer: usize, position: u64) -> Node
+    requires { ⌜ (length (now places) ≡ 64) × (layer ≤ 64) × (Low layer position) ⌝ }
+    ensures { λ r. ⌜ siblingOf r ≡ joinOf (writtenBy (now (s .entry)) (findAt layout (now (s .entry)) (now (places .entry)))) layer position ⌝ }
+{
+    if layer == 0 {
+        return absent_node();
+    }
+    let l = value_of(s, places, layout, layer - 1, 2 * position, absent_node());
+    if !has_value(l) {
+        return absent_node();
+    }
+    let r = value_of(s, places, layout, layer - 1, 2 * position + 1, l);
+    join_both(l, r)
+}
+
+// A node's value, by the value that a copy there has.
+fn value_of(
+    s: &[u8],
+    places: &[usize],
+    layout: Layout,
+    layer: usize,
+    position: u64,
+    copy: Node,
+) -> Node
+    requires { ⌜ (length (now places) ≡ 64) × (layer < 64) × (Low layer position) ⌝ }
+    ensures { λ r. ⌜ siblingOf r ≡ valueOf (writtenBy (now (s .entry)) (findAt layout (now (s .entry)) (now (places .entry)))) (siblingOf copy) layer position ⌝ }
+{
+    let found = find_at(s, places, layout, layer, position);
+    match found {
+        Found::Here(kind) => value_here(s, kind, copy),
+        Found::Missing => join_of(s, places, layout, layer, position),
+    }
+}
+
+// The join of a node's children in levels at these places.
+fn join_at(s: &[u8], places: [usize; 64], layout: Layout, layer: usize, position: u64) -> Node
+    requires { ⌜ (layer ≤ 64) × (Low layer position) ⌝ }
+    ensures { λ r. ⌜ siblingOf r ≡ joinOf (writtenBy (now (s .entry)) (findAt layout (now (s .entry)) places)) layer position ⌝ }
+{
+    join_of(s, &places, layout, layer, position)
+}
+
+// The join of a node's children in a path, below its layers; a TSC proof has none.
+pub(crate) fn join_in(s: &[u8], path: Path, layer: usize, position: u64) -> Node
+    requires { ⌜ (layer < 64 → Low layer position) ⌝ }
+    ensures { λ r. ⌜ siblingOf r ≡ pathJoin (now (s .entry)) path layer position ⌝ }
+{
+    if path.layers <= layer {
+        return absent_node();
+    }
+    if 64 <= layer {
+        return absent_node();
+    }
+    let places = path.at;
+    let form = path.form;
+    match form {
+        Form::Bump => join_at(s, places, Layout::Bump, layer, position),
+        Form::Cmp => join_at(s, places, Layout::Cmp, layer, position),
+        Form::Tsc => absent_node(),
+    }
+}
