@@ -10,6 +10,8 @@ pub mod AskedLaws
 pub mod Siblings
 pub mod SiblingsLaws
 pub mod Low
+pub mod Joins
+pub mod JoinsLaws
 pub mod Shapes
 pub mod Readings
 pub mod Clients
