@@ -10,6 +10,8 @@ pub mod AskedLaws
 pub mod Siblings
 pub mod SiblingsLaws
 pub mod Low
+pub mod Marks
+pub mod MarksLaws
 pub mod Joins
 pub mod JoinsLaws
 pub mod Shapes

@@ -4,6 +4,7 @@ mod bundle;
 mod clients;
 mod climb;
 mod comparing;
+mod marks;
 mod prove;
 mod table;
 mod values;

@@ -3,7 +3,8 @@ use super::climb::Node;
 use super::climb::NodeKind;
 use super::climb::absent_node;
 use super::climb::value_at;
-use format::Cursor;
+use super::marks::find_marked;
+use super::marks::mark_at;
 use format::Form;
 use format::Found;
 use format::Kind;
@@ -15,6 +16,7 @@ ghost use lib.ListN.{length};
 ghost use Rattle.spv.specs.Climb.{absent};
 ghost use Rattle.spv.specs.Values.{hasValue, valueBy, joinBoth, joinOf, valueOf};
 ghost use Rattle.spv.specs.Siblings.{written, writtenBy, findAt, pathJoin};
+ghost use Rattle.spv.specs.Marks.{Marked};
 ghost use Rattle.spv.specs.Low.{Low};
 ghost use Rattle.spv.specs.Shapes.{siblingOf};
 
@@ -59,28 +61,27 @@ fn value_here(s: &[u8], kind: Kind, copy: Node) -> Node
     }
 }
 
-// What is written at a layer and position.
-fn find_at(s: &[u8], places: &[usize], layout: Layout, layer: usize, position: u64) -> Found
-    requires { ⌜ layer < length (now places) ⌝ }
-    ensures { λ r. ⌜ r ≡ findAt layout (now (s .entry)) (now (places .entry)) layer position ⌝ }
-{
-    let at = places[layer];
-    format::find_in_level(s, Cursor { at }, layout, position)
-}
-
 // The join of a node's children: nothing more is looked up once the left one has no value, and a copy on the right takes that value as it is at hand.
-fn join_of(s: &[u8], places: &[usize], layout: Layout, layer: usize, position: u64) -> Node
-    requires { ⌜ (length (now places) ≡ 64) × (layer ≤ 64) × (Low layer position) ⌝ }
+fn join_of(
+    s: &[u8],
+    places: &[usize],
+    marks: &[u32],
+    layout: Layout,
+    layer: usize,
+    position: u64,
+) -> Node
+    requires { ⌜ (Marked layout (now s) (now places) (now marks)) × (length (now places) ≡ 64) × (layer ≤ 64) × (Low layer position) ⌝ }
     ensures { λ r. ⌜ siblingOf r ≡ joinOf (writtenBy (now (s .entry)) (findAt layout (now (s .entry)) (now (places .entry)))) layer position ⌝ }
 {
     if layer == 0 {
         return absent_node();
     }
-    let l = value_of(s, places, layout, layer - 1, 2 * position, absent_node());
+    let none = absent_node();
+    let l = value_of(s, places, marks, layout, layer - 1, 2 * position, none);
     if !has_value(l) {
         return absent_node();
     }
-    let r = value_of(s, places, layout, layer - 1, 2 * position + 1, l);
+    let r = value_of(s, places, marks, layout, layer - 1, 2 * position + 1, l);
     join_both(l, r)
 }
 
@@ -88,27 +89,38 @@ fn join_of(s: &[u8], places: &[usize], layout: Layout, layer: usize, position: u
 fn value_of(
     s: &[u8],
     places: &[usize],
+    marks: &[u32],
     layout: Layout,
     layer: usize,
     position: u64,
     copy: Node,
 ) -> Node
-    requires { ⌜ (length (now places) ≡ 64) × (layer < 64) × (Low layer position) ⌝ }
+    requires { ⌜ (Marked layout (now s) (now places) (now marks)) × (length (now places) ≡ 64) × (layer < 64) × (Low layer position) ⌝ }
     ensures { λ r. ⌜ siblingOf r ≡ valueOf (writtenBy (now (s .entry)) (findAt layout (now (s .entry)) (now (places .entry)))) (siblingOf copy) layer position ⌝ }
 {
-    let found = find_at(s, places, layout, layer, position);
+    let found = find_marked(s, places, marks, layout, layer, position);
     match found {
         Found::Here(kind) => value_here(s, kind, copy),
-        Found::Missing => join_of(s, places, layout, layer, position),
+        Found::Missing => join_of(s, places, marks, layout, layer, position),
     }
 }
 
-// The join of a node's children in levels at these places.
+// The join of a node's children in levels at these places, by the marks of those below the layer. (The marks are made where they lie, so that they are
+// on the stack once.)
 fn join_at(s: &[u8], places: [usize; 64], layout: Layout, layer: usize, position: u64) -> Node
     requires { ⌜ (layer ≤ 64) × (Low layer position) ⌝ }
     ensures { λ r. ⌜ siblingOf r ≡ joinOf (writtenBy (now (s .entry)) (findAt layout (now (s .entry)) places)) layer position ⌝ }
 {
-    join_of(s, &places, layout, layer, position)
+    let mut marks = [0u32; 1024];
+    let end = 16 * layer;
+    let mut before: u32 = 0;
+    let mut y: usize = 0;
+    while y < end {
+        before = mark_at(s, &places, layout, before, y);
+        marks[y] = before;
+        y += 1;
+    }
+    join_of(s, &places, &marks, layout, layer, position)
 }
 
 // The join of a node's children in a path, below its layers; a TSC proof has none.
