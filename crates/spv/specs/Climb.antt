@@ -40,7 +40,7 @@ unfoldable pub joined : Bool → List ℕ → List ℕ → Step
 joined false c p = joins c p
 joined true c p = pick (same p c) (fails TWIN) (joins p c)
 
--- a copy makes p equal c; each sibling must be written
+-- a copy makes p equal c; a sibling that can't be had is 14
 unfoldable pub step : Sibling → Bool → List ℕ → Step
 step (value p) o c = joined o c p
 step copied o c = joined o c c
