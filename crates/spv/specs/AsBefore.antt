@@ -2,7 +2,7 @@
 -- written alone isn't refused with 14 has the same answer by what is worked out.
 use Prim.Native.Nat.{ℕ, zero, suc, _/_}
 use mathlib.Core.Path.{_≡_, refl, sym, ap, _∙_}
-use mathlib.Core.Bool.{Bool, true, false}
+use mathlib.Core.Bool.{Bool, false}
 use mathlib.Core.List.{List, [], _++_}
 use lib.ListN.{getD}
 use lib.Dec.{eqb}
@@ -14,7 +14,7 @@ use Rattle.format.specs.declared.path.Start.{Start}
 use Rattle.format.specs.declared.path.Start.the-variants.{At, Nowhere}
 use Rattle.format.specs.Refusals.{MISSING}
 use Rattle.format.specs.Search.{leastOffset}
-use Rattle.spv.specs.Climb.{Sibling, value, copied, absent, Siblings, Step, joins, fails, Ascent, top, up, stop, Outcome, outcome, beside, odd, step, ascend, ascended}
+use Rattle.spv.specs.Climb.{Sibling, value, copied, absent, Siblings, Step, joins, fails, Ascent, top, up, stop, outcome, beside, odd, step, ascend, ascended}
 use Rattle.spv.specs.Compare.{any, Reading, Verdict, denied, proved, Proof, settle, proofOf, judge, judge-climb}
 use Rattle.spv.specs.Siblings.{writtenBy, findIn, levelSiblings}
 use Rattle.spv.specs.Values.{workedOut}

@@ -5,7 +5,7 @@ use mathlib.Core.Bool.{Bool, true, false}
 use mathlib.Core.List.{List, [], _∷_, _++_}
 use Rattle.hash.specs.Sha256.{sha256d}
 use Rattle.format.specs.Parse.{pick}
-use Rattle.spv.specs.Climb.{Sibling, value, copied, absent, Siblings, Step, joins, fails, Ascent, up, beside, odd, step, ascend, ascended}
+use Rattle.spv.specs.Climb.{Sibling, value, copied, absent, Siblings, Step, joins, fails, up, beside, odd, step, ascend, ascended}
 use Rattle.spv.specs.Values.{valueBy, joinBoth, hasValue, joinOf, valueOf, workedOut}
 use Rattle.spv.specs.ValuesLaws.{both-left}
 use Rattle.spv.specs.Asked.{Coordinates, ifAbsent, joinAsks, valueAsks, climbAsks, SameAt}

@@ -11,8 +11,7 @@ use native.Mathlib.Nat.{sub-zero}
 use borrow.Author.Tests.{leb-true, le-leb, eqb-true, eqb-false}
 use Rattle.format.specs.declared.level.Layout.{Layout}
 use Rattle.format.specs.declared.level.Leaf.{Leaf}
-use Rattle.format.specs.declared.path.Found.{Found}
-use Rattle.format.specs.declared.path.Found.the-variants.{Here, Missing}
+use Rattle.format.specs.declared.path.Found.the-variants.{Missing}
 use Rattle.format.specs.Parse.{Parse, got, bad, pick, otherwise}
 use Rattle.format.specs.Field.{varint}
 use Rattle.format.specs.Search.{looseLeaf, seek, leafOfLevel}

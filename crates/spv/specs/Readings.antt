@@ -12,7 +12,7 @@ use Rattle.format.specs.declared.path.Path.{Path}
 use Rattle.format.specs.Parse.{Parse, got, bad}
 use Rattle.format.specs.Refusals.{NOT-LISTED}
 use Rattle.format.specs.Search.{leastOffset}
-use Rattle.format.specs.Path.{leafIn, startIn, bumpPathOf, bumpPath, cmpPathOf, cmpPath}
+use Rattle.format.specs.Path.{startIn, bumpPathOf, bumpPath, cmpPathOf, cmpPath}
 use Rattle.format.specs.BumpLaws.{BumpRead, bump-whole-told, CmpRead, cmp-whole-told}
 use Rattle.format.specs.PathLaws.{bump-leaf-in, bump-start-in, cmp-leaf-in, cmp-start-in}
 use Rattle.format.specs.Bump.{Bump, bumpWhole}

@@ -1,9 +1,6 @@
 use borrow.Author.Needs.{needs}
 use native.Mathlib.Omega.{arith}
-use mathlib.Core.Path.{_≡_, ap, sym, _∙_}
-use mathlib.Core.Bool.{true}
-use Prim.Native.Nat.{_≤_, _-_, _+_}
-use native.Mathlib.Nat.{sub-zero}
+use Prim.Native.Nat.{_-_, _+_}
 use Rattle.format.specs.LevelAnswer.{leafOf}
 use Rattle.format.specs.ParseLaws.{answered}
 use Rattle.spv.specs.MarksLaws.{Chosen, chosen-first, chosen-next}

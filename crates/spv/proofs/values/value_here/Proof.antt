@@ -1,6 +1,6 @@
 use mathlib.Core.Path.{_∙_, sym, ap}
 use Rattle.format.specs.declared.level.Kind.{Kind}
-use Rattle.spv.specs.Climb.{value, absent}
+use Rattle.spv.specs.Climb.{absent}
 use Rattle.spv.specs.Values.{valueBy}
 use Rattle.spv.specs.Siblings.{written}
 use Rattle.spv.specs.Shapes.{siblingOf, node-says}
