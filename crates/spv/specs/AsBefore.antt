@@ -14,8 +14,10 @@ use Rattle.format.specs.declared.path.Start.{Start}
 use Rattle.format.specs.declared.path.Start.the-variants.{At, Nowhere}
 use Rattle.format.specs.Refusals.{MISSING}
 use Rattle.format.specs.Search.{leastOffset}
-use Rattle.spv.specs.Climb.{Sibling, value, copied, absent, Siblings, Step, joins, fails, Ascent, top, up, stop, outcome, beside, odd, step, ascend, ascended}
-use Rattle.spv.specs.Compare.{any, Reading, Verdict, denied, proved, Proof, settle, proofOf, judge, judge-climb}
+use Rattle.spv.specs.Climb.{Sibling, value, copied, absent, Siblings, Step, joins, fails, Ascent, top, up, stop, outcome, beside, odd, step, ascend, ascendBy, outcomeBy}
+use Rattle.spv.specs.ClimbLaws.{ascended}
+use Rattle.spv.specs.Compare.{any, Reading, Verdict, denied, proved, Proof, settle, proofOf, judge, judgeBy}
+use Rattle.spv.specs.CompareLaws.{judge-climb}
 use Rattle.spv.specs.Siblings.{writtenBy, findIn, levelSiblings}
 use Rattle.spv.specs.Values.{workedOut}
 use Rattle.spv.specs.ValuesLaws.{value-written, value-copied}
@@ -43,7 +45,7 @@ NotMissing (denied number place k q) = number ≡ MISSING → ⊥
 NotMissing (proved p) = Unit
 
 pub ascend-keeps : (w : Siblings) (k n j : ℕ) (c : List ℕ) → misses (ascend w k n j c) ≡ false → ascend (workedOut w) k n j c ≡ ascend w k n j c
-unfolding ascend misses step
+unfolding ascendBy misses step
 ascend-keeps w k zero j c h = refl
 ascend-keeps w k (suc n) j c h =
     there (w k (beside j)) refl h (λ d g. ascend-keeps w (suc k) n (j / 2) d g)
@@ -69,7 +71,7 @@ ascend-keeps w k (suc n) j c h =
     there absent e f r = let z : _≡_ {A = ℕ} 0 1 = cc in absurd (omega arith)
 
 not-missing : (c : List ℕ) (a : Ascent) (f : List ℕ → Proof) → NotMissing (settle any f (outcome c a)) → misses a ≡ false
-unfolding misses outcome settle NotMissing
+unfolding misses outcomeBy settle NotMissing
 not-missing c top f h = refl
 not-missing c (up t a) f h = not-missing (sha256d t) a f h
 not-missing c (stop number k q) f h = ne-eqb number MISSING h
@@ -79,7 +81,7 @@ unfoldable pub writtenReading : List ℕ → ℕ → List (List Leaf) → List �
 writtenReading s h levels id = starting (writtenBy s (findIn levels)) h id (leastOffset s id (getD levels 0 []))
 
 pub answered-as-before : (s id : List ℕ) (h : ℕ) (levels : List (List Leaf)) → NotMissing (judge (writtenReading s h levels id)) → judge (levelsReading s h levels id) ≡ judge (writtenReading s h levels id)
-unfolding writtenReading levelsReading levelSiblings judge starting
+unfolding writtenReading levelsReading levelSiblings judgeBy starting
 answered-as-before s id h levels o = go (leastOffset s id (getD levels 0 [])) o
   where
     go : (x : Start) → NotMissing (judge (starting (writtenBy s (findIn levels)) h id x)) → judge (starting (levelSiblings s levels) h id x) ≡ judge (starting (writtenBy s (findIn levels)) h id x)

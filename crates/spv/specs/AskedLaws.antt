@@ -5,7 +5,8 @@ use mathlib.Core.Bool.{Bool, true, false}
 use mathlib.Core.List.{List, [], _∷_, _++_}
 use Rattle.hash.specs.Sha256.{sha256d}
 use Rattle.format.specs.Parse.{pick}
-use Rattle.spv.specs.Climb.{Sibling, value, copied, absent, Siblings, Step, joins, fails, up, beside, odd, step, ascend, ascended}
+use Rattle.spv.specs.Climb.{Sibling, value, copied, absent, Siblings, Step, joins, fails, up, beside, odd, step, ascend, ascendBy}
+use Rattle.spv.specs.ClimbLaws.{ascended}
 use Rattle.spv.specs.Values.{valueBy, joinBoth, hasValue, joinOf, valueOf, workedOut}
 use Rattle.spv.specs.ValuesLaws.{both-left}
 use Rattle.spv.specs.Asked.{Coordinates, ifAbsent, joinAsks, valueAsks, climbAsks, SameAt}
@@ -14,6 +15,12 @@ same-parts : (w v : Siblings) (l m : List Coordinates) → SameAt w v (l ++ m) �
 unfolding SameAt
 same-parts w v [] m h = (tt, h)
 same-parts w v (x ∷ l) m h = let r = same-parts w v l m (h .1) in ((h .0, r .0), r .1)
+
+-- forms that have the same written everywhere
+pub same-all : (w v : Siblings) → ((k q : ℕ) → w k q ≡ v k q) → (l : List Coordinates) → SameAt w v l
+unfolding SameAt
+same-all w v f [] = tt
+same-all w v f (x ∷ l) = (f (x .0) (x .1), same-all w v f l)
 
 module _ (w v : Siblings) where
   -- by what is written at a node
@@ -45,7 +52,7 @@ module _ (w v : Siblings) where
 
   -- a climb is decided by what it asks for
   pub climb-agree : (k n j : ℕ) (c : List ℕ) → SameAt w v (climbAsks w k n j c) → ascend (workedOut w) k n j c ≡ ascend (workedOut v) k n j c
-  unfolding climbAsks ascend valueAsks workedOut
+  unfolding climbAsks ascendBy valueAsks workedOut
   climb-agree k zero j c h = refl
   climb-agree k (suc n) j c h =
       let p = same-parts w v (valueAsks w k (beside j)) _ h in

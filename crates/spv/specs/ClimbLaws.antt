@@ -50,6 +50,9 @@ module _ (σ : Siblings) (k n j : ℕ) (c : List ℕ) where
 abbrev pub ascendedBy : (List ℕ → List ℕ) → Siblings → ℕ → ℕ → ℕ → Step → Ascent
 ascendedBy hash σ k n j s = elim s [ joins a b ↦ up (a ++ b) (ascendBy hash σ (suc k) n (j / 2) (hash (a ++ b))) | fails number ↦ stop number k (beside j) ]
 
+abbrev pub ascended : Siblings → ℕ → ℕ → ℕ → Step → Ascent
+ascended = ascendedBy sha256d
+
 -- one turn of a loop that climbs: m layers are done of h, and the layer is k
 module _ (σ : Siblings) (k m h j : ℕ) (c : List ℕ) (b : m < h) where
   one-more : h - m ≡ suc (h - (m + 1))
@@ -72,13 +75,13 @@ unfolding ascendBy besides
 ascend-agree σ τ k zero j c f = refl
 ascend-agree σ τ k (suc n) j c f =
     let e : σ k (beside j) ≡ τ k (beside j) = rw add-zero at (f 0 (zero-lt-suc n)) in
-    ap (λ (x : Sibling). ascendedBy sha256d σ k n j (step x (odd j) c)) e
+    ap (λ (x : Sibling). ascended σ k n j (step x (odd j) c)) e
     ∙ (go (step (τ k (beside j)) (odd j) c) (λ d. ascend-agree σ τ (suc k) n (j / 2) d above))
   where
     above : (m : ℕ) → m < n → σ (suc k + m) (getD (besides (j / 2) n) m 0) ≡ τ (suc k + m) (getD (besides (j / 2) n) m 0)
     above m h = let e : k + suc m ≡ suc k + m = omega arith in rw e at (f (suc m) (suc-le-suc h))
 
-    go : (s : Step) → ((d : List ℕ) → ascend σ (suc k) n (j / 2) d ≡ ascend τ (suc k) n (j / 2) d) → ascendedBy sha256d σ k n j s ≡ ascendedBy sha256d τ k n j s
+    go : (s : Step) → ((d : List ℕ) → ascend σ (suc k) n (j / 2) d ≡ ascend τ (suc k) n (j / 2) d) → ascended σ k n j s ≡ ascended τ k n j s
     go (joins a b) r = ap (up (a ++ b)) (r (sha256d (a ++ b)))
     go (fails number) r = refl
 

@@ -12,7 +12,8 @@ use Rattle.format.specs.declared.level.Leaf.{Leaf}
 use Rattle.format.specs.declared.path.Found.the-variants.{Here, Missing}
 use Rattle.format.specs.Parse.{pick}
 use Rattle.format.specs.Search.{lookup}
-use Rattle.spv.specs.Climb.{Sibling, value, copied, absent, Siblings, beside, beside-odd, beside-even}
+use Rattle.spv.specs.Climb.{Sibling, value, copied, absent, Siblings, beside}
+use Rattle.spv.specs.ClimbLaws.{beside-odd, beside-even}
 use Rattle.spv.specs.Values.{hasValue, valueBy, joinBoth, joinOf, valueOf}
 use Rattle.spv.specs.Siblings.{sibling, writtenBy, findIn}
 use Rattle.spv.specs.Joins.{one, joinsBy, joinsMade, siblingJoins, climbJoins, liesUnder, countUnder, leavesBelow, leavesUnder, leavesIn}

@@ -23,7 +23,8 @@ use Rattle.format.specs.Refusals.{SAME-TX, NO-PARENT, UNTRUSTED}
 use Rattle.spv.specs.declared.table.Record.{Record}
 use Rattle.spv.specs.Climb.{Sibling}
 use Rattle.spv.specs.Compare.{denied, proved, judge, Verdict as Proving}
-use Rattle.spv.specs.Siblings.{written, sibling, levelSiblings}
+use Rattle.spv.specs.Siblings.{written, sibling, writtenBy, findIn}
+use Rattle.spv.specs.AskedLaws.{same-all}
 use Rattle.spv.specs.Readings.{levelsReading}
 use Rattle.spv.specs.Surplus.{carriedAt, surplus}
 use Rattle.format.specs.Id.{txid}
@@ -75,9 +76,9 @@ module _ (s t : List ℕ) where
       go false h r = r
 
   proving-same : (b c : Bump) (id : List ℕ) → bumpSaid s b ≡ bumpSaid t c → proving s b id ≡ proving t c id
-  unfolding proving levelSiblings
+  unfolding proving
   proving-same b c id e =
-      surplus s t id (b .height) (b .levels) (c .levels) (record { carriers = λ o. carried-same id o (getD (b .levels) 0 []) (getD (c .levels) 0 []) (level 0); siblings = λ i _ k _. lookup-same _ (getD (b .levels) k []) (getD (c .levels) k []) (level k) })
+      surplus s t id (b .height) (b .levels) (c .levels) (record { carriers = λ o. carried-same id o (getD (b .levels) 0 []) (getD (c .levels) 0 []) (level 0); leaves = λ i _. same-all (writtenBy s (findIn (b .levels))) (writtenBy t (findIn (c .levels))) (λ k q. lookup-same q (getD (b .levels) k []) (getD (c .levels) k []) (level k)) _ })
       ∙ ap (λ (h : ℕ). judge (levelsReading t h (c .levels) id)) (ap (λ (z : ℕ × List (List (ℕ × Sibling))). z .0) e)
     where
       level : (k : ℕ) → map (leafSaid s) (getD (b .levels) k []) ≡ map (leafSaid t) (getD (c .levels) k [])

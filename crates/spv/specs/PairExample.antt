@@ -17,6 +17,7 @@ use Rattle.spv.specs.Climb.{beside, joined, step, ascendBy, outcomeBy, s
 use Rattle.spv.specs.Compare.{Proof, proved, hits, settle, judgeBy, meetBy, pair, answerOf, alike, againstBy, compareBy}
 use Rattle.spv.specs.Collide.{CollidedBy}
 use Rattle.spv.specs.Siblings.{written as stated, sibling, levelSiblings}
+use Rattle.spv.specs.Values.{valueBy, valueOf, workedOut}
 use Rattle.spv.specs.Readings.{starting, levelsReading, bumpReading, cmpReading, reading}
 use Rattle.spv.specs.Demand3.{demand3-by}
 
@@ -43,11 +44,11 @@ abbrev pub proofFrom : ℕ → Proof
 proofFrom n = record { id = hashOf n; position = 2; layers = 2; root = hashOf 4; made = (hashOf n ++ hashOf 3) ∷ (hashOf 4 ++ hashOf n) ∷ [] }
 
 pub bump-accepted : judgeBy firstHalf (reading Form.Bump bump (hashOf 1)) ≡ proved (proofFrom 1)
-unfolding varint byte bytes many each holds offsetField flagField kindField carriedField leafField levelField written blockField heightField bumpField whole leastOffset lesser carries hashAt same lookup stated sibling levelSiblings beside joined step ascendBy outcomeBy strings hits settle judgeBy starting levelsReading bumpReading reading
+unfolding varint byte bytes many each holds offsetField flagField kindField carriedField leafField levelField written blockField heightField bumpField whole leastOffset lesser carries hashAt same lookup stated sibling levelSiblings workedOut valueOf valueBy beside joined step ascendBy outcomeBy strings hits settle judgeBy starting levelsReading bumpReading reading
 bump-accepted = refl
 
 pub cmp-accepted : judgeBy firstHalf (reading Form.Cmp cmp (hashOf 2)) ≡ proved (proofFrom 2)
-unfolding varint byte bytes many each holds offsetField flagField kindField carriedField leafField levelField written topField cmpField whole leastOffset lesser carries hashAt same lookup stated sibling levelSiblings beside joined step ascendBy outcomeBy strings hits settle judgeBy starting levelsReading cmpReading reading
+unfolding varint byte bytes many each holds offsetField flagField kindField carriedField leafField levelField written topField cmpField whole leastOffset lesser carries hashAt same lookup stated sibling levelSiblings workedOut valueOf valueBy beside joined step ascendBy outcomeBy strings hits settle judgeBy starting levelsReading cmpReading reading
 cmp-accepted = refl
 
 ids-differ : hashOf 1 ≡ hashOf 2 → ⊥
