@@ -32,15 +32,15 @@ under (i ∷ chosen) k j = eqb (i / 2 ^ k) j || under chosen k j
 abbrev pub Below : List (List ℕ) → List ℕ → Type 0
 Below ids chosen = (i : ℕ) → holds i chosen ≡ true → i < length ids
 
--- which of the siblings needed are left out: none
+-- "Of the siblings needed" those left out (02, Item 3): "one above level 0 exactly when a chosen position lies under it"
 unfoldable pub leftOut : List ℕ → ℕ → ℕ → Bool
-leftOut chosen k o = false
+leftOut chosen k o = ltb 0 k && under chosen k o
 
 -- a sibling: a node, or where a layer has an odd number of nodes the copy of its last one, past its end
 unfoldable pub siblingAt : List (List ℕ) → ℕ → ℕ → Carried
 siblingAt ids k o = pick (ltb o (size ids k)) (plain (node ids k o)) copy
 
--- what is asked for at an offset of a level: "chosen ids with flags 02, and every sibling their climbs need, nothing more"
+-- what is asked for at an offset of a level: "chosen ids with flags 02, and every sibling their climbs need, nothing more", but for those left out
 unfoldable pub asked : List (List ℕ) → List ℕ → ℕ → ℕ → Option Carried
 asked ids chosen k o =
     pick (eqb k 0 && under chosen 0 o) (some (client (node ids 0 o)))

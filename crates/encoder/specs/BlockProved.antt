@@ -3,98 +3,48 @@ use mathlib.Core.Path.{_≡_, refl, sym, ap, ap₂, _∙_}
 use mathlib.Core.Bool.{Bool, true, false, _&&_, _||_, not}
 use mathlib.Core.List.{List, [], _∷_, map}
 use mathlib.Core.Option.{Option, none, some}
-use Prim.Native.Nat.{ℕ, zero, suc, _+_, _-_, _^_, _/_, _%_, _≤_, _<_}
+use Prim.Native.Nat.{ℕ, zero, suc, _+_, _-_, _^_, _/_, _≤_, _<_}
 use lib.ListN.{length, getD}
 use lib.Dec.{ltb, eqb}
-use lib.Pow.{shr-shr, shr-lt}
+use lib.Pow.{shr-shr}
 use native.Mathlib.Omega.{arith}
-use native.Mathlib.Nat.{zero-add, div-one, pow-suc}
-use borrow.Author.Tests.{eqb-true, eqb-false, lt-ltb, ltb-true}
+use native.Mathlib.Nat.{zero-add, div-one}
+use borrow.Author.Tests.{eqb-true, eqb-false, ltb-true}
 use Rattle.encoder.specs.Truth.{or-true, absurd-bool}
 use Rattle.format.specs.declared.level.Kind.{Kind}
 use Rattle.format.specs.declared.level.Kind.the-variants.{Plain, Copy, Client}
 use Rattle.format.specs.declared.level.Leaf.{Leaf}
-use Rattle.format.specs.declared.path.Found.{Found}
-use Rattle.format.specs.declared.path.Found.the-variants.{Here, Missing}
 use Rattle.format.specs.declared.path.Start.{Start}
 use Rattle.format.specs.declared.path.Start.the-variants.{At, Nowhere}
 use Rattle.format.specs.Parse.{pick}
 use Rattle.format.specs.Bytes.{same, same-eq, same-refl, eq-same}
 use Rattle.format.specs.Level.{holds}
-use Rattle.format.specs.Search.{hashAt, lookup, carries, leastOffset}
+use Rattle.format.specs.Search.{carries, leastOffset}
 use Rattle.spv.specs.Bundle.{among}
-use Rattle.spv.specs.Climb.{Sibling, value, copied, Siblings, beside, besides}
-use Rattle.spv.specs.ClimbLaws.{beside-odd, beside-even, ascend-agree}
+use Rattle.spv.specs.Climb.{Siblings, beside, besides}
+use Rattle.spv.specs.ClimbLaws.{ascend-agree}
 use Rattle.spv.specs.Compare.{any, read, hits, proved, proofOf, judge}
 use Rattle.spv.specs.CompareLaws.{judge-climb, judge-root}
-use Rattle.spv.specs.Siblings.{written, sibling, levelSiblings}
+use Rattle.spv.specs.Siblings.{levelSiblings}
 use Rattle.spv.specs.Readings.{starting, levelsReading, bumpReading, bump-read}
 use Rattle.spv.specs.Surplus.{carriedAt, Least, least-is}
 use Rattle.format.specs.BumpBytes.{Carried, plain, copy, client, Entry, carriedOf, entryOf}
 use Rattle.encoder.specs.Tree.{layer, size, node, height, root, treeSiblings, treeClimb}
 use Rattle.encoder.specs.TreeLaws.{height-holds}
 use Rattle.encoder.specs.TreeClimb.{climb-roots}
-use Rattle.encoder.specs.BlockBump.{under, leftOut, siblingAt, asked, rising, levelFor, distinct, reaches, foundAs}
+use Rattle.encoder.specs.BlockBump.{siblingAt, asked, rising, levelFor, distinct, reaches}
 use Rattle.encoder.specs.RisingLaws.{rising-none, rising-some}
 use Rattle.encoder.specs.BlockFit.{Sizes, high, under-chosen, under-size, Asking, as-client, as-sibling, asked-told}
-use Rattle.encoder.specs.BlockMeets.{ReadBack, height-back, level-back, leaf-back}
+use Rattle.encoder.specs.BlockMeets.{ReadBack, height-back, level-back}
+use Rattle.encoder.specs.BlockValues.{beside-beside, needed-value}
 
 -- ---- siblings
-
-pub beside-beside : (j : ℕ) → beside (beside j) ≡ j
-beside-beside j = go (eqb (j % 2) 1) refl
-  where
-    go : (t : Bool) → eqb (j % 2) 1 ≡ t → beside (beside j) ≡ j
-    go true e = let o = eqb-true (j % 2) 1 e in rw (beside-odd j o, beside-even (j - 1) (λ q. omega arith)) (omega arith)
-    go false e = let o = eqb-false (j % 2) 1 e in rw (beside-even j o, beside-odd (j + 1) (omega arith)) (omega arith)
 
 pub besides-at : (h i m : ℕ) → m < h → getD (besides i h) m 0 ≡ beside (i / 2 ^ m)
 unfolding besides
 besides-at zero i m b = absurd (omega arith)
 besides-at (suc h) i zero b = ap beside (sym (div-one i))
 besides-at (suc h) i (suc m) b = besides-at h (i / 2) m (omega arith) ∙ ap beside (shr-shr i 1 m ∙ ap (λ (n : ℕ). i / 2 ^ n) (omega arith))
-
--- a sibling lies in its level
-beside-below : (j n : ℕ) → j < 2 ^ suc n → beside j < 2 ^ suc n
-beside-below j n b = go (eqb (j % 2) 1) refl
-  where
-    go : (t : Bool) → eqb (j % 2) 1 ≡ t → beside j < 2 ^ suc n
-    go true e = rw (beside-odd j (eqb-true (j % 2) 1 e)) (omega arith)
-    go false e = rw (beside-even j (eqb-false (j % 2) 1 e)) (let o = eqb-false (j % 2) 1 e in let p = pow-suc 2 n in omega arith)
-
--- what a leaf gives a climb
-unfoldable asSibling : Carried → Sibling
-asSibling (plain h) = value h
-asSibling copy = copied
-asSibling (client h) = value h
-
-found-sibling : (s : List ℕ) (x : Found) (c : Carried) → foundAs s x ≡ some c → sibling s x ≡ asSibling c
-unfolding foundAs sibling written asSibling carriedOf
-found-sibling s (Here (Plain p)) c e = let k : plain (hashAt s p) ≡ c = cc in ap asSibling k
-found-sibling s (Here Copy) c e = let k : copy ≡ c = cc in ap asSibling k
-found-sibling s (Here (Client p)) c e = let k : client (hashAt s p) ≡ c = cc in ap asSibling k
-found-sibling s Missing c e = absurd (let z : _≡_ {A = ℕ} 0 1 = cc in omega arith)
-
--- ---- the sibling that a chosen climb needs is written, and is the tree's. (Item 3 changes this law, and none other here.)
-needed-written : {block : ℕ} {ids : List (List ℕ)} {chosen : List ℕ} → Sizes block ids chosen → (k q : ℕ) → under chosen k (beside q) ≡ true
-    → (c : Carried) × (asked ids chosen k q ≡ some c) × (asSibling c ≡ treeSiblings ids k q)
-unfolding asked leftOut siblingAt asSibling treeSiblings
-needed-written {block} {ids} {chosen} g k q n = go (eqb k 0) refl (under chosen 0 q) refl
-  where
-    tree : (t : Bool) → asSibling (pick t (plain (node ids k q)) copy) ≡ pick t (value (node ids k q)) copied
-    tree true = refl
-    tree false = refl
-
-    inner : (a : Bool) → pick (a && true) (value (node ids k q)) copied ≡ pick a (value (node ids k q)) copied
-    inner true = refl
-    inner false = refl
-
-    go : (a : Bool) → eqb k 0 ≡ a → (b : Bool) → under chosen 0 q ≡ b → (c : Carried) × (asked ids chosen k q ≡ some c) × (asSibling c ≡ treeSiblings ids k q)
-    go true ea true eb =
-        let z = eqb-true k 0 ea in
-        (client (node ids 0 q), rw (asked, ea, eb), rw (z, lt-ltb q (size ids 0) (under-size g 0 q eb)))
-    go true ea false eb = (siblingAt ids k q, rw (asked, ea, eb, n), tree (ltb q (size ids k)))
-    go false ea b eb = (siblingAt ids k q, rw (asked, ea, n), tree (ltb q (size ids k)))
 
 -- ---- where an id is carried
 
@@ -206,19 +156,7 @@ carried-own {block} {ids} {chosen} g d i o b e = go (asked ids chosen 0 o) refl 
 
 module _ {block : ℕ} {ids : List (List ℕ)} {chosen s : List ℕ} (g : Sizes block ids chosen) (r : ReadBack block ids chosen s) (i : ℕ) (m : holds i chosen ≡ true) where
   agrees : (k : ℕ) → k < height ids → levelSiblings s (r .bump .levels) k (beside (i / 2 ^ k)) ≡ treeSiblings ids k (beside (i / 2 ^ k))
-  unfolding levelSiblings
-  agrees k b =
-      let q : ℕ = beside (i / 2 ^ k) in
-      let n = needed-written g k q (rw (beside-beside (i / 2 ^ k)) (under-chosen chosen i k m)) in
-      found-sibling s (lookup q (getD (r .bump .levels) k [])) (n .0) (leaf-back r k q b inside ∙ n .1) ∙ n .2
-    where
-      inside : beside (i / 2 ^ k) < 2 ^ (height ids - k)
-      inside =
-          let up : suc (height ids - k - 1) ≡ height ids - k = omega arith in
-          let back : height ids - k + k ≡ height ids = omega arith in
-          let below : i < 2 ^ height ids = let a = g .below i m in let l = height-holds (length ids) in omega arith in
-          let here : i / 2 ^ k < 2 ^ (height ids - k) = shr-lt (height ids - k) k (rw back below) in
-          rw (← up) (beside-below (i / 2 ^ k) (height ids - k - 1) (rw up here))
+  agrees k b = needed-value g r k (beside (i / 2 ^ k)) b (rw (beside-beside (i / 2 ^ k)) (under-chosen chosen i k m))
 
   -- the id starts at its position
   starts : distinct ids ≡ true → leastOffset s (node ids 0 i) (getD (r .bump .levels) 0 []) ≡ At i

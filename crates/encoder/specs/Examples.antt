@@ -69,13 +69,13 @@ ex10 = simp append-nil
 abbrev leaf : ℕ → Carried → Entry
 leaf o c = record { offset = o; carried = c }
 
--- every sibling needed is written, also one that another chosen climb makes
+-- a sibling that another chosen climb makes is left out
 ex11 : blockBump 0 three (0 ∷ 2 ∷ []) ≡ record {
   block = 0;
   height = 2;
   levels =
       (leaf 0 (client aa) ∷ leaf 1 (plain bb) ∷ leaf 2 (client cd) ∷ leaf 3 copy ∷ [])
-      ∷ (leaf 0 (plain (sha256d (aa ++ bb))) ∷ leaf 1 (plain (sha256d (cd ++ cd))) ∷ []) ∷ [];
+      ∷ [] ∷ [];
 }
 unfolding above layer heightFor leastFrom beside blockBump levelsFor rising asked under leftOut siblingAt
 ex11 = refl

@@ -1,6 +1,6 @@
 -- What the code counts and writes of a level, offset by offset.
 use mathlib.Core.Path.{_≡_}
-use mathlib.Core.Bool.{Bool, _&&_}
+use mathlib.Core.Bool.{Bool}
 use mathlib.Core.List.{List, [], _∷_, _++_}
 use Prim.Native.Nat.{ℕ, zero, suc, _+_, _/_}
 use lib.ListN.{length}
@@ -15,10 +15,14 @@ use Rattle.encoder.specs.Marks.{marked, Marked}
 use Rattle.encoder.specs.BlockBump.{Below}
 use Rattle.spv.specs.Bundle.{hashesOf}
 
+-- a node that a chosen climb passes: at level 0 the client, above it what can be worked out
+unfoldable pub passedAt : Bool → Asked
+passedAt base = pick base Client Nothing
+
 -- what a level of `width` places and `count` nodes asks for at an offset, by the marks
 unfoldable pub formAt : List ℕ → Bool → ℕ → ℕ → ℕ → Asked
 formAt marks base width count o =
-    pick (base && marked marks (width + o)) Client
+    pick (marked marks (width + o)) (passedAt base)
     (pick (marked marks (width + beside o)) (pick (ltb o count) Plain Copy) Nothing)
 
 -- the leaf at an offset: its number, the number of its bytes, and its bytes

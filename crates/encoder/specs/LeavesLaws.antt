@@ -1,6 +1,6 @@
 -- Laws of what the code counts and writes of a level.
 use mathlib.Core.Path.{_≡_, refl, sym, ap, _∙_}
-use mathlib.Core.Bool.{Bool, true, false, _&&_}
+use mathlib.Core.Bool.{Bool, true, false}
 use mathlib.Core.List.{List, [], _∷_, _++_}
 use Prim.Native.Nat.{ℕ, zero, suc, _+_, _-_, _%_, _≤_, _<_}
 use lib.ListN.{length, length-append}
@@ -19,7 +19,7 @@ use Rattle.format.specs.Page.{Page, putOn, writeOn, write-then, write-none, wri
 use Rattle.encoder.specs.Heap.{nodeIn}
 use Rattle.encoder.specs.HeapLaws.{node-length}
 use Rattle.encoder.specs.Marks.{marked}
-use Rattle.encoder.specs.Leaves.{formAt, leafCount, leafBytes, leafText, sumFrom, textFrom, levelLeaves, levelSize, leavesText, levelText}
+use Rattle.encoder.specs.Leaves.{passedAt, formAt, leafCount, leafBytes, leafText, sumFrom, textFrom, levelLeaves, levelSize, leavesText, levelText}
 
 -- ---- for the functions' proofs
 
@@ -45,18 +45,20 @@ module _ (list heap : List ℕ) (base : Bool) (width o : ℕ) (p : Page) {a : As
   unfolding leafText
   text-copy i {q} e f = rw i (wrote-then p (varintBytes o) (1 ∷ []) e (f ∙ sym (write-one q 1)))
 
+pub passed-client : {base : Bool} → base ≡ true → Client ≡ passedAt base
+unfolding passedAt
+passed-client e = rw e
+
+pub passed-over : {base : Bool} → base ≡ false → Nothing ≡ passedAt base
+unfolding passedAt
+passed-over e = rw e
+
 module _ (marks : List ℕ) (base : Bool) (width count o : ℕ) where
-  pub not-base : base ≡ false → false ≡ (base && marked marks (width + o))
-  not-base e = rw e
-
-  pub at-base : base ≡ true → marked marks (width + o) ≡ (base && marked marks (width + o))
-  at-base e = rw e
-
-  pub form-client : (base && marked marks (width + o)) ≡ true → Client ≡ formAt marks base width count o
+  pub form-passed : marked marks (width + o) ≡ true → passedAt base ≡ formAt marks base width count o
   unfolding formAt
-  form-client e = rw e
+  form-passed e = rw e
 
-  module _ (e : (base && marked marks (width + o)) ≡ false) where
+  module _ (e : marked marks (width + o) ≡ false) where
     pub form-nothing : marked marks (width + beside o) ≡ false → Nothing ≡ formAt marks base width count o
     unfolding formAt
     form-nothing f = rw (e, f)

@@ -7,7 +7,7 @@ use Prim.Native.Nat.{ℕ, zero, suc, _+_, _-_, _*_, _/_, _%_, _^_, _≤_, _<_}
 use lib.ListN.{length, length-append}
 use lib.Dec.{ltb, eqb}
 use native.Mathlib.Omega.{arith}
-use borrow.Author.Tests.{ltb-true, eqb-true}
+use borrow.Author.Tests.{ltb-true, lt-ltb, eqb-true, ne-eqb}
 use Rattle.format.specs.Parse.{pick}
 use Rattle.spv.specs.Climb.{beside}
 use Rattle.spv.specs.Bundle.{hashesOf}
@@ -25,9 +25,9 @@ use Rattle.encoder.specs.Marks.{Marked}
 use Rattle.format.specs.Page.{Page, writeOn, write-then, write-none}
 use Rattle.encoder.specs.IdsLaws.{hashes-length}
 use Rattle.encoder.specs.TreeLaws.{size-suc}
-use native.Mathlib.Nat.{pow-suc, sub-zero}
+use native.Mathlib.Nat.{pow-suc, sub-zero, zero-lt-suc}
 use native.Mathlib.Numerals.{add-one}
-use Rattle.encoder.specs.Leaves.{Ready, formAt, leafCount, leafText, sumFrom, textFrom, levelLeaves, levelSize, leavesText, levelText}
+use Rattle.encoder.specs.Leaves.{Ready, passedAt, formAt, leafCount, leafText, sumFrom, textFrom, levelLeaves, levelSize, leavesText, levelText}
 use Rattle.encoder.specs.LeavesLaws.{level-size, beside-in}
 
 -- the text of what is asked for at an offset
@@ -58,6 +58,10 @@ level-count f g (suc n) o e = go (f o) refl (e o (omega arith) (omega arith)) (l
     go none q h r = rw (rising-none f o n q) (let z : g o ≡ 0 = h ∙ ap askedCount q in omega arith)
     go (some c) q h r = rw (rising-some f o n c q) (let z : g o ≡ 1 = h ∙ ap askedCount q in omega arith)
 
+above-zero : (k : ℕ) → ltb 0 k ≡ not (eqb k 0)
+above-zero zero = refl
+above-zero (suc k) = lt-ltb 0 (suc k) (zero-lt-suc k) ∙ sym (ap not (ne-eqb (suc k) 0 (λ q. omega arith)))
+
 -- ---- a level whose layer stands in its places, and whose nodes are marked
 
 module _ (list chosen : List ℕ) (g : Below (hashesOf list) chosen) (heap marks : List ℕ) (h k : ℕ) (more : k < h)
@@ -70,9 +74,9 @@ module _ (list chosen : List ℕ) (g : Below (hashesOf list) chosen) (heap marks
   form o = formAt marks (eqb k 0) (2 ^ (h - k)) (size (hashesOf list) k) o
 
   leaf-text : (o : ℕ) → o < 2 ^ (h - k) → leafText list heap (eqb k 0) (2 ^ (h - k)) o (form o) ≡ askedText o (asked (hashesOf list) chosen k o)
-  unfolding formAt asked leftOut siblingAt leafText askedText carriedBytes
+  unfolding formAt passedAt asked leftOut siblingAt leafText askedText carriedBytes
   leaf-text o low =
-      rw (mk k o more low, mk k (beside o) more (beside-in (2 ^ (h - k)) o even low)) (go (eqb k 0) refl (under chosen k o) refl (under chosen k (beside o)) (ltb o (size (hashesOf list) k)) refl)
+      rw (mk k o more low, mk k (beside o) more (beside-in (2 ^ (h - k)) o even low), above-zero k) (go (eqb k 0) refl (under chosen k o) refl (under chosen k (beside o)) (ltb o (size (hashesOf list) k)) refl)
     where
       sib : (n : Bool) → (s : Bool) → ltb o (size (hashesOf list) k) ≡ s
           → leafText list heap (eqb k 0) (2 ^ (h - k)) o (pick n (pick s Plain Copy) Nothing) ≡ askedText o (pick (n && not false) (some (pick s (plain (node (hashesOf list) k o)) copy)) none)
@@ -81,30 +85,34 @@ module _ (list chosen : List ℕ) (g : Below (hashesOf list) chosen) (heap marks
       sib false s es = refl
 
       go : (a : Bool) → eqb k 0 ≡ a → (b : Bool) → under chosen k o ≡ b → (n : Bool) → (s : Bool) → ltb o (size (hashesOf list) k) ≡ s
-          → leafText list heap (eqb k 0) (2 ^ (h - k)) o (pick (a && b) Client (pick n (pick s Plain Copy) Nothing))
-          ≡ askedText o (pick (a && under chosen 0 o) (some (client (node (hashesOf list) 0 o))) (pick (n && not false) (some (pick s (plain (node (hashesOf list) k o)) copy)) none))
+          → leafText list heap (eqb k 0) (2 ^ (h - k)) o (pick b (pick a Client Nothing) (pick n (pick s Plain Copy) Nothing))
+          ≡ askedText o (pick (a && under chosen 0 o) (some (client (node (hashesOf list) 0 o))) (pick (n && not (not a && b)) (some (pick s (plain (node (hashesOf list) k o)) copy)) none))
       go true ea true eb n s es =
           let z : k ≡ 0 = eqb-true k 0 ea in
           let u : under chosen 0 o ≡ true = rw z at eb in
           rw u (ap (λ (x : List ℕ). varintBytes o ++ (2 ∷ x)) (st o (under-below (hashesOf list) chosen g k o eb) ∙ ap (λ (m : ℕ). node (hashesOf list) m o) z))
       go true ea false eb n s es = let z : k ≡ 0 = eqb-true k 0 ea in let u : under chosen 0 o ≡ false = rw z at eb in rw u (sib n s es)
-      go false ea b eb n s es = sib n s es
+      go false ea true eb true s es = refl
+      go false ea true eb false s es = refl
+      go false ea false eb n s es = sib n s es
 
   leaf-counted : (o : ℕ) → o < 2 ^ (h - k) → leafCount (form o) ≡ askedCount (asked (hashesOf list) chosen k o)
-  unfolding formAt asked leftOut leafCount askedCount
+  unfolding formAt passedAt asked leftOut leafCount askedCount
   leaf-counted o low =
-      rw (mk k o more low, mk k (beside o) more (beside-in (2 ^ (h - k)) o even low)) (go (eqb k 0) refl (under chosen k o) refl (under chosen k (beside o)) (ltb o (size (hashesOf list) k)))
+      rw (mk k o more low, mk k (beside o) more (beside-in (2 ^ (h - k)) o even low), above-zero k) (go (eqb k 0) refl (under chosen k o) refl (under chosen k (beside o)) (ltb o (size (hashesOf list) k)))
     where
       sib : (n s : Bool) → leafCount (pick n (pick s Plain Copy) Nothing) ≡ askedCount (pick (n && not false) (some (siblingAt (hashesOf list) k o)) none)
       sib true true = refl
       sib true false = refl
       sib false s = refl
 
-      go : (a : Bool) → eqb k 0 ≡ a → (b : Bool) → under chosen k o ≡ b → (n s : Bool) → leafCount (pick (a && b) Client (pick n (pick s Plain Copy) Nothing))
-          ≡ askedCount (pick (a && under chosen 0 o) (some (client (node (hashesOf list) 0 o))) (pick (n && not false) (some (siblingAt (hashesOf list) k o)) none))
+      go : (a : Bool) → eqb k 0 ≡ a → (b : Bool) → under chosen k o ≡ b → (n s : Bool) → leafCount (pick b (pick a Client Nothing) (pick n (pick s Plain Copy) Nothing))
+          ≡ askedCount (pick (a && under chosen 0 o) (some (client (node (hashesOf list) 0 o))) (pick (n && not (not a && b)) (some (siblingAt (hashesOf list) k o)) none))
       go true ea true eb n s = let z : k ≡ 0 = eqb-true k 0 ea in let u : under chosen 0 o ≡ true = rw z at eb in rw u
       go true ea false eb n s = let z : k ≡ 0 = eqb-true k 0 ea in let u : under chosen 0 o ≡ false = rw z at eb in rw u (sib n s)
-      go false ea b eb n s = sib n s
+      go false ea true eb true s = refl
+      go false ea true eb false s = refl
+      go false ea false eb n s = sib n s
 
   -- the level that the code writes is the one asked for
   level-is : levelText list heap marks (eqb k 0) (2 ^ (h - k)) (size (hashesOf list) k) ≡ levelBytes (levelFor (hashesOf list) chosen h k)

@@ -7,6 +7,7 @@ pub mod RisingLaws
 pub mod OnlyBytes
 pub mod BlockFit
 pub mod BlockMeets
+pub mod BlockValues
 pub mod BlockProved
 pub mod Ids
 pub mod IdsLaws

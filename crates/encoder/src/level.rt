@@ -5,7 +5,6 @@ use format::page::varint_size;
 use format::page::write;
 use format::page::write_varint;
 ghost use mathlib.Core.Path.{_≡_};
-ghost use mathlib.Core.Bool.{_&&_};
 ghost use mathlib.Core.List.{List, _∷_, _++_};
 ghost use Prim.Native.Nat.{ℕ, _+_, _%_, _^_, _<_, _≤_};
 ghost use lib.ListN.{length};
@@ -18,7 +17,7 @@ ghost use Rattle.spv.specs.Bundle.{hashesOf};
 ghost use Rattle.encoder.specs.BlockBump.{levelsFor};
 ghost use Rattle.encoder.specs.Heap.{nodeIn};
 ghost use Rattle.encoder.specs.Marks.{marked};
-ghost use Rattle.encoder.specs.Leaves.{formAt, leafCount, leafBytes, leafText, levelLeaves, levelSize, leavesText, levelText};
+ghost use Rattle.encoder.specs.Leaves.{passedAt, formAt, leafCount, leafBytes, leafText, levelLeaves, levelSize, leavesText, levelText};
 ghost use Rattle.encoder.specs.Leaves.{Ready};
 
 // What is asked for at an offset.
@@ -43,15 +42,11 @@ fn beside(o: usize) -> usize
     if o % 2 == 1 { o - 1 } else { o + 1 }
 }
 
-// Whether a client's id stands at an offset: at level 0, where the position is chosen.
-fn is_client(marks: &[u8], base: bool, width: usize, o: usize) -> bool
-    requires { ⌜ width + o < length (now marks) ⌝ }
-    ensures { λ r. ⌜ r ≡ (base && marked (now (marks .entry)) (width + o)) ⌝ }
+// A node that a chosen climb passes: a client's id at level 0, left out above it.
+fn passed_at(base: bool) -> Asked
+    ensures { λ r. ⌜ r ≡ passedAt base ⌝ }
 {
-    if !base {
-        return false;
-    }
-    is_marked(marks, width + o)
+    if base { Asked::Client } else { Asked::Nothing }
 }
 
 // What a level asks for at an offset.
@@ -59,8 +54,8 @@ fn asked_at(marks: &[u8], base: bool, width: usize, count: usize, o: usize) -> A
     requires { ⌜ (o < width) × (width % 2 ≡ 0) × (width ≤ 1024) × (length (now marks) ≡ 2048) ⌝ }
     ensures { λ r. ⌜ r ≡ formAt (now (marks .entry)) base width count o ⌝ }
 {
-    if is_client(marks, base, width, o) {
-        return Asked::Client;
+    if is_marked(marks, width + o) {
+        return passed_at(base);
     }
     if !is_marked(marks, width + beside(o)) {
         return Asked::Nothing;
