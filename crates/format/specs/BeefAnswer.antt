@@ -1,31 +1,24 @@
--- What the answers of the BEEF readers say. An enum holds no array, so what a bundle holds stands in arrays beside the answer: zeros past
--- the counts, and everywhere where the reading is refused.
+-- What the answers of the BEEF readers say, and what is found again in a bundle that was read.
 use mathlib.Core.Path.{_≡_, refl}
-use mathlib.Core.List.{List, map}
+use mathlib.Core.List.{List, [], _∷_}
 use Prim.Native.Nat.{ℕ}
-use lib.ListN.{length, getD, replicate}
-use lib.Dec.{ltb}
+use lib.ListN.{length, replicate}
 use Rattle.format.specs.declared.refusal.Refusal.{Refusal}
-use Rattle.format.specs.declared.field.Number.{Number}
 use Rattle.format.specs.declared.bump.BumpHead.{BumpHead}
+use Rattle.format.specs.declared.tx.Items.{Items}
 use Rattle.format.specs.declared.beef.Anchor.{Anchor}
 use Rattle.format.specs.declared.beef.AnchorAnswer.{AnchorAnswer}
 use Rattle.format.specs.declared.beef.EntryHead.{EntryHead}
 use Rattle.format.specs.declared.beef.EntryAnswer.{EntryAnswer}
 use Rattle.format.specs.declared.beef.BeefHead.{BeefHead}
 use Rattle.format.specs.declared.beef.BeefAnswer.{BeefAnswer}
-use Rattle.format.specs.declared.beef.Bumps.{Bumps}
-use Rattle.format.specs.declared.beef.Entries.{Entries}
-use Rattle.format.specs.declared.beef.Bundle.{Bundle}
-use Rattle.format.specs.declared.beef.BumpFound.{BumpFound}
-use Rattle.format.specs.declared.beef.EntryFound.{EntryFound}
-use Rattle.format.specs.Parse.{Parse, pick, got, bad}
+use Rattle.format.specs.Parse.{Parse, otherwise, times, got, bad}
 use Rattle.format.specs.OneAnswer.{answerOf, one-reading}
 use Rattle.format.specs.Gather.{padded}
-use Rattle.format.specs.Bump.{headOf}
+use Rattle.format.specs.Search.{looseBump}
 use Rattle.format.specs.Transaction.{txHeadOf}
-use Rattle.format.specs.Beef.{Entry, Beef}
-use Rattle.format.specs.Refusals.{MAX-BUMPS, MAX-TXS}
+use Rattle.format.specs.Beef.{Entry, Beef, bumpCountField}
+use Rattle.format.specs.Refusals.{MAX-BUMPS}
 
 abbrev pub anchorAnswer : AnchorAnswer → Parse Anchor
 anchorAnswer (AnchorAnswer.Value v c) = got v (c .at)
@@ -47,9 +40,17 @@ abbrev pub refusalOfEntry : EntryAnswer → Refusal
 refusalOfEntry (EntryAnswer.Value v c) = record { number = 0; place = 0 }
 refusalOfEntry (EntryAnswer.Refused r) = r
 
--- how many BUMPs and transactions a bundle has
+-- where the first of the transactions starts
+unfoldable pub firstAt : List Entry → ℕ
+firstAt [] = 0
+firstAt (e ∷ l) = e .transaction .start
+
+abbrev pub entriesOf : List Entry → Items
+entriesOf l = record { count = length l; at = record { at = firstAt l } }
+
+-- how many BUMPs and transactions a bundle has, and where its first transaction starts
 abbrev pub beefHeadOf : Beef → BeefHead
-beefHeadOf b = record { bumps = length (b .bumps); transactions = length (b .entries) }
+beefHeadOf b = record { bumps = length (b .bumps); transactions = length (b .entries); entries = record { at = firstAt (b .entries) } }
 
 abbrev pub beefAnswer : BeefAnswer → Parse BeefHead
 beefAnswer (BeefAnswer.Value v c) = got v (c .at)
@@ -59,60 +60,17 @@ abbrev pub refusalOfBeef : BeefAnswer → Refusal
 refusalOfBeef (BeefAnswer.Value v c) = record { number = 0; place = 0 }
 refusalOfBeef (BeefAnswer.Refused r) = r
 
--- places that hold nothing
+-- a place that holds no BUMP
 abbrev pub noBump : BumpHead
 noBump = record { block = 0; height = 0; leaves = 0; levels = record { at = 0 } }
 
-abbrev pub noEntry : EntryHead
-noEntry = record {
-  transaction = record {
-    start = 0;
-    end = 0;
-    inputs = record { count = 0; at = record { at = 0 } };
-    outputs = record { count = 0; at = record { at = 0 } };
-  };
-  anchor = Anchor.Unanchored;
-}
+-- the heads of n BUMPs from a place, and places that hold none after them
+unfoldable pub bumpHeadsAt : ℕ → List ℕ → ℕ → List BumpHead
+bumpHeadsAt n s at = otherwise (times looseBump n s at) (replicate MAX-BUMPS noBump) (λ l _. padded MAX-BUMPS noBump l)
 
--- how many items were read, and n places with what was kept of them
-unfoldable pub countOf : {B : Type 0} → Parse (List B) → Number
-countOf (got l q) = Number.Value (length l) (record { at = q })
-countOf (bad n q) = Number.Refused (record { number = n; place = q })
-
-unfoldable pub keptOf : {B : Type 0} → ℕ → B → Parse (List B) → List B
-keptOf n z (got l q) = padded n z l
-keptOf n z (bad k q) = replicate n z
-
-unfoldable pub bumpsOf : Parse (List BumpHead) → Bumps
-bumpsOf p = record { answer = countOf p; heads = keptOf MAX-BUMPS noBump p }
-
-unfoldable pub entriesOf : Parse (List EntryHead) → Entries
-entriesOf p = record { answer = countOf p; heads = keptOf MAX-TXS noEntry p }
-
-unfoldable pub bundleOf : Parse Beef → Bundle
-bundleOf (got b q) = record {
-  answer = BeefAnswer.Value (beefHeadOf b) (record { at = q });
-  bumps = padded MAX-BUMPS noBump (map headOf (b .bumps));
-  entries = padded MAX-TXS noEntry (map entryHeadOf (b .entries));
-}
-bundleOf (bad n q) = record {
-  answer = BeefAnswer.Refused (record { number = n; place = q });
-  bumps = replicate MAX-BUMPS noBump;
-  entries = replicate MAX-TXS noEntry;
-}
-
--- how many BUMPs and transactions an answer tells of
-abbrev pub countsOf : BeefAnswer → BeefHead
-countsOf (BeefAnswer.Value h c) = h
-countsOf (BeefAnswer.Refused r) = record { bumps = 0; transactions = 0 }
-
--- the n-th BUMP and the n-th transaction of a bundle, counted from 0
-unfoldable pub bumpNth : Bundle → ℕ → BumpFound
-bumpNth b n = pick (ltb n (countsOf (b .answer) .bumps)) (pick (ltb n MAX-BUMPS) (BumpFound.Here (getD (b .bumps) n noBump)) BumpFound.Missing) BumpFound.Missing
-
-unfoldable pub entryNth : Bundle → ℕ → EntryFound
-entryNth b n =
-    pick (ltb n (countsOf (b .answer) .transactions)) (pick (ltb n MAX-TXS) (EntryFound.Here (getD (b .entries) n noEntry)) EntryFound.Missing) EntryFound.Missing
+-- those of a bundle: its version takes four bytes
+unfoldable pub bumpHeads : List ℕ → List BumpHead
+bumpHeads s = otherwise (bumpCountField s 4) (replicate MAX-BUMPS noBump) (λ n next. bumpHeadsAt n s next)
 
 pub anchor-one : (a b : AnchorAnswer) → anchorAnswer a ≡ anchorAnswer b → a ≡ b
 anchor-one = one-reading anchorAnswer AnchorAnswer.Value AnchorAnswer.Refused undone

@@ -1,38 +1,33 @@
 -- Laws of BEEF: what a reading answers, and what is known of a bundle that was read.
 use mathlib.Core.Path.{_≡_, refl, ap, sym, _∙_}
-use mathlib.Core.List.{List, map}
-use mathlib.Core.Bool.{Bool, true, false}
-use Prim.Native.Nat.{ℕ, _≤_, _<_}
-use lib.ListN.{length, getD, length-map}
+use mathlib.Core.List.{List, [], _∷_, map}
+use mathlib.Core.Bool.{Bool, true, false, _&&_}
+use Prim.Native.Nat.{ℕ, zero, suc, _+_, _≤_, _<_}
+use lib.ListN.{length, getD, replicate}
 use lib.Dec.{ltb, leb, eqb}
 use native.Mathlib.Omega.{arith}
-use borrow.Author.Tests.{le-ltb, lt-ltb, leb-true, ltb-true}
-use Rattle.format.specs.declared.field.Cursor.{Cursor}
-use Rattle.format.specs.declared.field.Number.{Number}
-use Rattle.format.specs.declared.refusal.Refusal.{Refusal}
+use borrow.Author.Tests.{leb-true, ltb-true}
+use Rattle.format.specs.declared.level.Layout.{Layout}
+use Rattle.format.specs.declared.level.Leaf.{Leaf}
 use Rattle.format.specs.declared.bump.BumpHead.{BumpHead}
 use Rattle.format.specs.declared.tx.TxHead.{TxHead}
+use Rattle.format.specs.declared.tx.Items.{Items}
 use Rattle.format.specs.declared.beef.Anchor.{Anchor}
-use Rattle.format.specs.declared.beef.EntryHead.{EntryHead}
-use Rattle.format.specs.declared.beef.BeefHead.{BeefHead}
-use Rattle.format.specs.declared.beef.BeefAnswer.{BeefAnswer}
-use Rattle.format.specs.declared.beef.Bumps.{Bumps}
-use Rattle.format.specs.declared.beef.Entries.{Entries}
-use Rattle.format.specs.declared.beef.Bundle.{Bundle}
-use Rattle.format.specs.declared.beef.BumpFound.{BumpFound}
-use Rattle.format.specs.declared.beef.EntryFound.{EntryFound}
-use Rattle.format.specs.Parse.{Parse, pick, pure, _passing_else_, given, each, got, bad}
-use Rattle.format.specs.ParseLaws.{passing-told, onward-told, each-got, whole-told, many-length}
-use Rattle.format.specs.Field.{byte, varint}
-use Rattle.format.specs.Span.{ItemRead, times-told}
+use Rattle.format.specs.Parse.{Parse, pick, pure, _passing_else_, given, each, many, times, got, bad}
+use Rattle.format.specs.ParseLaws.{passing-told, onward-told, each-got, each-bad, whole-told, many-told, many-length, many-loose}
+use Rattle.format.specs.Field.{bytes, byte, le4, number, varint}
+use Rattle.format.specs.Span.{ItemRead, times-told, bytes-told}
 use Rattle.format.specs.Whole.{whole-size}
-use Rattle.format.specs.Gather.{padded, padded-at}
-use Rattle.format.specs.Bump.{Bump, bumpField, headOf}
+use Rattle.format.specs.Gather.{padded, each-sames}
+use Rattle.format.specs.Level.{levelFields, levelInTurn, nextTurn}
+use Rattle.format.specs.Search.{looseLevel, looseBump}
+use Rattle.format.specs.SearchLaws.{level-loose}
+use Rattle.format.specs.Bump.{Bump, blockField, heightField, bumpField}
 use Rattle.format.specs.Transaction.{Transaction, txField, txHeadOf}
 use Rattle.format.specs.TransactionLaws.{tx-told}
-use Rattle.format.specs.Beef.{Entry, Beef, versionField, bumpCountField, txCountField, bumpsField, bumpNumberField, anchorField, entryField, entriesField, beefField, beefWhole}
-use Rattle.format.specs.BeefAnswer.{entryHeadOf, beefHeadOf, beefAnswer, noBump, noEntry, countOf, keptOf, bumpsOf, entriesOf, bundleOf, bumpNth, entryNth}
-use Rattle.format.specs.Refusals.{OVER-LIMIT, BAD-FLAG, EMPTY, BAD-INDEX, NO-ROOM, MAX-INPUT, MAX-BUMPS, MAX-TXS}
+use Rattle.format.specs.Beef.{Entry, Beef, VERSION, versionField, bumpCountField, txCountField, bumpsField, bumpNumberField, anchorField, entryField, entriesField, beefField, beefWhole}
+use Rattle.format.specs.BeefAnswer.{entryHeadOf, firstAt, entriesOf, beefHeadOf, noBump, bumpHeadsAt, bumpHeads}
+use Rattle.format.specs.Refusals.{OVER-LIMIT, BAD-FLAG, BAD-HEIGHT, BAD-VERSION, EMPTY, BAD-INDEX, NO-ROOM, MAX-INPUT, MAX-BUMPS, MAX-TXS, MAX-BLOCK, MAX-HEIGHT}
 
 -- the counts
 pub bump-count-told : (s : List ℕ) (at : ℕ) {n q : ℕ} → bumpCountField s at ≡ got n q → n ≤ MAX-BUMPS
@@ -53,133 +48,77 @@ pub entry-head : (t : Transaction) (a : Anchor) (q : ℕ) {h : TxHead} → txHea
 unfolding each
 entry-head t a q e = rw (← e)
 
--- items that a loop kept
-pub bumps-kept : {p : Parse (List BumpHead)} {l kept : List BumpHead} {i q : ℕ} → p ≡ got l q → length l ≡ i → kept ≡ padded MAX-BUMPS noBump l
-    → record { answer = Number.Value i (record { at = q }); heads = kept } ≡ bumpsOf p
-unfolding bumpsOf countOf keptOf
-bumps-kept e n k = rw (e, k, ← n)
+-- a loop that kept the heads of BUMPs
+module _ (n : ℕ) (s : List ℕ) (at : ℕ) where
+  pub heads-kept : {l kept : List BumpHead} {q : ℕ} → each (map (λ (h : BumpHead). h)) (times looseBump n s at) ≡ got l q → kept ≡ padded MAX-BUMPS noBump l → kept ≡ bumpHeadsAt n s at
+  unfolding bumpHeadsAt
+  heads-kept e k = rw (sym (each-sames (times looseBump n s at)) ∙ e, k)
 
-pub entries-kept : {p : Parse (List EntryHead)} {l kept : List EntryHead} {i q : ℕ} → p ≡ got l q → length l ≡ i → kept ≡ padded MAX-TXS noEntry l
-    → record { answer = Number.Value i (record { at = q }); heads = kept } ≡ entriesOf p
-unfolding entriesOf countOf keptOf
-entries-kept e n k = rw (e, k, ← n)
+  pub heads-refused : {k q : ℕ} → each (map (λ (h : BumpHead). h)) (times looseBump n s at) ≡ bad k q → replicate MAX-BUMPS noBump ≡ bumpHeadsAt n s at
+  unfolding bumpHeadsAt
+  heads-refused e = rw (sym (each-sames (times looseBump n s at)) ∙ e)
 
--- what an answer tells of the items, of which f was kept
-module _ {A B : Type 0} (f : A → B) where
-  pub count-value : (p : Parse (List A)) {x : Number} {n : ℕ} {c : Cursor} → x ≡ countOf (each (map f) p) → x ≡ Number.Value n c
-      → (l : List A) × (p ≡ got l (c .at)) × (n ≡ length l)
-  unfolding countOf each
-  count-value (got l q) {x} {n} {c} e h =
-      let m : length (map f l) ≡ n = cc in
-      let at : _≡_ {A = Cursor} (record { at = q }) c = cc in
-      (l, ap (λ (k : Cursor). got l (k .at)) at, sym m ∙ length-map l f)
-  count-value (bad k q) e h = absurd (let z : _≡_ {A = ℕ} 0 1 = cc in omega arith)
+pub heads-none : (s : List ℕ) {k q : ℕ} → bumpCountField s 4 ≡ bad k q → replicate MAX-BUMPS noBump ≡ bumpHeads s
+unfolding bumpHeads
+heads-none s e = rw e
 
-  pub count-refused : (p : Parse (List A)) {x : Number} {r : Refusal} → x ≡ countOf (each (map f) p) → x ≡ Number.Refused r → p ≡ bad (r .number) (r .place)
-  unfolding countOf each
-  count-refused (got l q) e h = absurd (let z : _≡_ {A = ℕ} 0 1 = cc in omega arith)
-  count-refused (bad k q) {x} {r} e h =
-      let is : _≡_ {A = Refusal} (record { number = k; place = q }) r = cc in
-      ap (λ (y : Refusal). bad (y .number) (y .place)) is
+pub heads-some : (s : List ℕ) {n q : ℕ} → bumpCountField s 4 ≡ got n q → bumpHeadsAt n s q ≡ bumpHeads s
+unfolding bumpHeads
+heads-some s e = rw e
 
--- a bundle, by its parts
-module _ (room : ℕ) (s : List ℕ) (at : ℕ) where
-  pub bundle-no-version : {n q : ℕ} → versionField s at ≡ bad n q → bundleOf (bad n q) ≡ bundleOf (beefField room s at)
-  unfolding beefField
-  bundle-no-version e = rw e
+-- ---- BUMPs that were read are found again
 
-  pub bundle-no-bumps : {v q : ℕ} {r : Bumps} {x : Refusal} → versionField s at ≡ got v q → r ≡ bumpsOf (each (map headOf) (bumpsField s q)) → r .answer ≡ Number.Refused x
-      → bundleOf (bad (x .number) (x .place)) ≡ bundleOf (beefField room s at)
-  unfolding beefField bumpsOf
-  bundle-no-bumps {v} {q} e b h = rw (e, count-refused headOf (bumpsField s q) (ap (λ (y : Bumps). y .answer) b) h)
+-- what is found again of a BUMP
+abbrev pub foundHead : Bump → BumpHead
+foundHead b = record { block = b .block; height = b .height; leaves = 0; levels = record { at = b .start } }
 
-  pub bundle-no-entries : {v q m : ℕ} {c : Cursor} {r : Bumps} {t : Entries} {x : Refusal}
-      → versionField s at ≡ got v q
-      → r ≡ bumpsOf (each (map headOf) (bumpsField s q)) → r .answer ≡ Number.Value m c
-      → t ≡ entriesOf (each (map entryHeadOf) (entriesField m room s (c .at))) → t .answer ≡ Number.Refused x
-      → bundleOf (bad (x .number) (x .place)) ≡ bundleOf (beefField room s at)
-  unfolding beefField bumpsOf entriesOf
-  bundle-no-entries {v} {q} {m} {c} e b h f g =
-      let w = count-value headOf (bumpsField s q) (ap (λ (y : Bumps). y .answer) b) h in
-      let u = count-refused entryHeadOf (entriesField m room s (c .at)) (ap (λ (y : Entries). y .answer) f) g in
-      rw (e, w .1, ← w .2, u)
+bump-loose : (s : List ℕ) (at : ℕ) {b : Bump} {q : ℕ} → bumpField s at ≡ got b q → looseBump s at ≡ got (foundHead b) q
+unfolding bumpField blockField heightField looseBump
+bump-loose s at {b} {q} e =
+    let x = onward-told ((varint passing (λ b. leb b MAX-BLOCK) else OVER-LIMIT) s at) _ e in
+    let y = onward-told ((byte passing (λ h. leb 1 h && leb h MAX-HEIGHT) else BAD-HEIGHT) s (x .1)) _ (x .3) in
+    let z = onward-told (levelFields Layout.Bump (y .0) s (y .1)) _ (y .3) in
+    let loose = many-loose {S′ = Unit {0}} (levelInTurn Layout.Bump (y .0)) nextTurn (λ _. looseLevel Layout.Bump) (λ u _. u) s (λ _ _ at′ _ _ h. level-loose Layout.Bump _ _ s at′ h) (y .0) 0 tt (y .1) (z .2) in
+    let is : _≡_ {A = Parse Bump} (got (record { block = x .0; height = y .0; start = y .1; levels = z .0 }) (z .1)) (got b q) = z .3 in
+    rw (passing-told varint (λ b. leb b MAX-BLOCK) OVER-LIMIT s at (x .2) .0, passing-told byte (λ h. leb 1 h && leb h MAX-HEIGHT) BAD-HEIGHT s (x .1) (y .2) .0, loose)
+    (built (x .0) (y .0) (y .1) (z .1) (z .0) is)
+  where
+    built : (block height start end : ℕ) (levels : List (List Leaf)) → _≡_ {A = Parse Bump} (got (record { block = block; height = height; start = start; levels = levels }) end) (got b q)
+        → _≡_ {A = Parse BumpHead} (got (record { block = block; height = height; leaves = 0; levels = record { at = start } }) end) (got (foundHead b) q)
+    built block height start end levels is =
+        let eb : record { block = block; height = height; start = start; levels = levels } ≡ b = cc in
+        let eq : end ≡ q = cc in
+        rw (← eb, ← eq)
 
-  pub bundle-read : {v q m n : ℕ} {c d : Cursor} {r : Bumps} {t : Entries}
-      → versionField s at ≡ got v q
-      → r ≡ bumpsOf (each (map headOf) (bumpsField s q)) → r .answer ≡ Number.Value m c
-      → t ≡ entriesOf (each (map entryHeadOf) (entriesField m room s (c .at))) → t .answer ≡ Number.Value n d
-      → record { answer = BeefAnswer.Value (record { bumps = m; transactions = n }) d; bumps = r .heads; entries = t .heads } ≡ bundleOf (beefField room s at)
-  unfolding beefField bundleOf bumpsOf entriesOf keptOf each
-  bundle-read {v} {q} {m} {n} {c} {d} {r} {t} e b h f g =
-      let w = count-value headOf (bumpsField s q) (ap (λ (y : Bumps). y .answer) b) h in
-      let u = count-value entryHeadOf (entriesField m room s (c .at)) (ap (λ (y : Entries). y .answer) f) g in
-      built (w .0) (u .0) (w .1) (w .2) (u .1) (u .2)
-    where
-      built : (l : List Bump) (k : List Entry) → bumpsField s q ≡ got l (c .at) → m ≡ length l → entriesField m room s (c .at) ≡ got k (d .at) → n ≡ length k
-          → record { answer = BeefAnswer.Value (record { bumps = m; transactions = n }) d; bumps = r .heads; entries = t .heads } ≡ bundleOf (beefField room s at)
-      built l k bl ml ek nk =
-          let hb : r .heads ≡ padded MAX-BUMPS noBump (map headOf l) = ap (λ (y : Bumps). y .heads) b ∙ rw bl in
-          let hk : t .heads ≡ padded MAX-TXS noEntry (map entryHeadOf k) = ap (λ (y : Entries). y .heads) f ∙ rw ek in
-          rw (hb, hk, e, bl, ← ml, ek) (rw (ml, nk))
+bumps-loose : (s : List ℕ) (n at : ℕ) {l : List Bump} {q : ℕ} → times bumpField n s at ≡ got l q → times looseBump n s at ≡ got (map foundHead l) q
+unfolding many each
+bumps-loose s zero at {l} {q} e =
+    let none : [] ≡ l = cc in
+    let here : at ≡ q = cc in
+    rw (← none, ← here)
+bumps-loose s (suc n) at {l} {q} e =
+    let x = many-told {S = Unit {0}} (λ _. bumpField) (λ u _. u) n tt s at e in
+    more (x .0) (x .1) (x .2) (bump-loose s at (x .3)) (bumps-loose s n (x .1) (x .4)) (x .5)
+  where
+    more : (b : Bump) (r : ℕ) (rest : List Bump) → looseBump s at ≡ got (foundHead b) r → times looseBump n s r ≡ got (map foundHead rest) q → b ∷ rest ≡ l
+        → times looseBump (suc n) s at ≡ got (map foundHead l) q
+    more b r rest h f is = rw (h, f, ← is)
 
--- what a bundle's answer tells of the reading
-pub bundle-answer : (p : Parse Beef) → beefAnswer (bundleOf p .answer) ≡ each beefHeadOf p
-unfolding bundleOf each
-bundle-answer (got b q) = refl
-bundle-answer (bad n q) = refl
+version-told : (s : List ℕ) (at : ℕ) {v q : ℕ} → versionField s at ≡ got v q → q ≡ at + 4
+unfolding versionField
+version-told s at {v} {q} e =
+    let x = passing-told (number le4 4) (λ v. eqb v VERSION) BAD-VERSION s at e in
+    let y = onward-told (bytes 4 s at) _ (x .0) in
+    let b = bytes-told 4 s at (y .2) in
+    let z : y .1 ≡ q = cc in
+    sym z ∙ b .next-is
 
-pub bundle-refused : (p : Parse Beef) {r : Bundle} {x : Refusal} → r ≡ bundleOf p → r .answer ≡ BeefAnswer.Refused x → p ≡ bad (x .number) (x .place)
-unfolding bundleOf
-bundle-refused (got b q) {r} e h = absurd (let y = ap (λ (b : Bundle). b .answer) e in let z : _≡_ {A = ℕ} 0 1 = cc in omega arith)
-bundle-refused (bad n q) {r} {x} e h =
-    let y = ap (λ (b : Bundle). b .answer) e in
-    let is : _≡_ {A = Refusal} (record { number = n; place = q }) x = cc in
-    ap (λ (k : Refusal). bad (k .number) (k .place)) is
-
--- what a bundle that was read holds
-pub record Held (r : Bundle) (b : Beef) (h : BeefHead) : Type 0 where
-  pub bump-count : h .bumps ≡ length (b .bumps)
-  pub entry-count : h .transactions ≡ length (b .entries)
-  pub bumps : r .bumps ≡ padded MAX-BUMPS noBump (map headOf (b .bumps))
-  pub entries : r .entries ≡ padded MAX-TXS noEntry (map entryHeadOf (b .entries))
-
-pub bundle-value : (p : Parse Beef) {r : Bundle} {h : BeefHead} {c : Cursor} → r ≡ bundleOf p → r .answer ≡ BeefAnswer.Value h c
-    → (b : Beef) × (p ≡ got b (c .at)) × Held r b h
-unfolding bundleOf
-bundle-value (got b q) {r} {h} {c} e v =
-    let y = ap (λ (k : Bundle). k .answer) e in
-    let at : _≡_ {A = Cursor} (record { at = q }) c = cc in
-    let is : beefHeadOf b ≡ h = cc in (
-      b,
-      ap (λ (k : Cursor). got b (k .at)) at,
-      record {
-        bump-count = ap (λ (k : BeefHead). k .bumps) (sym is);
-        entry-count = ap (λ (k : BeefHead). k .transactions) (sym is);
-        bumps = ap (λ (k : Bundle). k .bumps) e;
-        entries = ap (λ (k : Bundle). k .entries) e;
-      },
-    )
-bundle-value (bad n q) {r} e v = absurd (let y = ap (λ (k : Bundle). k .answer) e in let z : _≡_ {A = ℕ} 0 1 = cc in omega arith)
-
--- the n-th BUMP and the n-th transaction of a bundle that was read
-module _ (b : Beef) (q n : ℕ) where
-  pub bump-nth : (d : Bump) → length (b .bumps) ≤ MAX-BUMPS → n < length (b .bumps) → bumpNth (bundleOf (got b q)) n ≡ BumpFound.Here (headOf (getD (b .bumps) n d))
-  unfolding bumpNth bundleOf
-  bump-nth d low h =
-      simp (lt-ltb n (length (b .bumps)) h, lt-ltb n MAX-BUMPS (omega arith)) (ap BumpFound.Here (padded-at MAX-BUMPS noBump headOf (b .bumps) n d h))
-
-  pub bump-none : length (b .bumps) ≤ n → bumpNth (bundleOf (got b q)) n ≡ BumpFound.Missing
-  unfolding bumpNth bundleOf
-  bump-none h = simp (le-ltb n (length (b .bumps)) h)
-
-  pub entry-nth : (d : Entry) → length (b .entries) ≤ MAX-TXS → n < length (b .entries) → entryNth (bundleOf (got b q)) n ≡ EntryFound.Here (entryHeadOf (getD (b .entries) n d))
-  unfolding entryNth bundleOf
-  entry-nth d low h =
-      simp (lt-ltb n (length (b .entries)) h, lt-ltb n MAX-TXS (omega arith)) (ap EntryFound.Here (padded-at MAX-TXS noEntry entryHeadOf (b .entries) n d h))
-
-  pub entry-none : length (b .entries) ≤ n → entryNth (bundleOf (got b q)) n ≡ EntryFound.Missing
-  unfolding entryNth bundleOf
-  entry-none h = simp (le-ltb n (length (b .entries)) h)
+heads-found : (s : List ℕ) (at : ℕ) {l : List Bump} {q : ℕ} → at ≡ 4 → bumpsField s at ≡ got l q → bumpHeads s ≡ padded MAX-BUMPS noBump (map foundHead l)
+unfolding bumpsField bumpHeads bumpHeadsAt
+heads-found s at {l} {q} four e =
+    let x = onward-told (bumpCountField s at) _ e in
+    let count : bumpCountField s 4 ≡ got (x .0) (x .1) = ap (bumpCountField s) (sym four) ∙ x .2 in
+    rw (count, bumps-loose s (x .0) (x .1) (x .3))
 
 -- an anchor that was read: its BUMP number is below the count
 pub anchor-told : (bumps : ℕ) (s : List ℕ) (at : ℕ) {a : Anchor} {q : ℕ} → anchorField bumps s at ≡ got a q → (n : ℕ) → a ≡ Anchor.Bump n → n < bumps
@@ -229,7 +168,10 @@ pub record BeefRead (room : ℕ) (s : List ℕ) (b : Beef) : Type 0 where
   pub entries-low : length (b .entries) ≤ MAX-TXS
   pub fits : length (b .entries) ≤ room
   pub bump : (k : ℕ) (d : Bump) → k < length (b .bumps) → ItemRead bumpField s (getD (b .bumps) k d)
+  pub heads : bumpHeads s ≡ padded MAX-BUMPS noBump (map foundHead (b .bumps))
   pub entry : (k : ℕ) (d : Entry) → k < length (b .entries) → EntryRead (length (b .bumps)) s (getD (b .entries) k d)
+  pub end : ℕ
+  pub entries : times (entryField (length (b .bumps))) (length (b .entries)) s (firstAt (b .entries)) ≡ got (b .entries) end
 
 -- the BUMPs
 bumps-told : (s : List ℕ) (at : ℕ) {l : List Bump} {q : ℕ} → bumpsField s at ≡ got l q
@@ -241,16 +183,28 @@ bumps-told s at e =
     let low = bump-count-told s at (x .2) in
     (omega arith, λ k d h. times-told bumpField s d (x .0) (x .1) (x .3) k h)
 
--- the transactions
-record EntriesRead (bumps room : ℕ) (s : List ℕ) (l : List Entry) : Type 0 where
+-- the transactions: the first starts where they start
+first-told : (bumps n : ℕ) (s : List ℕ) (at : ℕ) {l : List Entry} {q : ℕ} → 1 ≤ n → times (entryField bumps) n s at ≡ got l q → firstAt l ≡ at
+unfolding firstAt entryField
+first-told bumps zero s at h e = absurd (omega arith)
+first-told bumps (suc n) s at {l} h e =
+    let x = many-told {S = Unit {0}} (λ _. entryField bumps) (λ u _. u) n tt s at e in
+    let t = onward-told (txField s at) _ (x .3) in
+    let a = onward-told (anchorField bumps s (t .1)) _ (t .3) in
+    let is : _≡_ {A = Parse Entry} (got (record { transaction = t .0; anchor = a .0 }) (a .1)) (got (x .0) (x .1)) = a .3 in
+    let ee : record { transaction = t .0; anchor = a .0 } ≡ x .0 = cc in
+    rw (← x .5, ← ee) (tx-told s at (t .2) .start-is)
+
+record EntriesRead (bumps room : ℕ) (s : List ℕ) (l : List Entry) (end : ℕ) : Type 0 where
   some : 1 ≤ length l
   low : length l ≤ MAX-TXS
   fits : length l ≤ room
   entry : (k : ℕ) (d : Entry) → k < length l → EntryRead bumps s (getD l k d)
+  again : times (entryField bumps) (length l) s (firstAt l) ≡ got l end
 
-entries-told : (bumps room : ℕ) (s : List ℕ) (at : ℕ) {l : List Entry} {q : ℕ} → entriesField bumps room s at ≡ got l q → EntriesRead bumps room s l
+entries-told : (bumps room : ℕ) (s : List ℕ) (at : ℕ) {l : List Entry} {q : ℕ} → entriesField bumps room s at ≡ got l q → EntriesRead bumps room s l q
 unfolding entriesField
-entries-told bumps room s at {l} e =
+entries-told bumps room s at {l} {q} e =
     let x = onward-told (txCountField room s at) _ e in
     let n = many-length {S = Unit {0}} (λ _. entryField bumps) (λ u _. u) (x .0) tt s (x .1) (x .3) in
     let c = tx-count-told room s at (x .2) in
@@ -259,6 +213,7 @@ entries-told bumps room s at {l} e =
       low = omega arith;
       fits = omega arith;
       entry = λ k d h. let i = times-told (entryField bumps) s d (x .0) (x .1) (x .3) k h in entry-told bumps s (i .at) (i .read);
+      again = rw (n, first-told bumps (x .0) s (x .1) (c .0) (x .3)) (x .3);
     }
 
 pub beef-told : (room : ℕ) (s : List ℕ) {b : Beef} {q : ℕ} → beefWhole room s ≡ got b q → BeefRead room s b
@@ -268,11 +223,12 @@ beef-told room s {b} {q} e =
     let x = onward-told (bumpsField s (v .1)) _ (v .3) in
     let y = onward-told (entriesField (length (x .0)) room s (x .1)) _ (x .3) in
     let is : _≡_ {A = Parse Beef} (got (record { bumps = x .0; entries = y .0 }) (y .1)) (got b q) = y .3 in
-    built (x .0) (y .0) (y .1) (bumps-told s (v .1) (x .2)) (entries-told (length (x .0)) room s (x .1) (y .2)) is
+    built (x .0) (y .0) (y .1) (bumps-told s (v .1) (x .2)) (heads-found s (v .1) (version-told s 0 (v .2)) (x .2)) (entries-told (length (x .0)) room s (x .1) (y .2)) is
   where
-    built : (l : List Bump) (k : List Entry) (end : ℕ) → (length l ≤ MAX-BUMPS) × ((k : ℕ) (d : Bump) → k < length l → ItemRead bumpField s (getD l k d)) → EntriesRead (length l) room s k
+    built : (l : List Bump) (k : List Entry) (end : ℕ) → (length l ≤ MAX-BUMPS) × ((k : ℕ) (d : Bump) → k < length l → ItemRead bumpField s (getD l k d))
+        → bumpHeads s ≡ padded MAX-BUMPS noBump (map foundHead l) → EntriesRead (length l) room s k end
         → _≡_ {A = Parse Beef} (got (record { bumps = l; entries = k }) end) (got b q) → BeefRead room s b
-    built l k end m n is =
+    built l k end m h n is =
         let eb : record { bumps = l; entries = k } ≡ b = cc in
         rw (← eb) (record {
           size = whole-size (beefField room) s e;
@@ -281,5 +237,49 @@ beef-told room s {b} {q} e =
           entries-low = n .low;
           fits = n .fits;
           bump = m .1;
+          heads = h;
           entry = n .entry;
+          end = end;
+          entries = n .again;
         })
+
+-- ---- what a reading answers, by its fields
+
+entries-head : (l : List Entry) (n at q : ℕ) → length l ≡ n → firstAt l ≡ at → each entriesOf (got l q) ≡ got (record { count = n; at = record { at = at } }) q
+unfolding each
+entries-head l n at q e f = rw (e, f)
+
+module _ (bumps room : ℕ) (s : List ℕ) (at : ℕ) {n q : ℕ} (e : txCountField room s at ≡ got n q) where
+  pub entries-refused : {k t : ℕ} → each length (times (entryField bumps) n s q) ≡ bad k t → each entriesOf (entriesField bumps room s at) ≡ bad k t
+  unfolding entriesField each
+  entries-refused f = rw (e, each-bad length (times (entryField bumps) n s q) f)
+
+  pub entries-read : {m t : ℕ} → each length (times (entryField bumps) n s q) ≡ got m t → each entriesOf (entriesField bumps room s at) ≡ got (record { count = m; at = record { at = q } }) t
+  unfolding entriesField
+  entries-read {m} {t} f =
+      let x = each-got length (times (entryField bumps) n s q) f in
+      rw (e, x .1) (entries-head (x .0) m q t (x .2) (first-told bumps n s q (tx-count-told room s at e .0) (x .1)))
+
+module _ (room : ℕ) (s : List ℕ) (at : ℕ) {v q : ℕ} (e : versionField s at ≡ got v q) where
+  pub beef-no-bumps : {k t : ℕ} → each length (bumpsField s q) ≡ bad k t → each beefHeadOf (beefField room s at) ≡ bad k t
+  unfolding beefField each
+  beef-no-bumps f = rw (e, each-bad length (bumpsField s q) f)
+
+  module _ {m r : ℕ} (f : each length (bumpsField s q) ≡ got m r) where
+    pub beef-no-entries : {k t : ℕ} → each entriesOf (entriesField m room s r) ≡ bad k t → each beefHeadOf (beefField room s at) ≡ bad k t
+    unfolding beefField each
+    beef-no-entries g =
+        let x = each-got length (bumpsField s q) f in
+        rw (e, x .1, x .2, each-bad entriesOf (entriesField m room s r) g)
+
+    pub beef-read : {i : Items} {t : ℕ} → each entriesOf (entriesField m room s r) ≡ got i t
+        → each beefHeadOf (beefField room s at) ≡ got (record { bumps = m; transactions = i .count; entries = i .at }) t
+    unfolding beefField each
+    beef-read {i} {t} g =
+        let x = each-got length (bumpsField s q) f in
+        let y = each-got entriesOf (entriesField m room s r) g in
+        built (x .0) (y .0) (x .1) (x .2) (y .1) (y .2)
+      where
+        built : (bumps : List Bump) (entries : List Entry) → bumpsField s q ≡ got bumps r → length bumps ≡ m → entriesField m room s r ≡ got entries t → entriesOf entries ≡ i
+            → each beefHeadOf (beefField room s at) ≡ got (record { bumps = m; transactions = i .count; entries = i .at }) t
+        built bumps entries b n k is = rw (e, b, n, k) (rw (n, ← is))

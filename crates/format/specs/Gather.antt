@@ -7,7 +7,7 @@ use lib.Seq.{take-suc-set, drop-set-lt, length-take-le, drop-drop}
 use native.Mathlib.Omega.{arith}
 use native.Mathlib.Numerals.{add-one}
 use native.Mathlib.Nat.{sub-zero}
-use Rattle.format.specs.Parse.{Reader, each, times, got, bad}
+use Rattle.format.specs.Parse.{Parse, Reader, each, times, got, bad}
 use Rattle.format.specs.ParseLaws.{each-got, each-bad, many-done, many-refused, many-step}
 
 -- n places, of which the first hold the list and the others z
@@ -31,6 +31,21 @@ padded-at {A = A} {B = B} n z f l k d h = filled l k h
 pub padded-here : {B : Type 0} (n : ℕ) (z : B) (l : List B) (k : ℕ) → k < length l → getD (padded n z l) k z ≡ getD l k z
 unfolding padded
 padded-here n z l k h = List·getD-append l (replicate (n - length l) z) z k h
+
+-- what is kept of an item may be the item
+pub each-same : {A : Type 0} (p : Parse A) → each (λ (x : A). x) p ≡ p
+unfolding each
+each-same (got a q) = refl
+each-same (bad n q) = refl
+
+map-same : {A : Type 0} (l : List A) → map (λ (x : A). x) l ≡ l
+map-same [] = refl
+map-same (x ∷ l) = ap (x ∷_) (map-same l)
+
+pub each-sames : {A : Type 0} (p : Parse (List A)) → each (map (λ (x : A). x)) p ≡ p
+unfolding each
+each-sames {A = A} (got l q) = ap (λ (m : List A). got m q) (map-same l)
+each-sames (bad n q) = refl
 
 -- the loop has read i of n items from `from` on, stands at a place, and has kept f of each
 pub record Gathering {A B : Type 0} (item : Reader A) (f : A → B) (z : B) (room n : ℕ) (s : List ℕ) (from : ℕ) (kept : List B) (i at : ℕ) : Type 0 where

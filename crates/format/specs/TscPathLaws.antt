@@ -9,37 +9,22 @@ use Rattle.format.specs.declared.level.Kind.{Kind}
 use Rattle.format.specs.declared.path.Found.the-variants.{Here}
 use Rattle.format.specs.Parse.{Parse, each, many, times, got, bad}
 use Rattle.format.specs.ParseLaws.{many-told}
-use Rattle.format.specs.Gather.{padded, padded-here}
+use Rattle.format.specs.Gather.{padded, padded-here, each-sames}
 use Rattle.format.specs.Node.{nodeField}
 use Rattle.format.specs.Path.{nodeAt, leafAtPlace, leafIn, layersOf}
 use Rattle.format.specs.Tsc.{Tsc}
 use Rattle.format.specs.TscLaws.{TscRead}
 use Rattle.format.specs.TscPath.{nodePlaceField, nodePlaces, tscPathOf, tscPath}
 
--- what is kept of a place is the place
-pub each-place : (p : Parse ℕ) → each (λ (k : ℕ). k) p ≡ p
-unfolding each
-each-place (got k q) = refl
-each-place (bad n q) = refl
-
-map-same : (l : List ℕ) → map (λ (k : ℕ). k) l ≡ l
-map-same [] = refl
-map-same (x ∷ l) = ap (x ∷_) (map-same l)
-
-pub each-places : (p : Parse (List ℕ)) → each (map (λ (k : ℕ). k)) p ≡ p
-unfolding each
-each-places (got l q) = ap (λ (m : List ℕ). got m q) (map-same l)
-each-places (bad n q) = refl
-
 -- a loop that kept the places
 module _ (n : ℕ) (s : List ℕ) (at : ℕ) where
   pub places-kept : {l kept : List ℕ} {q : ℕ} → each (map (λ (k : ℕ). k)) (times nodePlaceField n s at) ≡ got l q → kept ≡ padded 64 0 l → kept ≡ nodePlaces n s at
   unfolding nodePlaces
-  places-kept e k = rw (sym (each-places (times nodePlaceField n s at)) ∙ e, k)
+  places-kept e k = rw (sym (each-sames (times nodePlaceField n s at)) ∙ e, k)
 
   pub places-refused : {k q : ℕ} → each (map (λ (k : ℕ). k)) (times nodePlaceField n s at) ≡ bad k q → replicate 64 0 ≡ nodePlaces n s at
   unfolding nodePlaces
-  places-refused e = rw (sym (each-places (times nodePlaceField n s at)) ∙ e)
+  places-refused e = rw (sym (each-sames (times nodePlaceField n s at)) ∙ e)
 
 -- nodes that were read: their places, and each node again at its place
 record Placed (n : ℕ) (s : List ℕ) (at q : ℕ) (l : List Kind) : Type 0 where

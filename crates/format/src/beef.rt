@@ -1,7 +1,8 @@
-// BEEF version 0100BEEF (document 004). An enum holds no array, so the BUMPs and transactions of a bundle stand in arrays beside its answer.
+// BEEF version 0100BEEF (document 004). A reading keeps counts and the place of the first transaction: what was read once is found again from there.
 use super::bump::BumpAnswer;
 use super::bump::BumpHead;
 use super::bump::bump_at;
+use super::bump::skip_bump;
 use super::field::Cursor;
 use super::field::Number;
 use super::field::one_byte;
@@ -17,18 +18,20 @@ use super::refusal::OVER_LIMIT;
 use super::refusal::Refusal;
 use super::refusal::TOO_LONG;
 use super::tx::Items;
+use super::tx::ItemsAnswer;
 use super::tx::TxAnswer;
 use super::tx::TxHead;
 use super::tx::tx_at;
 use hash::MAX_INPUT;
 ghost use mathlib.Core.Path.{_≡_};
-ghost use mathlib.Core.List.{map};
 ghost use Prim.Native.Nat.{_≤_};
-ghost use Rattle.format.specs.Parse.{each, times, bad};
+ghost use lib.ListN.{length};
+ghost use Rattle.format.specs.Parse.{each, times};
 ghost use Rattle.format.specs.FieldAnswer.{numberOf};
-ghost use Rattle.format.specs.Bump.{bumpField, headOf};
+ghost use Rattle.format.specs.TransactionAnswer.{itemsAnswer};
+ghost use Rattle.format.specs.Bump.{bumpField};
 ghost use Rattle.format.specs.Beef.{versionField, bumpCountField, bumpsField, txCountField, bumpNumberField, anchorField, entryField, entriesField, beefField, beefWhole};
-ghost use Rattle.format.specs.BeefAnswer.{anchorAnswer, refusalOfAnchor, entryHeadOf, entryAnswer, refusalOfEntry, beefHeadOf, beefAnswer, refusalOfBeef, noBump, noEntry, bumpsOf, entriesOf, bundleOf, countsOf, bumpNth, entryNth};
+ghost use Rattle.format.specs.BeefAnswer.{anchorAnswer, refusalOfAnchor, entryHeadOf, entryAnswer, refusalOfEntry, entriesOf, beefHeadOf, beefAnswer, refusalOfBeef, noBump, bumpHeadsAt, bumpHeads};
 ghost use Rattle.format.specs.Refusals.{MAX-BUMPS, MAX-TXS};
 
 pub struct Beef;
@@ -97,10 +100,11 @@ impl EntryAnswer {
     }
 }
 
-// How many BUMPs and transactions a bundle has.
+// How many BUMPs and transactions a bundle has, and where its first transaction starts.
 pub struct BeefHead {
     pub bumps: usize,
     pub transactions: usize,
+    pub entries: Cursor,
 }
 
 pub enum BeefAnswer {
@@ -120,84 +124,6 @@ impl BeefAnswer {
             },
         }
     }
-
-    // How many, or none where the reading is refused.
-    pub fn counts(self) -> BeefHead
-        ensures { λ r. ⌜ r ≡ countsOf self ⌝ }
-    {
-        match self {
-            BeefAnswer::Value(head, _) => head,
-            BeefAnswer::Refused(_) => BeefHead {
-                bumps: 0,
-                transactions: 0,
-            },
-        }
-    }
-}
-
-// The BUMPs: how many, and the head of each.
-pub struct Bumps {
-    pub answer: Number,
-    pub heads: [BumpHead; Beef::MAX_BUMPS],
-}
-
-// The transactions: how many, and the head of each.
-pub struct Entries {
-    pub answer: Number,
-    pub heads: [EntryHead; Beef::MAX_TRANSACTIONS],
-}
-
-// A bundle that was read, or its refusal.
-pub struct Bundle {
-    pub answer: BeefAnswer,
-    pub bumps: [BumpHead; Beef::MAX_BUMPS],
-    pub entries: [EntryHead; Beef::MAX_TRANSACTIONS],
-}
-
-pub enum BumpFound {
-    Here(BumpHead),
-    Missing,
-}
-
-pub enum EntryFound {
-    Here(EntryHead),
-    Missing,
-}
-
-impl Bundle {
-    // The n-th BUMP, counted from 0.
-    pub fn bump(self, n: usize) -> BumpFound
-        ensures { λ r. ⌜ r ≡ bumpNth self n ⌝ }
-    {
-        let answer = self.answer;
-        let counts = answer.counts();
-        let count = counts.bumps;
-        if count <= n {
-            return BumpFound::Missing;
-        }
-        if Beef::MAX_BUMPS <= n {
-            return BumpFound::Missing;
-        }
-        let bumps = self.bumps;
-        BumpFound::Here(bumps[n])
-    }
-
-    // The n-th transaction, counted from 0.
-    pub fn entry(self, n: usize) -> EntryFound
-        ensures { λ r. ⌜ r ≡ entryNth self n ⌝ }
-    {
-        let answer = self.answer;
-        let counts = answer.counts();
-        let count = counts.transactions;
-        if count <= n {
-            return EntryFound::Missing;
-        }
-        if Beef::MAX_TRANSACTIONS <= n {
-            return EntryFound::Missing;
-        }
-        let entries = self.entries;
-        EntryFound::Here(entries[n])
-    }
 }
 
 fn no_bump() -> BumpHead
@@ -208,56 +134,6 @@ fn no_bump() -> BumpHead
         height: 0,
         leaves: 0,
         levels: Cursor { at: 0 },
-    }
-}
-
-fn no_entry() -> EntryHead
-    ensures { λ r. ⌜ r ≡ noEntry ⌝ }
-{
-    let none = Items {
-        count: 0,
-        at: Cursor { at: 0 },
-    };
-    EntryHead {
-        transaction: TxHead {
-            start: 0,
-            end: 0,
-            inputs: none,
-            outputs: none,
-        },
-        anchor: Anchor::Unanchored,
-    }
-}
-
-fn no_bumps(refusal: Refusal) -> Bumps
-    ensures { λ r. ⌜ r ≡ bumpsOf (bad (refusal .number) (refusal .place)) ⌝ }
-{
-    let none = no_bump();
-    Bumps {
-        answer: Number::Refused(refusal),
-        heads: [none; Beef::MAX_BUMPS],
-    }
-}
-
-fn no_entries(refusal: Refusal) -> Entries
-    ensures { λ r. ⌜ r ≡ entriesOf (bad (refusal .number) (refusal .place)) ⌝ }
-{
-    let none = no_entry();
-    Entries {
-        answer: Number::Refused(refusal),
-        heads: [none; Beef::MAX_TRANSACTIONS],
-    }
-}
-
-fn no_bundle(refusal: Refusal) -> Bundle
-    ensures { λ r. ⌜ r ≡ bundleOf (bad (refusal .number) (refusal .place)) ⌝ }
-{
-    let bump = no_bump();
-    let entry = no_entry();
-    Bundle {
-        answer: BeefAnswer::Refused(refusal),
-        bumps: [bump; Beef::MAX_BUMPS],
-        entries: [entry; Beef::MAX_TRANSACTIONS],
     }
 }
 
@@ -295,37 +171,63 @@ fn read_bump_count(s: &[u8], c: Cursor) -> Number
     field
 }
 
-fn gather_bumps(s: &[u8], c: Cursor, count: usize) -> Bumps
+fn all_bumps(s: &[u8], c: Cursor, count: u64) -> Number
+    ensures { λ r. ⌜ numberOf r ≡ each length (times bumpField count (now (s .entry)) (c .at)) ⌝ }
+{
+    let mut next = c;
+    let mut i: u64 = 0;
+    while i < count {
+        let field = bump_at(s, next);
+        let BumpAnswer::Value(_, after) = field else {
+            return Number::Refused(field.refusal());
+        };
+        next = after;
+        i += 1;
+    }
+    Number::Value(i, next)
+}
+
+fn read_bumps(s: &[u8], c: Cursor) -> Number
+    ensures { λ r. ⌜ numberOf r ≡ each length (bumpsField (now (s .entry)) (c .at)) ⌝ }
+{
+    let field = read_bump_count(s, c);
+    let Number::Value(count, next) = field else {
+        return field;
+    };
+    all_bumps(s, next, count)
+}
+
+// The heads of so many BUMPs that were read before.
+fn gather_heads(s: &[u8], c: Cursor, count: usize) -> [BumpHead; Beef::MAX_BUMPS]
     requires { ⌜ count ≤ MAX-BUMPS ⌝ }
-    ensures { λ r. ⌜ r ≡ bumpsOf (each (map headOf) (times bumpField count (now (s .entry)) (c .at))) ⌝ }
+    ensures { λ r. ⌜ r ≡ bumpHeadsAt count (now (s .entry)) (c .at) ⌝ }
 {
     let none = no_bump();
     let mut heads = [none; Beef::MAX_BUMPS];
     let mut next = c;
     let mut i: usize = 0;
     while i < count {
-        let field = bump_at(s, next);
+        let field = skip_bump(s, next);
         let BumpAnswer::Value(head, after) = field else {
-            return no_bumps(field.refusal());
+            return [none; Beef::MAX_BUMPS];
         };
         heads[i] = head;
         next = after;
         i += 1;
     }
-    Bumps {
-        answer: Number::Value(i as u64, next),
-        heads,
-    }
+    heads
 }
 
-fn read_bumps(s: &[u8], c: Cursor) -> Bumps
-    ensures { λ r. ⌜ r ≡ bumpsOf (each (map headOf) (bumpsField (now (s .entry)) (c .at))) ⌝ }
+// The heads of the BUMPs of a bundle that was read before.
+pub fn bump_heads(s: &[u8]) -> [BumpHead; Beef::MAX_BUMPS]
+    ensures { λ r. ⌜ r ≡ bumpHeads (now (s .entry)) ⌝ }
 {
-    let field = read_bump_count(s, c);
+    let field = read_bump_count(s, Cursor { at: 4 });
     let Number::Value(count, next) = field else {
-        return no_bumps(field.refusal());
+        let none = no_bump();
+        return [none; Beef::MAX_BUMPS];
     };
-    gather_bumps(s, next, count as usize)
+    gather_heads(s, next, count as usize)
 }
 
 fn read_tx_count(s: &[u8], c: Cursor, room: usize) -> Number
@@ -398,7 +300,8 @@ fn read_anchor(s: &[u8], c: Cursor, bumps: u64) -> AnchorAnswer
     AnchorAnswer::Value(Anchor::Bump(number), next)
 }
 
-fn read_entry(s: &[u8], c: Cursor, bumps: u64) -> EntryAnswer
+// A transaction of a bundle with so many BUMPs.
+pub fn read_entry(s: &[u8], c: Cursor, bumps: u64) -> EntryAnswer
     ensures { λ r. ⌜ entryAnswer r ≡ each entryHeadOf (entryField bumps (now (s .entry)) (c .at)) ⌝ }
 {
     let first = tx_at(s, c);
@@ -418,100 +321,90 @@ fn read_entry(s: &[u8], c: Cursor, bumps: u64) -> EntryAnswer
     )
 }
 
-fn gather_entries(s: &[u8], c: Cursor, bumps: u64, count: usize) -> Entries
-    requires { ⌜ count ≤ MAX-TXS ⌝ }
-    ensures { λ r. ⌜ r ≡ entriesOf (each (map entryHeadOf) (times (entryField bumps) count (now (s .entry)) (c .at))) ⌝ }
+fn all_entries(s: &[u8], c: Cursor, bumps: u64, count: u64) -> Number
+    ensures { λ r. ⌜ numberOf r ≡ each length (times (entryField bumps) count (now (s .entry)) (c .at)) ⌝ }
 {
-    let none = no_entry();
-    let mut heads = [none; Beef::MAX_TRANSACTIONS];
     let mut next = c;
-    let mut i: usize = 0;
+    let mut i: u64 = 0;
     while i < count {
         let field = read_entry(s, next, bumps);
-        let EntryAnswer::Value(head, after) = field else {
-            return no_entries(field.refusal());
+        let EntryAnswer::Value(_, after) = field else {
+            return Number::Refused(field.refusal());
         };
-        heads[i] = head;
         next = after;
         i += 1;
     }
-    Entries {
-        answer: Number::Value(i as u64, next),
-        heads,
-    }
+    Number::Value(i, next)
 }
 
-fn read_entries(s: &[u8], c: Cursor, bumps: u64, room: usize) -> Entries
-    ensures { λ r. ⌜ r ≡ entriesOf (each (map entryHeadOf) (entriesField bumps room (now (s .entry)) (c .at))) ⌝ }
+fn read_entries(s: &[u8], c: Cursor, bumps: u64, room: usize) -> ItemsAnswer
+    ensures { λ r. ⌜ itemsAnswer r ≡ each entriesOf (entriesField bumps room (now (s .entry)) (c .at)) ⌝ }
 {
-    let field = read_tx_count(s, c, room);
-    let Number::Value(count, next) = field else {
-        return no_entries(field.refusal());
+    let first = read_tx_count(s, c, room);
+    let Number::Value(wanted, at) = first else {
+        return ItemsAnswer::Refused(first.refusal());
     };
-    gather_entries(s, next, bumps, count as usize)
+    let second = all_entries(s, at, bumps, wanted);
+    let Number::Value(count, next) = second else {
+        return ItemsAnswer::Refused(second.refusal());
+    };
+    ItemsAnswer::Value(Items { count, at }, next)
 }
 
-fn bundle_at(s: &[u8], c: Cursor, room: usize) -> Bundle
-    ensures { λ r. ⌜ r ≡ bundleOf (beefField room (now (s .entry)) (c .at)) ⌝ }
+fn beef_at(s: &[u8], c: Cursor, room: usize) -> BeefAnswer
+    ensures { λ r. ⌜ beefAnswer r ≡ each beefHeadOf (beefField room (now (s .entry)) (c .at)) ⌝ }
 {
     let version = read_version(s, c);
     let Number::Value(_, bumps_at) = version else {
-        return no_bundle(version.refusal());
+        return BeefAnswer::Refused(version.refusal());
     };
-    let bumps = read_bumps(s, bumps_at);
-    let first = bumps.answer;
-    let Number::Value(bump_count, entries_at) = first else {
-        return no_bundle(first.refusal());
+    let first = read_bumps(s, bumps_at);
+    let Number::Value(bumps, entries_at) = first else {
+        return BeefAnswer::Refused(first.refusal());
     };
-    let entries = read_entries(s, entries_at, bump_count, room);
-    let second = entries.answer;
-    let Number::Value(count, next) = second else {
-        return no_bundle(second.refusal());
+    let second = read_entries(s, entries_at, bumps, room);
+    let ItemsAnswer::Value(items, next) = second else {
+        return BeefAnswer::Refused(second.refusal());
     };
-    let bump_heads = bumps.heads;
-    let entry_heads = entries.heads;
-    Bundle {
-        answer: BeefAnswer::Value(
-            BeefHead {
-                bumps: bump_count as usize,
-                transactions: count as usize,
-            },
-            next,
-        ),
-        bumps: bump_heads,
-        entries: entry_heads,
-    }
+    let count = items.count;
+    let entries = items.at;
+    BeefAnswer::Value(
+        BeefHead {
+            bumps: bumps as usize,
+            transactions: count as usize,
+            entries,
+        },
+        next,
+    )
 }
 
 // An input that is one BEEF, with a table of so many records lent.
-pub fn read_bundle(s: &[u8], room: usize) -> Bundle
-    ensures { λ r. ⌜ r ≡ bundleOf (beefWhole room (now (s .entry))) ⌝ }
+pub fn read_bundle(s: &[u8], room: usize) -> BeefAnswer
+    ensures { λ r. ⌜ beefAnswer r ≡ each beefHeadOf (beefWhole room (now (s .entry))) ⌝ }
 {
     if MAX_INPUT < s.len() {
-        return no_bundle(Refusal {
+        return BeefAnswer::Refused(Refusal {
             number: TOO_LONG,
             place: 0,
         });
     }
-    let bundle = bundle_at(s, Beef::start(), room);
-    let answer = bundle.answer;
-    let BeefAnswer::Value(_, next) = answer else {
-        return bundle;
+    let field = beef_at(s, Beef::start(), room);
+    let BeefAnswer::Value(_, next) = field else {
+        return field;
     };
     let at = next.at;
     if at < s.len() {
-        return no_bundle(Refusal {
+        return BeefAnswer::Refused(Refusal {
             number: EXTRA,
             place: at,
         });
     }
-    bundle
+    field
 }
 
 // An input that is one BEEF: how many BUMPs and transactions it has.
 pub fn read_beef(s: &[u8]) -> BeefAnswer
     ensures { λ r. ⌜ beefAnswer r ≡ each beefHeadOf (beefWhole MAX-TXS (now (s .entry))) ⌝ }
 {
-    let bundle = read_bundle(s, Beef::MAX_TRANSACTIONS);
-    bundle.answer
+    read_bundle(s, Beef::MAX_TRANSACTIONS)
 }

@@ -1,3 +1,4 @@
 pub mod Turns
 pub mod Pairs
 pub mod Filled
+mod Local

@@ -1,5 +1,5 @@
 -- What the code holds of a judgement.
-use mathlib.Core.Path.{_≡_, refl, ap, _∙_}
+use mathlib.Core.Path.{_≡_, refl, ap, sym, subst, subst⁻¹, _∙_}
 use Prim.Native.Nat.{ℕ, _≤_, _%_, zero-le}
 use mathlib.Core.Bool.{Bool, true, false}
 use mathlib.Core.List.{List, []}
@@ -7,9 +7,10 @@ use native.Mathlib.Omega.{arith}
 use lib.Dec.{leb, eqb}
 use native.Mathlib.Nat.{sub-zero}
 use lib.ListN.{length, replicate}
-use Rattle.spv.specs.declared.bundle.Ruling.{Ruling}
-use Rattle.spv.specs.Table.{blankRecord, recordOf, rows}
-use Rattle.spv.specs.TableLaws.{rows-padded}
+use Rattle.spv.specs.declared.bundle.Verdict.{Verdict}
+use Rattle.spv.specs.declared.bundle.Verdict.the-variants.{Accepted, Refused}
+use Rattle.spv.specs.Table.{blankRecord, flat, flatRecord, rows}
+use Rattle.spv.specs.TableLaws.{rows-list, flat-length, flat-row}
 use Rattle.format.specs.Parse.{Parse, got, bad, pick}
 use Rattle.format.specs.Gather.{padded}
 use Rattle.format.specs.Beef.{Beef, beefWhole}
@@ -19,22 +20,20 @@ use Rattle.spv.specs.Bundle.{entryId, standing, entryRow, Judgement, ref
 use Rattle.spv.specs.BundleLaws.{accepted-length}
 use Rattle.spv.specs.BundleTheorems.{emptyEntry}
 
-unfoldable pub rulingOf : Judgement → Ruling
-rulingOf j = record { verdict = verdictOf j; records = tableOf j 256 }
+-- what a verdict comes to with the flat form beside it
+unfoldable pub judgementOf : Verdict → List ℕ → List ℕ → Judgement
+judgementOf (Accepted n) ids numbers = accepted (flat n ids numbers)
+judgementOf (Refused x) ids numbers = refusedAs (x .number) (x .place)
 
-pub ruling-verdict : (j : Judgement) → rulingOf j .verdict ≡ verdictOf j
-unfolding rulingOf
-ruling-verdict j = refl
+-- how many records go with a verdict
+abbrev pub countOf : Verdict → ℕ
+countOf (Accepted n) = n
+countOf (Refused x) = 0
 
 -- no more records than a table of n rows and the code's own can hold
 unfoldable pub Fits : Judgement → ℕ → Type 0
 Fits (refusedAs number carried) n = Unit {0}
 Fits (accepted records) n = (length records ≤ 256) × (length records ≤ n)
-
-table-rows : (j : Judgement) (n : ℕ) → Fits j n → rows (recordOf (rulingOf j)) n ≡ tableOf j n
-unfolding rulingOf tableOf Fits padded
-table-rows (refusedAs number carried) n h = rows-padded (rulingOf (refusedAs number carried)) [] zero-le refl n zero-le ∙ ap (λ (k : ℕ). replicate k blankRecord) (sub-zero n)
-table-rows (accepted records) n h = rows-padded (rulingOf (accepted records)) records (h .0) refl n (h .1)
 
 entries-fit : (s roots : List ℕ) (n : ℕ) (b : Beef) → BeefRead n s b → Fits (judgeEntries s roots b) n
 unfolding Fits judgeEntries
@@ -58,5 +57,19 @@ judge-fits s roots n = go (leb (length s) MAX-INPUT) (eqb (length roots % 32) 0)
     go true true (bad number place) e = tt
     go true true (got b q) e = entries-fit s roots n b (beef-told n s e)
 
-pub ruling-table : (s roots : List ℕ) (n : ℕ) → rows (recordOf (rulingOf (judgeBeef s roots n))) n ≡ tableOf (judgeBeef s roots n) n
-ruling-table s roots n = table-rows (judgeBeef s roots n) n (judge-fits s roots n)
+-- the verdict, and the table of n rows
+module _ (ids numbers : List ℕ) (wide : 8192 ≤ length ids) (long : 1280 ≤ length numbers) (n : ℕ) where
+  told : (r : Verdict) → Fits (judgementOf r ids numbers) n
+      → (r ≡ verdictOf (judgementOf r ids numbers)) × (rows (flatRecord ids numbers (countOf r)) n ≡ tableOf (judgementOf r ids numbers) n)
+  unfolding judgementOf verdictOf tableOf Fits flat padded
+  told (Accepted k) h =
+      let few = flat-length k ids numbers in
+      (ap Accepted (sym few), rows-list (flatRecord ids numbers k) blankRecord (flat k ids numbers) n (flat-row ids numbers wide long k (omega (arith, h .0))) (h .1))
+  told (Refused x) h =
+      (refl, rows-list (flatRecord ids numbers 0) blankRecord [] n (flat-row ids numbers wide long 0 zero-le) zero-le ∙ ap (λ (k : ℕ). replicate k blankRecord) (sub-zero n))
+
+  pub flat-told : (s roots : List ℕ) (r : Verdict) → judgementOf r ids numbers ≡ judgeBeef s roots n
+      → (r ≡ verdictOf (judgeBeef s roots n)) × (rows (flatRecord ids numbers (countOf r)) n ≡ tableOf (judgeBeef s roots n) n)
+  flat-told s roots r e =
+      subst (λ (j : Judgement). (r ≡ verdictOf j) × (rows (flatRecord ids numbers (countOf r)) n ≡ tableOf j n)) e
+      (told r (subst⁻¹ (λ (j : Judgement). Fits j n) e (judge-fits s roots n)))

@@ -7,7 +7,7 @@ use native.Mathlib.Nat.{sub-zero, mul-zero}
 use native.Mathlib.Omega.{arith}
 use native.Mathlib.Numerals.{add-one}
 use lib.ListN.{length, take, drop, getD, length-append, length-take, length-drop}
-use lib.Seq.{ext-getD, getD-take, getD-drop, drop-drop, take-append-le, drop-append-le, take-all}
+use lib.Seq.{ext-getD, getD-take, getD-drop, drop-drop, take-append-le, drop-append-le, take-all, length-take-le}
 use Rattle.format.specs.Bytes.{same, eq-same, ne-same}
 use Rattle.spv.specs.Bundle.{hashes, hashesOf, among}
 
@@ -82,6 +82,17 @@ hashes-more n l x e h =
   where
     counted : (n m : ℕ) → m ≡ 32 * n → m / 32 ≡ n
     counted n m e = omega arith
+
+hashes-count : (n : ℕ) (l : List ℕ) → length (hashes n l) ≡ n
+unfolding hashes
+hashes-count zero l = refl
+hashes-count (suc n) l = ap suc (hashes-count n (drop 32 l))
+
+pub hashes-length : (n : ℕ) (l : List ℕ) → 32 * n ≤ length l → length (hashesOf (take (32 * n) l)) ≡ n
+unfolding hashesOf
+hashes-length n l h =
+    let whole = length-take-le (32 * n) l h in
+    hashes-count (length (take (32 * n) l) / 32) (take (32 * n) l) ∙ omega arith
 
 pub hashes-empty : hashesOf [] ≡ []
 unfolding hashesOf hashes

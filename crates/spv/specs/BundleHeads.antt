@@ -1,30 +1,38 @@
 -- The bundle rule over what the code holds of a bundle that was read: heads, by places in the bytes.
-use Prim.Native.Nat.{ℕ, zero, suc, _-_, _%_}
+use Prim.Native.Nat.{ℕ, zero, suc, _-_}
 use mathlib.Core.Bool.{Bool, true, false}
-use mathlib.Core.List.{List}
+use mathlib.Core.List.{List, [], _∷_}
 use lib.Dec.{ltb}
-use lib.ListN.{length, getD}
+use lib.ListN.{getD}
 use Rattle.format.specs.declared.tx.TxHead.{TxHead}
 use Rattle.format.specs.declared.bump.BumpHead.{BumpHead}
 use Rattle.format.specs.declared.beef.Anchor.{Anchor}
 use Rattle.format.specs.declared.beef.Anchor.the-variants.{Unanchored, Bump as InBump}
 use Rattle.format.specs.declared.beef.EntryHead.{EntryHead}
-use Rattle.format.specs.Parse.{pick, otherwise}
+use Rattle.format.specs.Parse.{pick, otherwise, each}
 use Rattle.format.specs.Search.{hashAt}
 use Rattle.format.specs.Path.{bumpPathOf}
 use Rattle.format.specs.Transaction.{inputField}
-use Rattle.format.specs.BeefAnswer.{noBump}
+use Rattle.format.specs.Beef.{entryField}
+use Rattle.format.specs.BeefAnswer.{noBump, entryHeadOf}
 use Rattle.format.specs.IdLaws.{spanHash}
 use Rattle.format.specs.Refusals.{BAD-INDEX, SAME-TX, NO-PARENT}
 use Rattle.spv.specs.declared.table.Record.{Record}
 use Rattle.spv.specs.declared.bundle.Standing.the-variants.{Refuses, Passes}
 use Rattle.spv.specs.declared.bundle.Standing.{Standing as Found}
+use Rattle.spv.specs.Table.{flatHead}
 use Rattle.spv.specs.Compare.{judge, Verdict as Proving}
 use Rattle.spv.specs.Readings.{pathReading}
 use Rattle.spv.specs.Bundle.{among, Standing, refuses, passes, trusted}
 
-abbrev pub rowOf : TxHead → List ℕ → ℕ → ℕ → ℕ → Record
-rowOf t id a n i = record { start = t .start; length = t .end - t .start; id = id; anchored = a; bump = n; position = i % 4294967296 }
+-- the numbers of a record
+abbrev pub numbersOf : TxHead → ℕ → ℕ → ℕ → List ℕ
+numbersOf t a n i = t .start ∷ (t .end - t .start) ∷ n ∷ a ∷ i ∷ []
+
+-- n transactions from a place, of a bundle with so many BUMPs, as far as they can be read
+unfoldable pub headsFrom : ℕ → List ℕ → ℕ → ℕ → List EntryHead
+headsFrom bumps s zero at = []
+headsFrom bumps s (suc n) at = otherwise (each entryHeadOf (entryField bumps s at)) [] (λ e next. e ∷ headsFrom bumps s n next)
 
 -- how a transaction stands, as the code has it
 abbrev pub standingOf : Found → Standing
@@ -57,4 +65,4 @@ abbrev pub headStands : List ℕ → List ℕ → List BumpHead → List (List �
 headStands s roots bumps earlier e = headStanding s roots bumps earlier (headId s e) e
 
 abbrev pub headRow : List ℕ → EntryHead → ℕ → ℕ → ℕ → Record
-headRow s e a n i = rowOf (e .transaction) (headId s e) a n i
+headRow s e a n i = flatHead (headId s e) (numbersOf (e .transaction) a n i)

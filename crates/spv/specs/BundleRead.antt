@@ -5,38 +5,36 @@ use mathlib.Core.Bool.{Bool, true, false, _&&_}
 use mathlib.Core.List.{List, [], _∷_, map}
 use native.Mathlib.Omega.{arith}
 use native.Mathlib.Nat.{mod-eq-of-lt}
-use lib.ListN.{length, getD, take, replicate, length-map}
-use lib.Seq.{take-at}
+use lib.ListN.{length, getD}
+use lib.Seq.{take-all}
 use borrow.Author.Tests.{lt-ltb, lt-leb, le-leb, eq-eqb, ne-eqb}
-use Rattle.format.specs.Parse.{many, times, got, pick}
-use Rattle.format.specs.ParseLaws.{many-told}
+use Rattle.format.specs.Parse.{many, times, each, got, bad, pick}
+use Rattle.format.specs.ParseLaws.{many-told, each-got, each-bad}
 use Rattle.format.specs.Search.{hashAt}
-use Rattle.format.specs.Bump.{headOf}
+use Rattle.format.specs.Path.{bumpPathOf}
 use Rattle.format.specs.BumpLaws.{BumpRead, bump-told}
 use Rattle.format.specs.Gather.{padded, padded-at}
-use Rattle.format.specs.Beef.{Entry, Beef, beefWhole}
-use Rattle.format.specs.BeefAnswer.{noBump, noEntry as noHead, entryHeadOf, bundleOf}
-use Rattle.format.specs.BeefLaws.{BeefRead, EntryRead, Held, bundle-refused, bundle-value, beef-told}
+use Rattle.format.specs.Beef.{Entry, Beef, entryField, beefWhole}
+use Rattle.format.specs.BeefAnswer.{noBump, entryHeadOf, firstAt, beefHeadOf, bumpHeads}
+use Rattle.format.specs.BeefLaws.{BeefRead, EntryRead, foundHead, beef-told}
 use Rattle.format.specs.TransactionLaws.{TxRead, tx-told}
 use Rattle.format.specs.declared.bump.BumpHead.{BumpHead}
-use Rattle.format.specs.declared.field.Cursor.{Cursor}
 use Rattle.format.specs.declared.refusal.Refusal.{Refusal}
 use Rattle.format.specs.declared.beef.BeefHead.{BeefHead}
-use Rattle.format.specs.declared.beef.BeefAnswer.{BeefAnswer}
-use Rattle.format.specs.declared.beef.Bundle.{Bundle}
 use Rattle.format.specs.declared.beef.Anchor.{Anchor}
 use Rattle.format.specs.declared.beef.Anchor.the-variants.{Unanchored, Bump as InBump}
-use Rattle.format.specs.Refusals.{MAX-BUMPS, MAX-TXS, MAX-INPUT, NO-PARENT, SAME-TX, BAD-INDEX, TOO-LONG, BAD-ROOTS}
+use Rattle.format.specs.Refusals.{MAX-BUMPS, MAX-INPUT, NO-PARENT, SAME-TX, BAD-INDEX, TOO-LONG, BAD-ROOTS}
 use Rattle.format.specs.declared.tx.Input.{Input}
 use Rattle.format.specs.Transaction.{inputField, txHeadOf}
 use Rattle.spv.specs.declared.table.Record.{Record}
-use Rattle.format.specs.IdLaws.{tx-hash}
+use Rattle.format.specs.IdLaws.{tx-hash, span-length}
+use Rattle.spv.specs.Table.{flatHead}
 use Rattle.spv.specs.Readings.{bump-path-judge}
 use Rattle.spv.specs.Bundle.{among, rests, refuses, passes, trusted, proving, nthBump, emptyBump, entryId, entryRow, anchoring, standing, refusedAs, judgeFrom, judgeEntries, judgeRead, judgeBeef}
 use Rattle.spv.specs.BundleTheorems.{emptyEntry, trusted-told}
 use Rattle.spv.specs.BundlePosition.{bump-position}
 use Rattle.spv.specs.BundleLaws.{from-map, from-same}
-use Rattle.spv.specs.BundleHeads.{restsFrom, headProving, headAnchoring, headStanding, headId, headStands, headRow, rowOf}
+use Rattle.spv.specs.BundleHeads.{restsFrom, headProving, headAnchoring, headStanding, headId, headStands, headRow, headsFrom, numbersOf}
 
 -- ---- one transaction
 
@@ -59,7 +57,7 @@ rests-again s ids (suc n) at {l} e =
 module _ (s roots : List ℕ) (room : ℕ) (b : Beef) (read : BeefRead room s b) where
   -- what the code holds of the BUMPs
   abbrev heads : List BumpHead
-  heads = padded MAX-BUMPS noBump (map headOf (b .bumps))
+  heads = padded MAX-BUMPS noBump (map foundHead (b .bumps))
 
   abbrev nth : ℕ → Entry
   nth k = getD (b .entries) k emptyEntry
@@ -79,13 +77,13 @@ module _ (s roots : List ℕ) (room : ℕ) (b : Beef) (read : BeefRead room s b)
 
     anchors-agree : (earlier : List (List ℕ)) (x : Anchor) → nth k .anchor ≡ x
         → headAnchoring s roots heads earlier (entryId s (nth k)) (txHeadOf (nth k .transaction)) x ≡ anchoring s roots (b .bumps) earlier (nth k) x
-    unfolding headAnchoring anchoring headProving proving
+    unfolding headAnchoring anchoring headProving proving bumpPathOf
     anchors-agree earlier (InBump n) h =
         let few : n < length (b .bumps) = entry .anchored n h in
         let less : n < 64 = let f = read .bumps-low in omega arith in
         let id : List ℕ = entryId s (nth k) in
         ap (λ (t : Bool). pick t (trusted roots n (headProving s (getD heads n noBump) id)) (refuses BAD-INDEX)) (lt-ltb n 64 less)
-        ∙ ap (λ (m : BumpHead). trusted roots n (headProving s m id)) (padded-at MAX-BUMPS noBump headOf (b .bumps) n emptyBump few)
+        ∙ ap (λ (m : BumpHead). trusted roots n (headProving s m id)) (padded-at MAX-BUMPS noBump foundHead (b .bumps) n emptyBump few)
         ∙ ap (trusted roots n) (bump-path-judge s id (nthBump (b .bumps) n) (bump-read n few .1))
     anchors-agree earlier Unanchored h = ap (λ (t : Bool). pick t (passes 0 0 0) (refuses NO-PARENT)) (rests-again s earlier (length (nth k .transaction .inputs)) (nth k .transaction .inputsAt) (tx .inputs-read))
 
@@ -95,34 +93,44 @@ module _ (s roots : List ℕ) (room : ℕ) (b : Beef) (read : BeefRead room s b)
         ap (λ (x : List ℕ). headStanding s roots heads earlier x (entryHeadOf (nth k))) same-id
         ∙ ap (pick (among (entryId s (nth k)) earlier) (refuses SAME-TX)) (anchors-agree earlier (nth k .anchor) refl)
 
-    -- the position fits the record's field
-    position-fits : (earlier : List (List ℕ)) (a n i : ℕ) → standing s roots (b .bumps) earlier (nth k) ≡ passes a n i → i < 4294967296
+    -- the anchor's number and the position fit the record's fields
+    fits : (earlier : List (List ℕ)) (a n i : ℕ) → standing s roots (b .bumps) earlier (nth k) ≡ passes a n i → (a < 4294967296) × (i < 4294967296)
     unfolding standing anchoring
-    position-fits earlier a n i e = go (among (entryId s (nth k)) earlier) e
+    fits earlier a n i e = go (among (entryId s (nth k)) earlier) e
       where
-        anchored : (x : Anchor) → nth k .anchor ≡ x → anchoring s roots (b .bumps) earlier (nth k) x ≡ passes a n i → i < 4294967296
+        anchored : (x : Anchor) → nth k .anchor ≡ x → anchoring s roots (b .bumps) earlier (nth k) x ≡ passes a n i → (a < 4294967296) × (i < 4294967296)
         anchored (InBump m) h q =
             let w = trusted-told roots m (proving s (nthBump (b .bumps) m) (entryId s (nth k))) a n i q in
             let few : m < length (b .bumps) = entry .anchored m h in
             let below = bump-position s (entryId s (nth k)) (nthBump (b .bumps) m) (bump-read m few .1) (w .0) (w .1) in
+            let one = w .3 in
             let is = w .5 in
-            omega arith
+            (omega arith, omega arith)
         anchored Unanchored h q = free (rests s earlier (nth k .transaction .inputs)) q
           where
-            free : (t : Bool) → pick t (passes 0 0 0) (refuses NO-PARENT) ≡ passes a n i → i < 4294967296
-            free true m = let z : 0 ≡ i = cc in omega arith
+            free : (t : Bool) → pick t (passes 0 0 0) (refuses NO-PARENT) ≡ passes a n i → (a < 4294967296) × (i < 4294967296)
+            free true m =
+                let y : 0 ≡ a = cc in
+                let z : 0 ≡ i = cc in
+                (omega arith, omega arith)
             free false m = absurd (let z : _≡_ {A = ℕ} 0 1 = cc in omega arith)
 
-        go : (t : Bool) → pick t (refuses SAME-TX) (anchoring s roots (b .bumps) earlier (nth k) (nth k .anchor)) ≡ passes a n i → i < 4294967296
+        go : (t : Bool) → pick t (refuses SAME-TX) (anchoring s roots (b .bumps) earlier (nth k) (nth k .anchor)) ≡ passes a n i → (a < 4294967296) × (i < 4294967296)
         go true m = absurd (let z : _≡_ {A = ℕ} 0 1 = cc in omega arith)
         go false m = anchored (nth k .anchor) refl m
 
     same-row : (earlier : List (List ℕ)) (a n i : ℕ) → standing s roots (b .bumps) earlier (nth k) ≡ passes a n i → headRow s (entryHeadOf (nth k)) a n i ≡ entryRow s (nth k) a n i
-    unfolding entryRow
+    unfolding entryRow flatHead
     same-row earlier a n i e =
-        ap (λ (x : List ℕ). rowOf (txHeadOf (nth k .transaction)) x a n i) same-id
-        ∙ ap {B = Record} (λ p. record { start = nth k .transaction .start; length = nth k .transaction .end - nth k .transaction .start; id = entryId s (nth k); anchored = a; bump = n; position = p })
-        (mod-eq-of-lt (position-fits earlier a n i e))
+        let f = fits earlier a n i e in
+        let id : List ℕ = entryId s (nth k) in
+        ap (λ (x : List ℕ). flatHead x (numbersOf (txHeadOf (nth k .transaction)) a n i)) same-id
+        ∙ ap (λ (x : List ℕ). row x (a % 4294967296) (i % 4294967296)) (take-all 32 id (let z = span-length s (nth k .transaction .start) (nth k .transaction .end) in let y = ap length same-id in omega arith))
+        ∙ ap (λ (x : ℕ). row id x (i % 4294967296)) (mod-eq-of-lt (f .0))
+        ∙ ap (row id a) (mod-eq-of-lt (f .1))
+      where
+        row : List ℕ → ℕ → ℕ → Record
+        row id a i = record { start = nth k .transaction .start; length = nth k .transaction .end - nth k .transaction .start; id = id; anchored = a; bump = n; position = i }
 
   -- judged by heads as by entries
   pub heads-judged : judgeFrom (headId s) (headStands s roots heads) (headRow s) [] (map entryHeadOf (b .entries)) ≡ judgeEntries s roots b
@@ -134,12 +142,16 @@ module _ (s roots : List ℕ) (room : ℕ) (b : Beef) (read : BeefRead room s b)
 
 -- ---- a whole input
 
--- the entries that the code holds
-entries-held : (r : Bundle) (h : BeefHead) (b : Beef) → Held r b h → take (h .transactions) (r .entries) ≡ map entryHeadOf (b .entries)
-unfolding padded
-entries-held r h b held =
-    ap (take (h .transactions)) (held .entries)
-    ∙ take-at (map entryHeadOf (b .entries)) (replicate (MAX-TXS - length (map entryHeadOf (b .entries))) noHead) (h .transactions) (length-map (b .entries) entryHeadOf ∙ sym (held .entry-count))
+-- transactions that were read are the same when they are read again
+heads-again : (bumps : ℕ) (s : List ℕ) (n at : ℕ) {l : List Entry} {q : ℕ} → times (entryField bumps) n s at ≡ got l q → headsFrom bumps s n at ≡ map entryHeadOf l
+unfolding many each headsFrom
+heads-again bumps s zero at {l} e = let none : [] ≡ l = cc in rw (← none)
+heads-again bumps s (suc n) at {l} e =
+    let x = many-told {S = Unit {0}} (λ _. entryField bumps) (λ u _. u) n tt s at e in
+    more (x .0) (x .1) (x .2) (x .3) (heads-again bumps s n (x .1) (x .4)) (x .5)
+  where
+    more : (a : Entry) (r : ℕ) (m : List Entry) → entryField bumps s at ≡ got a r → headsFrom bumps s n r ≡ map entryHeadOf m → a ∷ m ≡ l → headsFrom bumps s (suc n) at ≡ map entryHeadOf l
+    more a r m h f is = rw (h, f, ← is)
 
 module _ (s roots : List ℕ) (room : ℕ) where
   pub judge-long : MAX-INPUT < length s → refusedAs TOO-LONG 0 ≡ judgeBeef s roots room
@@ -152,30 +164,31 @@ module _ (s roots : List ℕ) (room : ℕ) where
     judge-roots h = simp (le-leb _ _ fits, ne-eqb _ _ h)
 
     module _ (even : length roots % 32 ≡ 0) where
-      pub judge-refused : (r : Bundle) (x : Refusal) → r ≡ bundleOf (beefWhole room s) → r .answer ≡ BeefAnswer.Refused x → refusedAs (x .number) (x .place) ≡ judgeBeef s roots room
+      pub judge-refused : (x : Refusal) → each beefHeadOf (beefWhole room s) ≡ bad (x .number) (x .place) → refusedAs (x .number) (x .place) ≡ judgeBeef s roots room
       unfolding judgeBeef judgeRead
-      judge-refused r x e h = simp (le-leb _ _ fits, eq-eqb _ _ even, bundle-refused (beefWhole room s) e h)
+      judge-refused x e = simp (le-leb _ _ fits, eq-eqb _ _ even, each-bad beefHeadOf (beefWhole room s) e)
 
-      pub judge-read : (r : Bundle) (h : BeefHead) (c : Cursor) → r ≡ bundleOf (beefWhole room s) → r .answer ≡ BeefAnswer.Value h c
-          → judgeFrom (headId s) (headStands s roots (r .bumps)) (headRow s) [] (take (h .transactions) (r .entries)) ≡ judgeBeef s roots room
+      pub judge-read : (h : BeefHead) (q : ℕ) {bumps : List BumpHead} → each beefHeadOf (beefWhole room s) ≡ got h q → bumps ≡ bumpHeads s
+          → judgeFrom (headId s) (headStands s roots bumps) (headRow s) [] (headsFrom (h .bumps) s (h .transactions) (h .entries .at)) ≡ judgeBeef s roots room
       unfolding judgeBeef judgeRead
-      judge-read r h c e v =
-          let w = bundle-value (beefWhole room s) e v in
-          judged (w .0) (w .1) (w .2)
+      judge-read h q {bumps} e found =
+          let w = each-got beefHeadOf (beefWhole room s) e in
+          judged (w .0) (w .1) (w .2) (beef-told room s (w .1))
         where
-          judged : (b : Beef) → beefWhole room s ≡ got b (c .at) → Held r b h
-              → judgeFrom (headId s) (headStands s roots (r .bumps)) (headRow s) [] (take (h .transactions) (r .entries)) ≡ judgeBeef s roots room
-          judged b g held =
-              ap (λ (m : List BumpHead). judgeFrom (headId s) (headStands s roots m) (headRow s) [] (take (h .transactions) (r .entries))) (held .bumps)
-              ∙ ap (judgeFrom (headId s) (headStands s roots (padded MAX-BUMPS noBump (map headOf (b .bumps)))) (headRow s) []) (entries-held r h b held)
-              ∙ heads-judged s roots room b (beef-told room s g)
+          judged : (b : Beef) → beefWhole room s ≡ got b q → beefHeadOf b ≡ h → BeefRead room s b
+              → judgeFrom (headId s) (headStands s roots bumps) (headRow s) [] (headsFrom (h .bumps) s (h .transactions) (h .entries .at)) ≡ judgeBeef s roots room
+          judged b g is read =
+              ap (λ (m : List BumpHead). judgeFrom (headId s) (headStands s roots m) (headRow s) [] (headsFrom (h .bumps) s (h .transactions) (h .entries .at))) (found ∙ read .heads)
+              ∙ ap (λ (k : BeefHead). judgeFrom (headId s) (headStands s roots (padded MAX-BUMPS noBump (map foundHead (b .bumps)))) (headRow s) [] (headsFrom (k .bumps) s (k .transactions) (k .entries .at))) (sym is)
+              ∙ ap (judgeFrom (headId s) (headStands s roots (padded MAX-BUMPS noBump (map foundHead (b .bumps)))) (headRow s) []) (heads-again (length (b .bumps)) s (length (b .entries)) (firstAt (b .entries)) (read .entries))
+              ∙ heads-judged s roots room b read
               ∙ sym (simp (le-leb _ _ fits, eq-eqb _ _ even, g))
 
--- a bundle that was read has no more transactions than the code holds
-pub read-few : (s : List ℕ) (room : ℕ) (r : Bundle) (h : BeefHead) (c : Cursor) → r ≡ bundleOf (beefWhole room s) → r .answer ≡ BeefAnswer.Value h c → h .transactions ≤ 256
-read-few s room r h c e v =
-    let w = bundle-value (beefWhole room s) e v in
-    few (w .0) (w .1) (w .2)
+-- a bundle that was read has no more transactions than the flat form
+pub read-few : (s : List ℕ) (room : ℕ) (h : BeefHead) (q : ℕ) → each beefHeadOf (beefWhole room s) ≡ got h q → h .transactions ≤ 256
+read-few s room h q e =
+    let w = each-got beefHeadOf (beefWhole room s) e in
+    few (w .0) (w .2) (beef-told room s (w .1))
   where
-    few : (b : Beef) → beefWhole room s ≡ got b (c .at) → Held r b h → h .transactions ≤ 256
-    few b g held = let x = beef-told room s g in let low = x .entries-low in let same = held .entry-count in omega arith
+    few : (b : Beef) → beefHeadOf b ≡ h → BeefRead room s b → h .transactions ≤ 256
+    few b is read = let low = read .entries-low in let same = ap (λ (k : BeefHead). k .transactions) is in omega arith

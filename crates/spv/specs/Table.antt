@@ -1,27 +1,49 @@
--- Rows of a table of transaction records.
-use Prim.Native.Nat.{ℕ, zero, suc}
+-- Rows of a table of transaction records, and the flat form in which the code holds them: their ids end to end, and five numbers for each.
+use Prim.Native.Nat.{ℕ, zero, suc, _+_, _*_, _%_}
 use mathlib.Core.List.{List, [], _∷_, _++_}
-use lib.Dec.{ltb}
-use lib.ListN.{replicate, getD}
+use lib.Dec.{ltb, leb}
+use lib.ListN.{length, replicate, getD, take, drop}
 use Rattle.format.specs.Parse.{pick}
+use Rattle.format.specs.Search.{hashAt}
 use Rattle.spv.specs.declared.table.Record.{Record}
-use Rattle.spv.specs.declared.bundle.Ruling.{Ruling}
 
 -- the record of no transaction: all zero
 abbrev pub blankRecord : Record
 blankRecord = record { start = 0; length = 0; id = replicate 32 0; anchored = 0; bump = 0; position = 0 }
 
--- what an array of records has past its end
-abbrev pub noRecord : Record
-noRecord = record { start = 0; length = 0; id = []; anchored = 0; bump = 0; position = 0 }
+-- the first record of a flat form
+unfoldable pub flatHead : List ℕ → List ℕ → Record
+flatHead ids numbers = record {
+  start = getD numbers 0 0;
+  length = getD numbers 1 0;
+  id = take 32 ids;
+  bump = getD numbers 2 0;
+  anchored = getD numbers 3 0 % 4294967296;
+  position = getD numbers 4 0 % 4294967296;
+}
 
--- the record for a row of the table
-unfoldable pub recordOf : Ruling → ℕ → Record
-recordOf j row = pick (ltb row 256) (getD (j .records) row noRecord) blankRecord
+-- n records of a flat form
+unfoldable pub flat : ℕ → List ℕ → List ℕ → List Record
+flat zero ids numbers = []
+flat (suc n) ids numbers = flatHead ids numbers ∷ flat n (drop 32 ids) (drop 5 numbers)
 
--- how many rows of a table of n have a record that is held
-unfoldable pub heldRows : ℕ → ℕ
-heldRows n = pick (ltb n 256) n 256
+-- the record for a row, of so many that a flat form of 256 holds: blank past them
+unfoldable pub flatRecord : List ℕ → List ℕ → ℕ → ℕ → Record
+flatRecord ids numbers count row =
+    pick (ltb row count)
+    (pick (ltb row 256)
+    (pick (leb 1280 (length numbers))
+    (record {
+      start = getD numbers (5 * row) 0;
+      length = getD numbers (5 * row + 1) 0;
+      id = hashAt ids (32 * row);
+      bump = getD numbers (5 * row + 2) 0;
+      anchored = getD numbers (5 * row + 3) 0 % 4294967296;
+      position = getD numbers (5 * row + 4) 0 % 4294967296;
+    })
+    blankRecord)
+    blankRecord)
+    blankRecord
 
 -- the n rows of which the i-th is f i
 unfoldable pub rows : {A : Type 0} → (ℕ → A) → ℕ → List A

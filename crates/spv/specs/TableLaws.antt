@@ -1,20 +1,19 @@
--- Laws of the rows of a table.
+-- Laws of the rows of a table and of the flat form.
 use mathlib.Core.Path.{_≡_, refl, sym, ap, _∙_}
 use mathlib.Core.List.{List, [], _∷_, _++_}
-use Prim.Native.Nat.{ℕ, zero, suc, _+_, _-_, _<_, _≤_}
-use native.Mathlib.Nat.{not-suc-le-zero, le-of-suc-le-suc}
+use Prim.Native.Nat.{ℕ, zero, suc, _+_, _-_, _*_, _<_, _≤_}
+use native.Mathlib.Nat.{not-suc-le-zero, le-of-suc-le-suc, add-zero}
 use native.Mathlib.Numerals.{add-one}
 use native.Mathlib.Omega.{arith}
 use mathlib.Core.Bool.{Bool, true, false}
 use lib.Dec.{ltb}
-use lib.ListN.{length, getD, replicate, length-append, List·getD-append, List·getD-eq-default}
-use lib.Seq.{ext-getD, getD-at}
-use borrow.Author.Tests.{le-ltb, ltb-true, ltb-false}
-use Rattle.format.specs.Parse.{pick}
+use lib.ListN.{length, getD, take, drop, replicate, length-append, length-drop, take-append-drop, List·getD-append, List·getD-eq-default}
+use lib.Seq.{ext-getD, getD-at, getD-drop, drop-drop, take-all, take-append-le, drop-append-le, length-take-le, paste, length-paste, take-paste}
+use borrow.Author.Tests.{lt-ltb, le-leb, ltb-true, ltb-false}
+use Rattle.format.specs.Search.{hashAt}
 use Rattle.format.specs.Gather.{padded, padded-length}
 use Rattle.spv.specs.declared.table.Record.{Record}
-use Rattle.spv.specs.declared.bundle.Ruling.{Ruling}
-use Rattle.spv.specs.Table.{blankRecord, noRecord, recordOf, heldRows, rows}
+use Rattle.spv.specs.Table.{blankRecord, flatHead, flat, flatRecord, rows}
 
 pub rows-length : {A : Type 0} (f : ℕ → A) (n : ℕ) → length (rows f n) ≡ n
 unfolding rows
@@ -31,12 +30,6 @@ rows-at f (suc n) i d h = go (ltb i n) refl (rows-at f n i d)
     go false e below =
         let last : n ≡ i = omega (arith, ltb-false i n e) in
         getD-at (rows f n) (f n) [] d i (rows-length f n ∙ last) ∙ ap f last
-
--- what a list has at an index below its length, whatever it has past its end
-getD-any : {A : Type 0} (l : List A) (i : ℕ) (c d : A) → i < length l → getD l i c ≡ getD l i d
-getD-any [] i c d h = absurd (not-suc-le-zero h)
-getD-any (x ∷ l) zero c d h = refl
-getD-any (x ∷ l) (suc i) c d h = getD-any l i c d (le-of-suc-le-suc h)
 
 getD-replicate-same : {A : Type 0} (n i : ℕ) (d : A) → getD (replicate n d) i d ≡ d
 getD-replicate-same zero i d = refl
@@ -55,36 +48,96 @@ rows-list f d l n e h =
     ext-getD d (rows f n) (padded n d l) (rows-length f n ∙ sym (padded-length n d l h))
     (λ i b. rows-at f n i d (rw (rows-length f n) at b) ∙ e i ∙ sym (getD-padded l (n - length l) i d))
 
--- the records that the code holds, row by row, are the table
-module _ (j : Ruling) (l : List Record) (few : length l ≤ 256) (held : j .records ≡ padded 256 blankRecord l) where
-  row-is : (i : ℕ) → recordOf j i ≡ getD l i blankRecord
-  unfolding recordOf padded
-  row-is i = go (ltb i 256) refl
+-- ---- the flat form
+
+pub flat-length : (n : ℕ) (ids numbers : List ℕ) → length (flat n ids numbers) ≡ n
+unfolding flat
+flat-length zero ids numbers = refl
+flat-length (suc n) ids numbers = ap suc (flat-length n (drop 32 ids) (drop 5 numbers))
+
+-- what stands after the records does not matter
+module _ (l m x y : List ℕ) (wide : 32 ≤ length l) (long : 5 ≤ length m) where
+  head-front : flatHead (l ++ x) (m ++ y) ≡ flatHead l m
+  unfolding flatHead
+  head-front =
+      rw (take-append-le 32 l x wide, List·getD-append m y 0 0 (omega arith), List·getD-append m y 0 1 (omega arith), List·getD-append m y 0 2 (omega arith), List·getD-append m y 0 3 (omega arith), List·getD-append m y 0 4 (omega arith))
+
+flat-front : (n : ℕ) (l m x y : List ℕ) → length l ≡ 32 * n → length m ≡ 5 * n → flat n (l ++ x) (m ++ y) ≡ flat n l m
+unfolding flat
+flat-front zero l m x y e h = refl
+flat-front (suc n) l m x y e h =
+    ap (λ (r : Record). r ∷ flat n (drop 32 (l ++ x)) (drop 5 (m ++ y))) (head-front l m x y (omega arith) (omega arith))
+    ∙ ap (λ (r : List ℕ). flatHead l m ∷ flat n r (drop 5 (m ++ y))) (drop-append-le 32 l x (omega arith))
+    ∙ ap (λ (r : List ℕ). flatHead l m ∷ flat n (drop 32 l ++ x) r) (drop-append-le 5 m y (omega arith))
+    ∙ ap (flatHead l m ∷_) (flat-front n (drop 32 l) (drop 5 m) x y (length-drop 32 l ∙ omega arith) (length-drop 5 m ∙ omega arith))
+
+flat-last : (n : ℕ) (l m x y : List ℕ) → length l ≡ 32 * n → length m ≡ 5 * n → flat (suc n) (l ++ x) (m ++ y) ≡ flat n l m ++ (flatHead x y ∷ [])
+unfolding flat
+flat-last zero [] [] x y e h = refl
+flat-last zero [] (k ∷ m) x y e h = absurd (omega arith)
+flat-last zero (k ∷ l) m x y e h = absurd (omega arith)
+flat-last (suc n) l m x y e h =
+    ap (λ (r : Record). r ∷ flat (suc n) (drop 32 (l ++ x)) (drop 5 (m ++ y))) (head-front l m x y (omega arith) (omega arith))
+    ∙ ap (λ (r : List ℕ). flatHead l m ∷ flat (suc n) r (drop 5 (m ++ y))) (drop-append-le 32 l x (omega arith))
+    ∙ ap (λ (r : List ℕ). flatHead l m ∷ flat (suc n) (drop 32 l ++ x) r) (drop-append-le 5 m y (omega arith))
+    ∙ ap (flatHead l m ∷_) (flat-last n (drop 32 l) (drop 5 m) x y (length-drop 32 l ∙ omega arith) (length-drop 5 m ∙ omega arith))
+
+flat-take : (n : ℕ) (ids numbers : List ℕ) → 32 * n ≤ length ids → 5 * n ≤ length numbers → flat n ids numbers ≡ flat n (take (32 * n) ids) (take (5 * n) numbers)
+flat-take n ids numbers h f =
+    ap (λ (l : List ℕ). flat n l numbers) (sym (take-append-drop (32 * n) ids))
+    ∙ ap (flat n (take (32 * n) ids ++ drop (32 * n) ids)) (sym (take-append-drop (5 * n) numbers))
+    ∙ flat-front n (take (32 * n) ids) (take (5 * n) numbers) (drop (32 * n) ids) (drop (5 * n) numbers) (length-take-le (32 * n) ids h) (length-take-le (5 * n) numbers f)
+
+-- one record more: its id and its numbers are written after the others
+pub flat-more : (n : ℕ) (ids numbers x y : List ℕ) → 32 * n + 32 ≤ length ids → 5 * n + 5 ≤ length numbers → length x ≡ 32 → length y ≡ 5
+    → flat (n + 1) (paste ids (32 * n) x 32) (paste numbers (5 * n) y 5) ≡ flat n ids numbers ++ (flatHead x y ∷ [])
+flat-more n ids numbers x y h f e g =
+    flat-take (n + 1) ids′ numbers′ (let z = length-paste ids (32 * n) x 32 h (omega arith) in omega arith) (let z = length-paste numbers (5 * n) y 5 f (omega arith) in omega arith)
+    ∙ ap (λ (k : ℕ). flat (n + 1) (take k ids′) (take (5 * (n + 1)) numbers′)) next-id
+    ∙ ap (λ (k : ℕ). flat (n + 1) (take (32 * n + 32) ids′) (take k numbers′)) next-row
+    ∙ ap (λ (l : List ℕ). flat (n + 1) l (take (5 * n + 5) numbers′)) (take-paste ids (32 * n) x 32 (omega arith) (omega arith) ∙ ap (λ (l : List ℕ). take (32 * n) ids ++ l) (take-all 32 x (omega arith)))
+    ∙ ap (flat (n + 1) (take (32 * n) ids ++ x)) (take-paste numbers (5 * n) y 5 (omega arith) (omega arith) ∙ ap (λ (l : List ℕ). take (5 * n) numbers ++ l) (take-all 5 y (omega arith)))
+    ∙ ap (λ (k : ℕ). flat k (take (32 * n) ids ++ x) (take (5 * n) numbers ++ y)) (add-one n)
+    ∙ flat-last n (take (32 * n) ids) (take (5 * n) numbers) x y (length-take-le (32 * n) ids (omega arith)) (length-take-le (5 * n) numbers (omega arith))
+    ∙ ap (λ (l : List Record). l ++ (flatHead x y ∷ [])) (sym (flat-take n ids numbers (omega arith) (omega arith)))
+  where
+    ids′ : List ℕ
+    ids′ = paste ids (32 * n) x 32
+
+    numbers′ : List ℕ
+    numbers′ = paste numbers (5 * n) y 5
+
+    next-id : 32 * (n + 1) ≡ 32 * n + 32
+    next-id = omega arith
+
+    next-row : 5 * (n + 1) ≡ 5 * n + 5
+    next-row = omega arith
+
+-- the record at a row
+flat-at : (n : ℕ) (ids numbers : List ℕ) (k : ℕ) (d : Record) → k < n → getD (flat n ids numbers) k d ≡ flatHead (drop (32 * k) ids) (drop (5 * k) numbers)
+unfolding flat
+flat-at zero ids numbers k d h = absurd (not-suc-le-zero h)
+flat-at (suc n) ids numbers zero d h = refl
+flat-at (suc n) ids numbers (suc k) d h =
+    let a : 32 + 32 * k ≡ 32 * suc k = omega arith in
+    let b : 5 + 5 * k ≡ 5 * suc k = omega arith in
+    flat-at n (drop 32 ids) (drop 5 numbers) k d (le-of-suc-le-suc h)
+    ∙ ap (λ (l : List ℕ). flatHead l (drop (5 * k) (drop 5 numbers))) (drop-drop (32 * k) 32 ids ∙ ap (λ (j : ℕ). drop j ids) a)
+    ∙ ap (flatHead (drop (32 * suc k) ids)) (drop-drop (5 * k) 5 numbers ∙ ap (λ (j : ℕ). drop j numbers) b)
+
+-- the rows of a flat form are its records, and past them blank
+module _ (ids numbers : List ℕ) (wide : 8192 ≤ length ids) (long : 1280 ≤ length numbers) (n : ℕ) (few : n ≤ 256) where
+  pub flat-row : (k : ℕ) → flatRecord ids numbers n k ≡ getD (flat n ids numbers) k blankRecord
+  unfolding flatRecord flatHead hashAt
+  flat-row k = go (ltb k n) refl
     where
-      go : (b : Bool) → ltb i 256 ≡ b → recordOf j i ≡ getD l i blankRecord
+      go : (b : Bool) → ltb k n ≡ b → flatRecord ids numbers n k ≡ getD (flat n ids numbers) k blankRecord
       go true e =
-          let below : i < length (padded 256 blankRecord l) = rw (padded-length 256 blankRecord l few) (ltb-true i 256 e) in
-          rw (e, held) (getD-any (padded 256 blankRecord l) i noRecord blankRecord below ∙ getD-padded l (256 - length l) i blankRecord)
+          let low : k < n = ltb-true k n e in
+          let at : (j : ℕ) → getD numbers (5 * k + j) 0 ≡ getD (drop (5 * k) numbers) j 0 = λ j. sym (getD-drop (5 * k) numbers j 0) in
+          let first : getD numbers (5 * k) 0 ≡ getD (drop (5 * k) numbers) 0 0 = ap (λ (i : ℕ). getD numbers i 0) (sym (add-zero (5 * k))) ∙ at 0 in
+          rw (e, lt-ltb k 256 (omega arith), le-leb 1280 (length numbers) long, le-leb (32 * k + 32) (length ids) (omega arith), first, at 1, at 2, at 3, at 4)
+          (sym (flat-at n ids numbers k blankRecord low))
       go false e =
-          let past : length l ≤ i = omega (arith, ltb-false i 256 e) in
-          rw e (sym (List·getD-eq-default l blankRecord past))
-
-  pub rows-padded : (n : ℕ) → length l ≤ n → rows (recordOf j) n ≡ padded n blankRecord l
-  rows-padded n h = rows-list (recordOf j) blankRecord l n row-is h
-
-pub held-le : (n : ℕ) → heldRows n ≤ n
-unfolding heldRows
-held-le n = go (ltb n 256) refl
-  where
-    go : (b : Bool) → ltb n 256 ≡ b → pick b n 256 ≤ n
-    go true e = omega arith
-    go false e = ltb-false n 256 e
-
--- past the rows that are held a row is blank
-pub held-past : (j : Ruling) (n i : ℕ) → heldRows n ≤ i → i < n → blankRecord ≡ recordOf j i
-unfolding heldRows recordOf
-held-past j n i h l = go (ltb n 256) refl h
-  where
-    go : (b : Bool) → ltb n 256 ≡ b → pick b n 256 ≤ i → blankRecord ≡ recordOf j i
-    go true e m = absurd (omega arith)
-    go false e m = rw (le-ltb i 256 m)
+          let past : length (flat n ids numbers) ≤ k = let z = flat-length n ids numbers in omega (arith, ltb-false k n e) in
+          rw e (sym (List·getD-eq-default (flat n ids numbers) blankRecord past))

@@ -1,11 +1,11 @@
 // Judging a BEEF against a list of trusted roots (paper 01, "The bundle rule").
 use super::prove::Judged;
 use super::prove::prove_in;
-use super::table::Record;
-use super::table::blank;
 use format::Anchor;
 use format::BeefAnswer;
 use format::BumpHead;
+use format::Cursor;
+use format::EntryAnswer;
 use format::EntryHead;
 use format::InputAnswer;
 use format::Items;
@@ -14,18 +14,18 @@ use format::TxHead;
 use format::refusal::BAD_INDEX;
 use format::refusal::BAD_ROOTS;
 use format::refusal::NO_PARENT;
+use format::refusal::NO_ROOM;
 use format::refusal::SAME_TX;
 use format::refusal::TOO_LONG;
 use format::refusal::UNTRUSTED;
 ghost use mathlib.Core.Path.{_≡_};
 ghost use Prim.Native.Nat.{_+_, _*_, _<_, _≤_};
-ghost use lib.ListN.{length, take, drop, replicate};
+ghost use lib.ListN.{length, take, drop};
 ghost use lib.Seq.{paste};
 ghost use Rattle.format.specs.Bytes.{same};
-ghost use Rattle.spv.specs.Bundle.{hashesOf, among, trusted, refusedAs, judgeFrom, judgeBeef};
-ghost use Rattle.spv.specs.BundleHeads.{rowOf, restsFrom, headProving, headStanding, headId, headStands, headRow, standingOf};
-ghost use Rattle.spv.specs.BundleAnswer.{rulingOf};
-ghost use Rattle.spv.specs.Table.{blankRecord};
+ghost use Rattle.spv.specs.Bundle.{hashesOf, among, trusted, judgeFrom, judgeBeef};
+ghost use Rattle.spv.specs.BundleHeads.{numbersOf, restsFrom, headProving, headStanding, headId, headStands, headRow, headsFrom, standingOf};
+ghost use Rattle.spv.specs.BundleAnswer.{judgementOf};
 ghost use mathlib.Core.List.{[]};
 
 // What judging answers: the number of transactions, or a refusal.
@@ -34,17 +34,11 @@ pub enum Verdict {
     Refused(Refusal),
 }
 
-// A verdict with the table that goes with it.
-pub struct Ruling {
-    pub verdict: Verdict,
-    pub records: [Record; 256],
-}
-
 // How a transaction stands after the earlier ones.
 pub enum Standing {
     Refuses(u8),
     Passes {
-        anchored: u32,
+        anchored: u64,
         bump: u64,
         position: u64,
     },
@@ -80,42 +74,42 @@ fn is_among(x: [u8; 32], list: &[u8]) -> bool
     false
 }
 
-fn no_ids() -> [u8; 8192]
-    ensures { λ r. ⌜ r ≡ replicate 8192 0 ⌝ }
-{
-    [0u8; 8192]
-}
-
-// The ids, end to end, with one more.
-fn with_id(ids: [u8; 8192], i: usize, id: [u8; 32]) -> [u8; 8192]
+// The id of the i-th transaction, among ids end to end.
+fn put_id(ids: &mut [u8], i: usize, id: [u8; 32])
     requires { ⌜ i < 256 ⌝ }
-    ensures { λ r. ⌜ r ≡ paste ids (32 * i) id 32 ⌝ }
+    requires { ⌜ 32 * i + 32 ≤ length (now ids) ⌝ }
+    ensures { λ _. ⌜ now (ids .exit) ≡ paste (now (ids .entry)) (32 * i) id 32 ⌝ }
 {
-    let mut out = ids;
     let at = 32 * i;
     let mut k = 0;
     while k < 32 {
-        out[at + k] = id[k];
+        ids[at + k] = id[k];
         k += 1;
     }
-    out
 }
 
-// The record of a transaction that passes.
-fn row_of(tx: TxHead, id: [u8; 32], anchored: u32, bump: u64, position: u64) -> Record
-    ensures { λ r. ⌜ r ≡ rowOf tx id anchored bump position ⌝ }
+// The numbers of the i-th record, five for each.
+fn put_numbers(numbers: &mut [u64], i: usize, row: [u64; 5])
+    requires { ⌜ i < 256 ⌝ }
+    requires { ⌜ 5 * i + 5 ≤ length (now numbers) ⌝ }
+    ensures { λ _. ⌜ now (numbers .exit) ≡ paste (now (numbers .entry)) (5 * i) row 5 ⌝ }
+{
+    let at = 5 * i;
+    let mut k = 0;
+    while k < 5 {
+        numbers[at + k] = row[k];
+        k += 1;
+    }
+}
+
+// What a record says of a transaction that passes, but for its id.
+fn numbers_of(tx: TxHead, anchored: u64, bump: u64, position: u64) -> [u64; 5]
+    ensures { λ r. ⌜ r ≡ numbersOf tx anchored bump position ⌝ }
 {
     let start = tx.start;
     let end = tx.end;
     let length = if start <= end { end - start } else { 0 };
-    Record {
-        start: start as u64,
-        length: length as u64,
-        id,
-        bump,
-        anchored,
-        position: (position % 4294967296) as u32,
-    }
+    [start as u64, length as u64, bump, anchored, position]
 }
 
 // Whether each input has its parent among the ids.
@@ -199,83 +193,90 @@ fn judge_entry(
     }
 }
 
-fn no_records() -> [Record; 256]
-    ensures { λ r. ⌜ r ≡ replicate 256 blankRecord ⌝ }
+fn refused(number: u8) -> Verdict
+    ensures { λ r. ⌜ r ≡ Verdict.Refused (record { number = number; place = 0 }) ⌝ }
 {
-    let none = blank();
-    [none; 256]
+    Verdict::Refused(Refusal { number, place: 0 })
 }
 
-// A refusal, with a table that is blank.
-fn refused(number: u8, carried: usize) -> Ruling
-    ensures { λ r. ⌜ r ≡ rulingOf (refusedAs number carried) ⌝ }
-{
-    let records = no_records();
-    Ruling {
-        verdict: Verdict::Refused(Refusal {
-            number,
-            place: carried,
-        }),
-        records,
-    }
-}
-
-// The transactions of a bundle, judged from the first.
-fn judge_heads(
+// So many transactions, each read again at its place and judged, from the first. The ids and the numbers of those that pass are written.
+fn judge_entries(
     s: &[u8],
     roots: &[u8],
     bumps: [BumpHead; 64],
-    entries: [EntryHead; 256],
+    count: u64,
+    start: Cursor,
     n: usize,
-) -> Ruling
+    ids: &mut [u8],
+    numbers: &mut [u64],
+) -> Verdict
     requires { ⌜ n ≤ 256 ⌝ }
-    ensures { λ r. ⌜ r ≡ rulingOf (judgeFrom (headId (now (s .entry))) (headStands (now (s .entry)) (now (roots .entry)) bumps) (headRow (now (s .entry))) [] (take n entries)) ⌝ }
+    requires { ⌜ 8192 ≤ length (now ids) ⌝ }
+    requires { ⌜ 1280 ≤ length (now numbers) ⌝ }
+    ensures { λ r. ⌜ judgementOf r (now (ids .exit)) (now (numbers .exit)) ≡ judgeFrom (headId (now (s .entry))) (headStands (now (s .entry)) (now (roots .entry)) bumps) (headRow (now (s .entry))) [] (headsFrom count (now (s .entry)) n (start .at)) ⌝ }
 {
-    let mut ids = no_ids();
-    let mut records = no_records();
+    let mut next = start;
     let mut i = 0;
     while i < n {
-        let e = entries[i];
+        let field = format::read_entry(s, next, count);
+        let EntryAnswer::Value(e, after) = field else {
+            return Verdict::Accepted(i);
+        };
         let tx = e.transaction;
         let id = format::tx_id(s, tx);
         let standing = judge_entry(s, roots, bumps, &ids[..32 * i], id, e);
         match standing {
             Standing::Refuses(number) => {
-                return refused(number, i);
+                return Verdict::Refused(Refusal { number, place: i });
             }
             Standing::Passes {
                 anchored,
                 bump,
                 position,
             } => {
-                records[i] = row_of(tx, id, anchored, bump, position);
-                ids = with_id(ids, i, id);
+                let row = numbers_of(tx, anchored, bump, position);
+                put_id(ids, i, id);
+                put_numbers(numbers, i, row);
+                next = after;
                 i += 1;
             }
         }
     }
-    Ruling {
-        verdict: Verdict::Accepted(n),
-        records,
-    }
+    Verdict::Accepted(i)
 }
 
-// The bundle rule, for the bytes of a BEEF, a list of trusted roots end to end, and a table of so many rows.
-pub fn judge_bundle(s: &[u8], roots: &[u8], room: usize) -> Ruling
-    ensures { λ r. ⌜ r ≡ rulingOf (judgeBeef (now (s .entry)) (now (roots .entry)) room) ⌝ }
+// The bundle rule, for the bytes of a BEEF, a list of trusted roots end to end, and a table of so many rows. What the records say is written in a flat
+// form with room for 256: their ids end to end, and five numbers for each.
+pub fn judge_flat(
+    s: &[u8],
+    roots: &[u8],
+    room: usize,
+    ids: &mut [u8],
+    numbers: &mut [u64],
+) -> Verdict
+    ensures { λ r. ⌜ (8192 ≤ length (now (ids .entry)) → 1280 ≤ length (now (numbers .entry)) → judgementOf r (now (ids .exit)) (now (numbers .exit)) ≡ judgeBeef (now (s .entry)) (now (roots .entry)) room) ⌝ }
 {
+    if ids.len() < 8192 {
+        return refused(NO_ROOM);
+    }
+    if numbers.len() < 1280 {
+        return refused(NO_ROOM);
+    }
     if hash::MAX_INPUT < s.len() {
-        return refused(TOO_LONG, 0);
+        return refused(TOO_LONG);
     }
     if roots.len() % 32 != 0 {
-        return refused(BAD_ROOTS, 0);
+        return refused(BAD_ROOTS);
     }
-    let bundle = format::read_bundle(s, room);
-    let answer = bundle.answer;
-    let bumps = bundle.bumps;
-    let entries = bundle.entries;
+    let answer = format::read_bundle(s, room);
     match answer {
-        BeefAnswer::Refused(refusal) => refused(refusal.number, refusal.place),
-        BeefAnswer::Value(head, next) => judge_heads(s, roots, bumps, entries, head.transactions),
+        BeefAnswer::Refused(refusal) => Verdict::Refused(refusal),
+        BeefAnswer::Value(head, _) => {
+            let bumps = format::bump_heads(s);
+            let count = head.bumps;
+            let start = head.entries;
+            let n = head.transactions;
+            judge_entries(s, roots, bumps, count as u64, start, n, ids, numbers)
+        }
     }
 }

@@ -9,9 +9,8 @@ mod prove;
 mod table;
 mod values;
 
-pub use bundle::Ruling;
 pub use bundle::Verdict;
-pub use bundle::judge_bundle;
+pub use bundle::judge_flat;
 pub use clients::Agreement;
 pub use clients::Checked;
 pub use clients::check_clients;
@@ -27,3 +26,4 @@ pub use prove::prove_tsc;
 pub use table::Record;
 pub use table::blank;
 pub use table::judge_beef;
+pub use table::record_at;

@@ -1,11 +1,11 @@
 // The table of transaction records that a caller lends (paper 01, "The bundle rule").
-use super::bundle::Ruling;
 use super::bundle::Verdict;
-use super::bundle::judge_bundle;
+use super::bundle::judge_flat;
 ghost use mathlib.Core.Path.{_≡_};
 ghost use lib.ListN.{length};
 ghost use Rattle.spv.specs.Bundle.{judgeBeef, verdictOf, tableOf};
-ghost use Rattle.spv.specs.Table.{blankRecord, recordOf, heldRows, rows};
+ghost use Rattle.spv.specs.BundleAnswer.{countOf};
+ghost use Rattle.spv.specs.Table.{blankRecord, flatRecord, rows};
 
 // A transaction of a bundle: where it starts and its length, its id, the number of its BUMP, 1 if it is anchored and else 0, and its position in the
 // block; BUMP and position are 0 if it is not anchored. Any bytes are a value of each field, so that a caller may lend any memory, and no byte lies
@@ -35,50 +35,59 @@ pub fn blank() -> Record
     }
 }
 
-// The record for a row of the table.
-fn record_of(j: Ruling, row: usize) -> Record
-    ensures { λ r. ⌜ r ≡ recordOf j row ⌝ }
+// The record for a row of the table, by the flat form of so many.
+pub fn record_at(ids: &[u8], numbers: &[u64], count: usize, row: usize) -> Record
+    ensures { λ r. ⌜ r ≡ flatRecord (now (ids .entry)) (now (numbers .entry)) count row ⌝ }
 {
+    if count <= row {
+        return blank();
+    }
     if 256 <= row {
         return blank();
     }
-    j.records[row]
+    if numbers.len() < 1280 {
+        return blank();
+    }
+    let at = 5 * row;
+    let id = format::hash_at(ids, 32 * row);
+    Record {
+        start: numbers[at],
+        length: numbers[at + 1],
+        id,
+        bump: numbers[at + 2],
+        anchored: (numbers[at + 3] % 4294967296) as u32,
+        position: (numbers[at + 4] % 4294967296) as u32,
+    }
 }
 
-// How many rows of a table have a record that is held.
-fn held(room: usize) -> usize
-    ensures { λ r. ⌜ r ≡ heldRows room ⌝ }
+// How many records go with a verdict.
+fn count_of(verdict: Verdict) -> usize
+    ensures { λ r. ⌜ r ≡ countOf verdict ⌝ }
 {
-    if room < 256 { room } else { 256 }
+    match verdict {
+        Verdict::Accepted(n) => n,
+        Verdict::Refused(_) => 0,
+    }
 }
 
 // The table gets the records, and past them it is blank.
-fn fill(table: &mut [Record], j: Ruling)
-    ensures { λ _. ⌜ now (table .exit) ≡ rows (recordOf j) (length (now (table .entry))) ⌝ }
+fn fill(table: &mut [Record], ids: &[u8], numbers: &[u64], count: usize)
+    ensures { λ _. ⌜ now (table .exit) ≡ rows (flatRecord (now (ids .entry)) (now (numbers .entry)) count) (length (now (table .entry))) ⌝ }
 {
-    let n = held(table.len());
     let mut i = 0;
-    while i < n {
-        table[i] = record_of(j, i);
-        i = i + 1;
-    }
     while i < table.len() {
-        table[i] = blank();
+        table[i] = record_at(ids, numbers, count, i);
         i = i + 1;
     }
-}
-
-fn verdict_of(j: Ruling) -> Verdict
-    ensures { λ r. ⌜ r ≡ j .verdict ⌝ }
-{
-    j.verdict
 }
 
 // The bundle rule, for the bytes of a BEEF and a list of trusted roots, end to end. The table gets a record for each transaction, and is zero on refusal.
 pub fn judge_beef(s: &[u8], roots: &[u8], table: &mut [Record]) -> Verdict
     ensures { λ r. ⌜ (r ≡ verdictOf (judgeBeef (now (s .entry)) (now (roots .entry)) (length (now (table .entry))))) × (now (table .exit) ≡ tableOf (judgeBeef (now (s .entry)) (now (roots .entry)) (length (now (table .entry)))) (length (now (table .entry)))) ⌝ }
 {
-    let j = judge_bundle(s, roots, table.len());
-    fill(table, j);
-    verdict_of(j)
+    let mut ids = [0u8; 8192];
+    let mut numbers = [0u64; 1280];
+    let verdict = judge_flat(s, roots, table.len(), &mut ids, &mut numbers);
+    fill(table, &ids, &numbers, count_of(verdict));
+    verdict
 }

@@ -2,9 +2,9 @@
 // program answers.
 use format::BeefAnswer;
 use format::BumpAnswer;
-use format::Bundle;
 use format::CmpAnswer;
-use format::EntryFound;
+use format::Cursor;
+use format::EntryAnswer;
 use format::Refusal;
 use format::TscAnswer;
 use libc::STDOUT_FILENO;
@@ -145,28 +145,31 @@ fn tsc(message: &[u8]) {
     number(b"nodes", head.nodes);
 }
 
-fn transaction(bundle: Bundle, n: usize) {
-    let found = bundle.entry(n);
-    let EntryFound::Here(entry) = found else {
-        return;
+// A transaction of a bundle with so many BUMPs, and the place after it.
+fn transaction(message: &[u8], c: Cursor, bumps: u64, n: u64) -> Cursor {
+    let field = format::read_entry(message, c, bumps);
+    let EntryAnswer::Value(entry, next) = field else {
+        return c;
     };
     let transaction = entry.transaction;
-    number(b"transaction", n as u64);
+    number(b"transaction", n);
     number(b"start", transaction.start as u64);
     number(b"end", transaction.end as u64);
+    next
 }
 
 fn beef(message: &[u8]) {
-    let bundle = format::read_bundle(message, 256);
-    let answer = bundle.answer;
+    let answer = format::read_beef(message);
     let BeefAnswer::Value(head, _) = answer else {
         refused(answer.refusal());
         return;
     };
-    number(b"bumps", head.bumps as u64);
+    let bumps = head.bumps as u64;
+    number(b"bumps", bumps);
     number(b"transactions", head.transactions as u64);
-    transaction(bundle, 0);
-    transaction(bundle, 1);
+    let first = head.entries;
+    let second = transaction(message, first, bumps, 0);
+    transaction(message, second, bumps, 1);
 }
 
 fn paths() {
@@ -226,15 +229,15 @@ fn record(row: Record) {
 }
 
 fn judged(message: &[u8], roots: &[u8]) {
-    let ruling = spv::judge_bundle(message, roots, 2);
-    let verdict = ruling.verdict;
-    let records = ruling.records;
+    let mut ids = [0u8; 8192];
+    let mut numbers = [0u64; 1280];
+    let verdict = spv::judge_flat(message, roots, 2, &mut ids, &mut numbers);
     match verdict {
         Verdict::Refused(refusal) => refused(refusal),
         Verdict::Accepted(n) => {
             number(b"accepted", n as u64);
-            record(records[0]);
-            record(records[1]);
+            record(spv::record_at(&ids, &numbers, n, 0));
+            record(spv::record_at(&ids, &numbers, n, 1));
         }
     }
 }

@@ -1,10 +1,8 @@
 use borrow.Author.Needs.{needs}
-use mathlib.Core.Path.{sym, ap, _∙_}
+use mathlib.Core.Path.{sym, _∙_}
 use Rattle.format.specs.FieldAnswer.{numberOf}
 use Rattle.format.specs.ParseLaws.{answered, go, stop}
 use Rattle.format.specs.Beef.{bumpsField}
-use Rattle.format.specs.BeefAnswer.{bumpsOf}
-use Rattle.format.specs.BeefLaws.{bump-count-told}
 use Rattle.format.proofs.beef.read_bumps.Statement.{statement}
 use Rattle.format.proofs.beef.read_bumps.Tie as tie
 
@@ -17,24 +15,16 @@ enum-known-field c = search needs
 enum-told : tie.Need-enum-told
 enum-told c = search needs
 
-refusal-requires : tie.Need-refusal-requires
-refusal-requires c κs = search needs
-
-no-bumps-requires : tie.Need-no-bumps-requires
-no-bumps-requires c κs = search needs
-
 returns : tie.Need-returns
 unfolding bumpsField
-returns c =
-    c .no-bumps .ensures
-    ∙ ap bumpsOf (rw (c .before .refusal .ensures, c .before .before .enum-told .given .1) (sym (stop _ _ (answered numberOf (c .before .before .before .before .read-bump-count .ensures) (c .before .before .enum-told .given .1)))))
+returns c = rw (c .enum-told .given .1) (sym (stop _ _ (answered numberOf (c .before .before .read-bump-count .ensures) (c .enum-told .given .1))))
 
-gather-bumps-requires : tie.Need-gather-bumps-requires
-gather-bumps-requires c κs = bump-count-told _ _ (answered numberOf (c .before .before .before .read-bump-count .ensures) (c .before .field .given .1))
+all-bumps-requires : tie.Need-all-bumps-requires
+all-bumps-requires c κs = search needs
 
 returns-2 : tie.Need-returns-2
 unfolding bumpsField
-returns-2 c = c .gather-bumps .ensures ∙ ap bumpsOf (sym (go _ _ (answered numberOf (c .before .before .before .before .read-bump-count .ensures) (c .before .before .field .given .1))))
+returns-2 c = c .all-bumps .ensures ∙ sym (go _ _ (answered numberOf (c .before .before .before .before .read-bump-count .ensures) (c .before .before .field .given .1)))
 
 pub read-bumps-spec : {M : Type 1} → statement M
 read-bumps-spec =
@@ -43,8 +33,6 @@ read-bumps-spec =
     read-bump-count-requires
     enum-known-field
     enum-told
-    refusal-requires
-    no-bumps-requires
     returns
-    gather-bumps-requires
+    all-bumps-requires
     returns-2)

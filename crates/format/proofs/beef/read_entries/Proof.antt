@@ -1,18 +1,17 @@
 use borrow.Author.Needs.{needs}
-use mathlib.Core.Path.{sym, ap, _∙_}
+use mathlib.Core.Path.{sym}
 use Rattle.format.specs.FieldAnswer.{numberOf}
-use Rattle.format.specs.ParseLaws.{answered, go, stop}
+use Rattle.format.specs.ParseLaws.{answered, stop}
 use Rattle.format.specs.Beef.{entriesField}
-use Rattle.format.specs.BeefAnswer.{entriesOf}
-use Rattle.format.specs.BeefLaws.{tx-count-told}
+use Rattle.format.specs.BeefLaws.{entries-refused, entries-read}
 use Rattle.format.proofs.beef.read_entries.Statement.{statement}
 use Rattle.format.proofs.beef.read_entries.Tie as tie
 
 read-tx-count-requires : tie.Need-read-tx-count-requires
 read-tx-count-requires c κs = search needs
 
-enum-known-field : tie.Need-enum-known-field
-enum-known-field c = search needs
+enum-known-first : tie.Need-enum-known-first
+enum-known-first c = search needs
 
 enum-told : tie.Need-enum-told
 enum-told c = search needs
@@ -20,31 +19,44 @@ enum-told c = search needs
 refusal-requires : tie.Need-refusal-requires
 refusal-requires c κs = search needs
 
-no-entries-requires : tie.Need-no-entries-requires
-no-entries-requires c κs = search needs
-
 returns : tie.Need-returns
 unfolding entriesField
 returns c =
-    c .no-entries .ensures
-    ∙ ap entriesOf (rw (c .before .refusal .ensures, c .before .before .enum-told .given .1) (sym (stop _ _ (answered numberOf (c .before .before .before .before .read-tx-count .ensures) (c .before .before .enum-told .given .1)))))
+    rw (c .refusal .ensures, c .before .enum-told .given .1)
+    (sym (stop _ _ (answered numberOf (c .before .before .before .read-tx-count .ensures) (c .before .enum-told .given .1))))
 
-gather-entries-requires : tie.Need-gather-entries-requires
-gather-entries-requires c κs = tx-count-told _ _ _ (answered numberOf (c .before .before .before .read-tx-count .ensures) (c .before .field .given .1)) .1
+all-entries-requires : tie.Need-all-entries-requires
+all-entries-requires c κs = search needs
+
+enum-known-second : tie.Need-enum-known-second
+enum-known-second c = search needs
+
+enum-told-2 : tie.Need-enum-told-2
+enum-told-2 c = search needs
+
+refusal-requires-2 : tie.Need-refusal-requires-2
+refusal-requires-2 c κs = search needs
 
 returns-2 : tie.Need-returns-2
-unfolding entriesField
-returns-2 c = c .gather-entries .ensures ∙ ap entriesOf (sym (go _ _ (answered numberOf (c .before .before .before .before .read-tx-count .ensures) (c .before .before .field .given .1))))
+returns-2 c =
+    rw (c .refusal2 .ensures, c .before .enum-told2 .given .1)
+    (sym (entries-refused _ _ _ _ (answered numberOf (c .before .before .before .before .before .before .before .read-tx-count .ensures) (c .before .before .before .before .before .first .given .1)) (answered numberOf (c .before .before .before .all-entries .ensures) (c .before .enum-told2 .given .1))))
+
+returns-3 : tie.Need-returns-3
+returns-3 c = sym (entries-read _ _ _ _ (answered numberOf (c .before .before .before .before .before .before .before .read-tx-count .ensures) (c .before .before .before .before .before .first .given .1)) (answered numberOf (c .before .before .before .all-entries .ensures) (c .before .second .given .1)))
 
 pub read-entries-spec : {M : Type 1} → statement M
 read-entries-spec =
     tie.close
     (tie.spec
     read-tx-count-requires
-    enum-known-field
+    enum-known-first
     enum-told
     refusal-requires
-    no-entries-requires
     returns
-    gather-entries-requires
-    returns-2)
+    all-entries-requires
+    enum-known-second
+    enum-told-2
+    refusal-requires-2
+    returns-2
+    returns-3)

@@ -3,9 +3,9 @@ use mathlib.Core.Path.{_∙_}
 use Prim.Native.Nat.{ℕ, _-_}
 use Rattle.format.specs.FieldAnswer.{runOf}
 use Rattle.format.specs.ParseLaws.{answered}
-use Rattle.format.specs.Gather.{Gathering, gather-start, gather-step, gather-refused, gather-done}
+use Rattle.format.specs.Gather.{Gathering, gather-start, gather-step, gather-refused, gather-done, each-same}
 use Rattle.format.specs.TscPath.{nodePlaceField}
-use Rattle.format.specs.TscPathLaws.{each-place, places-kept, places-refused}
+use Rattle.format.specs.TscPathLaws.{places-kept, places-refused}
 use Rattle.format.proofs.path.node_places.Statement.{statement}
 use Rattle.format.proofs.path.node_places.Tie as tie
 
@@ -30,7 +30,7 @@ enum-told c = search needs
 returns : tie.Need-returns Inv-loop μ-loop
 returns c =
     places-refused _ _ _ (gather-refused _ _ _ _ _ _ _ (c .before .before .before .before .loop .inv) (c .before .before .before .loop-test .taken)
-    (each-place _ ∙ answered runOf (c .before .before .node-place .ensures) (c .enum-told .given .1)))
+    (each-same _ ∙ answered runOf (c .before .before .node-place .ensures) (c .enum-told .given .1)))
 
 mul-known : tie.Need-mul-known Inv-loop μ-loop
 mul-known c = search needs
@@ -47,7 +47,7 @@ loop-less c = search needs
 loop-again : tie.Need-loop-again Inv-loop μ-loop
 loop-again c =
     gather-step _ _ _ _ _ _ _ (c .before .before .before .before .before .before .before .pre) (c .before .before .before .before .before .loop .inv) (c .before .before .before .before .loop-test .taken)
-    (each-place _ ∙ answered runOf (c .before .before .before .node-place .ensures) (c .before .field .given .1))
+    (each-same _ ∙ answered runOf (c .before .before .before .node-place .ensures) (c .before .field .given .1))
 
 returns-2 : tie.Need-returns-2 Inv-loop μ-loop
 returns-2 c =

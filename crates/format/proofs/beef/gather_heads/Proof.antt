@@ -1,20 +1,22 @@
 use borrow.Author.Needs.{needs}
-use mathlib.Core.Path.{sym, ap, _∙_}
+use mathlib.Core.Path.{_∙_}
 use Prim.Native.Nat.{_-_}
 use Rattle.format.specs.ParseLaws.{answered}
 use Rattle.format.specs.Refusals.{MAX-BUMPS}
-use Rattle.format.specs.Gather.{Gathering, gather-start, gather-step, gather-refused, gather-done}
-use Rattle.format.specs.Bump.{bumpField, headOf, bumpAnswer}
-use Rattle.format.specs.BeefAnswer.{noBump, bumpsOf}
-use Rattle.format.specs.BeefLaws.{bumps-kept}
-use Rattle.format.proofs.beef.gather_bumps.Statement.{statement}
-use Rattle.format.proofs.beef.gather_bumps.Tie as tie
+use Rattle.format.specs.Gather.{Gathering, gather-start, gather-step, gather-refused, gather-done, each-same}
+use Rattle.format.specs.declared.bump.BumpHead.{BumpHead}
+use Rattle.format.specs.Bump.{bumpAnswer}
+use Rattle.format.specs.Search.{looseBump}
+use Rattle.format.specs.BeefAnswer.{noBump}
+use Rattle.format.specs.BeefLaws.{heads-kept, heads-refused}
+use Rattle.format.proofs.beef.gather_heads.Statement.{statement}
+use Rattle.format.proofs.beef.gather_heads.Tie as tie
 
 abbrev Inv-loop : tie.InvT-loop
-Inv-loop s count heads₀ next₀ i₀ heads next i = Gathering bumpField headOf noBump MAX-BUMPS count s (next₀ .at) heads i (next .at)
+Inv-loop s count none heads₀ next₀ i₀ heads next i = Gathering looseBump (λ (h : BumpHead). h) noBump MAX-BUMPS count s (next₀ .at) heads i (next .at)
 
 abbrev μ-loop : tie.MeasureT-loop
-μ-loop s count heads₀ next₀ i₀ heads next i = count - i
+μ-loop s count none heads₀ next₀ i₀ heads next i = count - i
 
 no-bump-requires : tie.Need-no-bump-requires Inv-loop μ-loop
 no-bump-requires c κs = search needs
@@ -22,8 +24,8 @@ no-bump-requires c κs = search needs
 loop-holds : tie.Need-loop-holds Inv-loop μ-loop
 loop-holds c = rw (c .no-bump .ensures) (gather-start _ _ _ _ _ _ _)
 
-bump-at-requires : tie.Need-bump-at-requires Inv-loop μ-loop
-bump-at-requires c κs = search needs
+skip-bump-requires : tie.Need-skip-bump-requires Inv-loop μ-loop
+skip-bump-requires c κs = search needs
 
 enum-known-field : tie.Need-enum-known-field Inv-loop μ-loop
 enum-known-field c = search needs
@@ -31,18 +33,11 @@ enum-known-field c = search needs
 enum-told : tie.Need-enum-told Inv-loop μ-loop
 enum-told c = search needs
 
-refusal-requires : tie.Need-refusal-requires Inv-loop μ-loop
-refusal-requires c κs = search needs
-
-no-bumps-requires : tie.Need-no-bumps-requires Inv-loop μ-loop
-no-bumps-requires c κs = search needs
-
 returns : tie.Need-returns Inv-loop μ-loop
 returns c =
-    c .no-bumps .ensures
-    ∙ ap bumpsOf (rw (c .before .refusal .ensures, c .before .before .enum-told .given .1)
-    (sym (gather-refused _ _ _ _ _ _ _ (c .before .before .before .before .before .before .loop .inv) (c .before .before .before .before .before .loop-test .taken)
-    (answered bumpAnswer (c .before .before .before .before .bump-at .ensures) (c .before .before .enum-told .given .1)))))
+    rw (c .before .before .before .before .before .no-bump .ensures)
+    (heads-refused _ _ _ (gather-refused _ _ _ _ _ _ _ (c .before .before .before .before .loop .inv) (c .before .before .before .loop-test .taken)
+    (each-same _ ∙ answered bumpAnswer (c .before .before .skip-bump .ensures) (c .enum-told .given .1))))
 
 mul-heads : tie.Need-mul-heads Inv-loop μ-loop
 mul-heads c = search needs
@@ -60,26 +55,24 @@ loop-again : tie.Need-loop-again Inv-loop μ-loop
 loop-again c =
     gather-step _ _ _ _ _ _ _ (c .before .before .before .before .before .before .before .before .pre) (c .before .before .before .before .before .loop .inv)
     (c .before .before .before .before .loop-test .taken)
-    (answered bumpAnswer (c .before .before .before .bump-at .ensures) (c .before .field .given .1))
+    (each-same _ ∙ answered bumpAnswer (c .before .before .before .skip-bump .ensures) (c .before .field .given .1))
 
 returns-2 : tie.Need-returns-2 Inv-loop μ-loop
 returns-2 c =
     let d = gather-done _ _ _ _ _ _ _ (c .before .before .before .before .pre) (c .before .loop .inv) (c .loop-test .left) in
-    bumps-kept (d .0) (d .1) (d .2)
+    heads-kept _ _ _ (d .0) (d .2)
 
-pub gather-bumps-spec : {M : Type 1} → statement M
-gather-bumps-spec =
+pub gather-heads-spec : {M : Type 1} → statement M
+gather-heads-spec =
     tie.close
     (tie.spec
     Inv-loop
     μ-loop
     no-bump-requires
     loop-holds
-    bump-at-requires
+    skip-bump-requires
     enum-known-field
     enum-told
-    refusal-requires
-    no-bumps-requires
     returns
     mul-heads
     array-set-from-heads
