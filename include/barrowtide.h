@@ -32,15 +32,14 @@
  * written and *carried stays as it was, and so does the room past what is written.
  *
  * Stack. As built by the kit a call needs at most
- *   - 192 KiB  barrowtide_judge_beef
- *   - 112 KiB  barrowtide_read_beef
- *   -  48 KiB  barrowtide_write_bump
- *   -  32 KiB  barrowtide_compare
- *   -  24 KiB  barrowtide_prove_bump, barrowtide_prove_cmp, barrowtide_prove_page,
- *              barrowtide_check_clients
- *   -  16 KiB  barrowtide_read_bump, barrowtide_read_cmp
- *   -   8 KiB  barrowtide_prove_tsc
- *   -   4 KiB  every other call
+ *   - 64 KiB  barrowtide_judge_beef
+ *   - 48 KiB  barrowtide_write_bump
+ *   - 32 KiB  barrowtide_compare
+ *   - 24 KiB  barrowtide_prove_bump, barrowtide_prove_cmp, barrowtide_prove_page,
+ *             barrowtide_check_clients
+ *   - 16 KiB  barrowtide_read_bump, barrowtide_read_cmp, barrowtide_read_beef
+ *   -  8 KiB  barrowtide_prove_tsc
+ *   -  4 KiB  every other call
  * with the C library's memcpy and memset, which are all that it calls. Only the working out of a
  * sibling recurses, once a level, and is counted here.
  *

@@ -7,7 +7,7 @@ use native.Mathlib.Omega.{arith}
 use borrow.Author.Tests.{lt-ltb}
 use Rattle.format.specs.declared.level.Kind.{Kind}
 use Rattle.format.specs.declared.path.Found.the-variants.{Here}
-use Rattle.format.specs.Parse.{Parse, each, many, times, got, bad}
+use Rattle.format.specs.Parse.{each, many, times, got, bad}
 use Rattle.format.specs.ParseLaws.{many-told}
 use Rattle.format.specs.Gather.{padded, padded-here, each-sames}
 use Rattle.format.specs.Node.{nodeField}

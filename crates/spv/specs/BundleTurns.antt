@@ -1,5 +1,5 @@
 -- A loop that judges transactions from the first, and reads each as it comes: what holds after i of n.
-use Prim.Native.Nat.{ℕ, suc, _+_, _-_, _*_, _<_, _≤_}
+use Prim.Native.Nat.{ℕ, _+_, _-_, _*_, _<_, _≤_}
 use mathlib.Core.Path.{_≡_, refl, sym, ap, _∙_}
 use mathlib.Core.List.{List, [], _∷_, _++_, append-nil}
 use native.Mathlib.Nat.{sub-zero}
@@ -16,7 +16,7 @@ use Rattle.spv.specs.declared.table.Record.{Record}
 use Rattle.spv.specs.declared.bundle.Verdict.the-variants.{Accepted, Refused}
 use Rattle.spv.specs.Table.{flatHead, flat}
 use Rattle.spv.specs.TableLaws.{flat-more}
-use Rattle.spv.specs.Bundle.{hashesOf, refuses, passes, Judgement, refusedAs, accepted, ahead, judgeFrom}
+use Rattle.spv.specs.Bundle.{hashesOf, refuses, passes, Judgement, refusedAs, accepted, judgeFrom}
 use Rattle.spv.specs.BundleHashes.{one-less, hashes-more, hashes-empty, hashes-length}
 use Rattle.spv.specs.BundleLaws.{followed, followed-ahead, followed-none, from-refuses, from-passes, from-none}
 use Rattle.spv.specs.BundleHeads.{numbersOf, headsFrom, headId, headStands, headRow}
