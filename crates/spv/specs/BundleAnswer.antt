@@ -1,16 +1,18 @@
 -- What the code holds of a judgement.
 use mathlib.Core.Path.{_≡_, refl, ap, sym, subst, subst⁻¹, _∙_}
-use Prim.Native.Nat.{ℕ, _≤_, _%_, zero-le}
+use Prim.Native.Nat.{ℕ, _-_, _≤_, _%_, zero-le}
 use mathlib.Core.Bool.{Bool, true, false}
 use mathlib.Core.List.{List, []}
 use native.Mathlib.Omega.{arith}
 use lib.Dec.{leb, eqb}
 use native.Mathlib.Nat.{sub-zero}
-use lib.ListN.{length, replicate}
+use lib.ListN.{length, replicate, getD}
 use Rattle.spv.specs.declared.bundle.Verdict.{Verdict}
 use Rattle.spv.specs.declared.bundle.Verdict.the-variants.{Accepted, Refused}
+use Rattle.spv.specs.declared.table.Record.{Record}
+use Rattle.spv.specs.declared.table.Row.{Row}
 use Rattle.spv.specs.Table.{blankRecord, flat, flatRecord, rows}
-use Rattle.spv.specs.TableLaws.{rows-list, flat-length, flat-row}
+use Rattle.spv.specs.TableLaws.{getD-padded, rows-list, flat-length, flat-row}
 use Rattle.format.specs.Parse.{Parse, got, bad, pick}
 use Rattle.format.specs.Gather.{padded}
 use Rattle.format.specs.Beef.{Beef, beefWhole}
@@ -29,6 +31,10 @@ judgementOf (Refused x) ids numbers = refusedAs (x .number) (x .place)
 abbrev pub countOf : Verdict → ℕ
 countOf (Accepted n) = n
 countOf (Refused x) = 0
+
+-- the verdict, and the record for row k of a table of n rows
+unfoldable pub rowIn : Judgement → ℕ → ℕ → Row
+rowIn j n k = record { verdict = verdictOf j; «record» = getD (tableOf j n) k blankRecord }
 
 -- no more records than a table of n rows and the code's own can hold
 unfoldable pub Fits : Judgement → ℕ → Type 0
@@ -73,3 +79,20 @@ module _ (ids numbers : List ℕ) (wide : 8192 ≤ length ids) (long : 1280 ≤ 
   flat-told s roots r e =
       subst (λ (j : Judgement). (r ≡ verdictOf j) × (rows (flatRecord ids numbers (countOf r)) n ≡ tableOf j n)) e
       (told r (subst⁻¹ (λ (j : Judgement). Fits j n) e (judge-fits s roots n)))
+
+  -- the same for row k alone
+  record-for : (k : ℕ) (r : Verdict) → Fits (judgementOf r ids numbers) n → flatRecord ids numbers (countOf r) k ≡ getD (tableOf (judgementOf r ids numbers) n) k blankRecord
+  unfolding judgementOf tableOf Fits flat padded
+  record-for k (Accepted m) h =
+      let few = flat-length m ids numbers in
+      flat-row ids numbers wide long m (omega (arith, h .0)) k ∙ sym (getD-padded (flat m ids numbers) (n - length (flat m ids numbers)) k blankRecord)
+  record-for k (Refused x) h = flat-row ids numbers wide long 0 zero-le k ∙ sym (getD-padded [] n k blankRecord)
+
+  pub row-told : (s roots : List ℕ) (k : ℕ) (r : Verdict) → judgementOf r ids numbers ≡ judgeBeef s roots n
+      → record { verdict = r; «record» = flatRecord ids numbers (countOf r) k } ≡ rowIn (judgeBeef s roots n) n k
+  unfolding rowIn
+  row-told s roots k r e =
+      ap (λ (v : Verdict). record { verdict = v; «record» = flatRecord ids numbers (countOf r) k }) (flat-told s roots r e .0)
+      ∙ ap (λ (x : Record). record { verdict = verdictOf (judgeBeef s roots n); «record» = x })
+      (subst (λ (j : Judgement). flatRecord ids numbers (countOf r) k ≡ getD (tableOf j n) k blankRecord) e
+      (record-for k r (subst⁻¹ (λ (j : Judgement). Fits j n) e (judge-fits s roots n))))

@@ -36,7 +36,7 @@ getD-replicate-same zero i d = refl
 getD-replicate-same (suc n) zero d = refl
 getD-replicate-same (suc n) (suc i) d = getD-replicate-same n i d
 
-getD-padded : {A : Type 0} (l : List A) (n i : ℕ) (d : A) → getD (l ++ replicate n d) i d ≡ getD l i d
+pub getD-padded : {A : Type 0} (l : List A) (n i : ℕ) (d : A) → getD (l ++ replicate n d) i d ≡ getD l i d
 getD-padded [] n i d = getD-replicate-same n i d
 getD-padded (x ∷ l) n zero d = refl
 getD-padded (x ∷ l) n (suc i) d = getD-padded l n i d

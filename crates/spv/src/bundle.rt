@@ -247,7 +247,7 @@ fn judge_entries(
 
 // The bundle rule, for the bytes of a BEEF, a list of trusted roots end to end, and a table of so many rows. What the records say is written in a flat
 // form with room for 256: their ids end to end, and five numbers for each.
-pub fn judge_flat(
+pub(crate) fn judge_flat(
     s: &[u8],
     roots: &[u8],
     room: usize,

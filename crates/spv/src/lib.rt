@@ -10,7 +10,6 @@ mod table;
 mod values;
 
 pub use bundle::Verdict;
-pub use bundle::judge_flat;
 pub use clients::Agreement;
 pub use clients::Checked;
 pub use clients::check_clients;
@@ -24,6 +23,7 @@ pub use prove::prove_cmp;
 pub use prove::prove_in;
 pub use prove::prove_tsc;
 pub use table::Record;
+pub use table::Row;
 pub use table::blank;
 pub use table::judge_beef;
-pub use table::record_at;
+pub use table::judge_row;

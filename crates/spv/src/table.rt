@@ -4,7 +4,7 @@ use super::bundle::judge_flat;
 ghost use mathlib.Core.Path.{_≡_};
 ghost use lib.ListN.{length};
 ghost use Rattle.spv.specs.Bundle.{judgeBeef, verdictOf, tableOf};
-ghost use Rattle.spv.specs.BundleAnswer.{countOf};
+ghost use Rattle.spv.specs.BundleAnswer.{countOf, rowIn};
 ghost use Rattle.spv.specs.Table.{blankRecord, flatRecord, rows};
 
 // A transaction of a bundle: where it starts and its length, its id, the number of its BUMP, 1 if it is anchored and else 0, and its position in the
@@ -36,7 +36,7 @@ pub fn blank() -> Record
 }
 
 // The record for a row of the table, by the flat form of so many.
-pub fn record_at(ids: &[u8], numbers: &[u64], count: usize, row: usize) -> Record
+pub(crate) fn record_at(ids: &[u8], numbers: &[u64], count: usize, row: usize) -> Record
     ensures { λ r. ⌜ r ≡ flatRecord (now (ids .entry)) (now (numbers .entry)) count row ⌝ }
 {
     if count <= row {
@@ -90,4 +90,21 @@ pub fn judge_beef(s: &[u8], roots: &[u8], table: &mut [Record]) -> Verdict
     let verdict = judge_flat(s, roots, table.len(), &mut ids, &mut numbers);
     fill(table, &ids, &numbers, count_of(verdict));
     verdict
+}
+
+// A verdict with the record of one row.
+pub struct Row {
+    pub verdict: Verdict,
+    pub record: Record,
+}
+
+// The bundle rule, with the record of one row of a table of so many: for callers that lend no table.
+pub fn judge_row(s: &[u8], roots: &[u8], room: usize, row: usize) -> Row
+    ensures { λ r. ⌜ r ≡ rowIn (judgeBeef (now (s .entry)) (now (roots .entry)) room) room row ⌝ }
+{
+    let mut ids = [0u8; 8192];
+    let mut numbers = [0u64; 1280];
+    let verdict = judge_flat(s, roots, room, &mut ids, &mut numbers);
+    let record = record_at(&ids, &numbers, count_of(verdict), row);
+    Row { verdict, record }
 }

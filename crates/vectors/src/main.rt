@@ -229,15 +229,15 @@ fn record(row: Record) {
 }
 
 fn judged(message: &[u8], roots: &[u8]) {
-    let mut ids = [0u8; 8192];
-    let mut numbers = [0u64; 1280];
-    let verdict = spv::judge_flat(message, roots, 2, &mut ids, &mut numbers);
+    let first = spv::judge_row(message, roots, 2, 0);
+    let second = spv::judge_row(message, roots, 2, 1);
+    let verdict = first.verdict;
     match verdict {
         Verdict::Refused(refusal) => refused(refusal),
         Verdict::Accepted(n) => {
             number(b"accepted", n as u64);
-            record(spv::record_at(&ids, &numbers, n, 0));
-            record(spv::record_at(&ids, &numbers, n, 1));
+            record(first.record);
+            record(second.record);
         }
     }
 }
