@@ -8,7 +8,7 @@ ghost use Rattle.spv.specs.BundleHashes.{searching};
 ghost use Rattle.encoder.specs.BlockBump.{allBelow, distinct};
 ghost use Rattle.encoder.specs.Ids.{idAt, slotAt};
 
-pub fn all_below(n: u64, chosen: &[u64]) -> bool
+pub(crate) fn all_below(n: u64, chosen: &[u64]) -> bool
     ensures { λ r. ⌜ r ≡ allBelow n (now (chosen .entry)) ⌝ }
 {
     let mut i: usize = 0;
@@ -63,7 +63,7 @@ fn repeated(ids: &[u8], taken: u8, i: usize) -> bool
 }
 
 // Whether the ids are all different, from the last to the first.
-pub fn all_differ(ids: &[u8]) -> bool
+pub(crate) fn all_differ(ids: &[u8]) -> bool
     ensures { λ r. ⌜ r ≡ distinct (hashesOf (now (ids .entry))) ⌝ }
 {
     let mut taken = [0u8; 16384];

@@ -203,7 +203,7 @@ fn write_level(
 }
 
 // All levels, going up.
-pub fn write_levels(
+pub(crate) fn write_levels(
     ids: &[u8],
     heap: &[u8],
     marks: &[u8],
@@ -231,7 +231,7 @@ pub fn write_levels(
 }
 
 // The bytes of all levels.
-pub fn levels_size(marks: &[u8], height: usize, n: usize, top: usize) -> usize
+pub(crate) fn levels_size(marks: &[u8], height: usize, n: usize, top: usize) -> usize
     requires { ⌜ (height ≤ 10) × (top ≡ 2 ^ height) × (n ≤ 1024) × (length (now marks) ≡ 2048) ⌝ }
     ensures { λ r. ⌜ (r ≤ 430170) × ((list heap chosen : List ℕ) → Ready list heap (now (marks .entry)) chosen height n
         → r ≡ length (spells levelBytes (levelsFor (hashesOf list) chosen height 0 height))) ⌝ }

@@ -20,7 +20,7 @@ fn mark(marks: &mut [u8], height: usize, top: usize, i: usize)
     }
 }
 
-pub fn marks_of(chosen: &[u64], height: usize, top: usize) -> [u8; 2048]
+pub(crate) fn marks_of(chosen: &[u64], height: usize, top: usize) -> [u8; 2048]
     requires { ⌜ (height ≤ 10) × (top ≡ 2 ^ height) × ((i : ℕ) → i < length (now chosen) → getD (now chosen) i 0 < top) ⌝ }
     ensures { λ r. ⌜ Marked r (now (chosen .entry)) height ⌝ }
 {

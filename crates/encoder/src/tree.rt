@@ -18,7 +18,7 @@ pub struct Shape {
     pub width: usize,
 }
 
-pub fn shape_for(n: usize) -> Shape
+pub(crate) fn shape_for(n: usize) -> Shape
     requires { ⌜ n ≤ 1024 ⌝ }
     ensures { λ r. ⌜ (r .height ≡ heightFor n) × (r .width ≡ 2 ^ heightFor n) ⌝ }
 {
@@ -32,7 +32,7 @@ pub fn shape_for(n: usize) -> Shape
 }
 
 // The node at position j of a level of `width` places.
-pub fn node_at(ids: &[u8], heap: &[u8], base: bool, width: usize, j: usize) -> [u8; 32]
+pub(crate) fn node_at(ids: &[u8], heap: &[u8], base: bool, width: usize, j: usize) -> [u8; 32]
     requires { ⌜ (width ≤ 2048) × (j ≤ 2048) ⌝ }
     ensures { λ r. ⌜ r ≡ nodeIn (now (ids .entry)) (now (heap .entry)) base width j ⌝ }
 {
@@ -83,7 +83,7 @@ fn raise(ids: &[u8], heap: &mut [u8], base: bool, width: usize, count: usize)
 }
 
 // Every level above 0.
-pub fn build(ids: &[u8], heap: &mut [u8], height: usize, n: usize, top: usize)
+pub(crate) fn build(ids: &[u8], heap: &mut [u8], height: usize, n: usize, top: usize)
     requires { ⌜ (height ≤ 10) × (top ≡ 2 ^ height) × (n ≤ top) × (n ≡ length (now ids) / 32) × (length (now heap) ≡ 32768) ⌝ }
     ensures { λ r. ⌜ Heap (now (ids .entry)) (now (heap .exit)) height height ⌝ }
 {
@@ -132,7 +132,7 @@ fn climb_free(ids: &[u8], heap: &[u8], height: usize, top: usize, i: usize) -> b
 }
 
 // Whether no climb of a chosen position meets a twin.
-pub fn all_free(ids: &[u8], heap: &[u8], chosen: &[u64], height: usize, top: usize) -> bool
+pub(crate) fn all_free(ids: &[u8], heap: &[u8], chosen: &[u64], height: usize, top: usize) -> bool
     requires { ⌜ (height ≤ 10) × (top ≡ 2 ^ height) × (length (now ids) / 32 ≤ 1024) × (allBelow (length (now ids) / 32) (now chosen) ≡ true) ⌝ }
     ensures { λ r. ⌜ (Grown (now (ids .entry)) (now (heap .entry)) height → r ≡ allReach (hashesOf (now (ids .entry))) (now (chosen .entry))) ⌝ }
 {
