@@ -16,7 +16,15 @@ pub fn run() {
     let tree = Tree::random(&mut Random::of("page"), 1_024);
     let positions: Vec<u64> = (0..MAX_PAGE as u64).map(|number| 4 * number).collect();
     let ids: Vec<Hash> = positions.iter().map(|&position| tree.hash(0, position)).collect();
-    compare("BUMP of 10 layers", &Plan::of(&tree, &positions), &ids, tree.root());
+    let repeated: Vec<Hash> = ids[..4].iter().cycle().take(MAX_PAGE).copied().collect();
+    let small = Plan::of(&tree, &positions[..4]);
+    compare("BUMP of 10 layers, 8 leaves at level 0", &small, &repeated, tree.root());
+    compare(
+        "BUMP of 10 layers, 512 leaves at level 0",
+        &Plan::of(&tree, &positions),
+        &ids,
+        tree.root(),
+    );
     let (path, root) = buried(&tree, &positions);
     compare("BUMP, 32 levels of 1,024 falling leaves", &path, &ids, root);
 }
