@@ -9,7 +9,7 @@ use lib.Dec.{ltb, eqb}
 use lib.Pow.{pow-mono}
 use native.Mathlib.Omega.{arith}
 use borrow.Author.Tests.{ltb-true, ltb-false, eqb-true, eqb-false, eq-eqb, ne-eqb}
-use Rattle.encoder.specs.Truth.{or-true}
+use Rattle.format.specs.Basics.{or-true}
 use Rattle.format.specs.Parse.{pick}
 use Rattle.format.specs.Level.{holds}
 use Rattle.format.specs.LevelLaws.{holds-snoc}

@@ -1,6 +1,6 @@
 -- "Reading it back proves each chosen id at its position to the list's root" (02, Item 1).
 use mathlib.Core.Path.{_≡_, refl, sym, ap, ap₂, _∙_}
-use mathlib.Core.Bool.{Bool, true, false, _&&_, _||_, not}
+use mathlib.Core.Bool.{Bool, true, false, _&&_, _||_, not, true≢false, false≢true}
 use mathlib.Core.List.{List, [], _∷_, map}
 use mathlib.Core.Option.{Option, none, some}
 use Prim.Native.Nat.{ℕ, zero, suc, _+_, _-_, _^_, _/_, _≤_, _<_}
@@ -10,7 +10,7 @@ use lib.Pow.{shr-shr}
 use native.Mathlib.Omega.{arith}
 use native.Mathlib.Nat.{zero-add, div-one}
 use borrow.Author.Tests.{eqb-true, eqb-false, ltb-true}
-use Rattle.encoder.specs.Truth.{or-true, absurd-bool}
+use Rattle.format.specs.Basics.{or-true}
 use Rattle.format.specs.declared.level.Kind.{Kind}
 use Rattle.format.specs.declared.level.Kind.the-variants.{Plain, Copy, Client}
 use Rattle.format.specs.declared.level.Leaf.{Leaf}
@@ -75,7 +75,7 @@ carried-says s id o (leaf ∷ l) = ap₂ (λ (a b : Bool). (eqb (leaf .offset) o
 -- a leaf that carries the id is one asked for
 carried-asked : (id : List ℕ) (f : ℕ → Option Carried) (n o x : ℕ) → carriedIn id x (rising f o n) ≡ true → carriesAny id (f x) ≡ true
 unfolding rising carriedIn carriesAny
-carried-asked id f zero o x e = absurd-bool (sym e)
+carried-asked id f zero o x e = absurd (false≢true e)
 carried-asked id f (suc n) o x e = go (f o) refl (λ k. carried-asked id f n (o + 1) x k)
   where
     first : (c : Carried) → f o ≡ some c → (a : Bool) → eqb o x ≡ a → (b : Bool) → carriesAs id c ≡ b → ((a && b) || carriedIn id x (rising f (o + 1) n)) ≡ true
@@ -96,7 +96,7 @@ asked-carried id f (suc n) o x a b e = go (eqb o x) refl (f o) refl (λ k. asked
     go : (t : Bool) → eqb o x ≡ t → (v : Option Carried) → f o ≡ v → (o + 1 ≤ x → carriedIn id x (rising f (o + 1) n) ≡ true) → carriedIn id x (rising f o (suc n)) ≡ true
     go true h none q r =
         let d : carriesAny id none ≡ true = rw (← (eqb-true o x h), q) at e in
-        absurd-bool (sym d)
+        absurd (false≢true d)
     go true h (some c) q r =
         let d : carriesAs id c ≡ true = rw (← (eqb-true o x h), q) at e in
         rw (rising-some f o n c q) (rw (h, d))
@@ -117,21 +117,21 @@ pub distinct-told : (l : List (List ℕ)) → distinct l ≡ true → (i j : ℕ
 unfolding distinct
 distinct-told [] e i j a b q = absurd (omega arith)
 distinct-told (x ∷ l) e zero zero a b q = refl
-distinct-told (x ∷ l) e zero (suc j) a b q = absurd-bool (sym (among-there x l j (omega arith) (sym q)) ∙ fresh (among x l) refl e)
+distinct-told (x ∷ l) e zero (suc j) a b q = absurd (true≢false (sym (among-there x l j (omega arith) (sym q)) ∙ fresh (among x l) refl e))
   where
     fresh : (t : Bool) → among x l ≡ t → (not t && distinct l) ≡ true → among x l ≡ false
-    fresh true h m = absurd-bool (sym m)
+    fresh true h m = absurd (false≢true m)
     fresh false h m = h
-distinct-told (x ∷ l) e (suc i) zero a b q = absurd-bool (sym (among-there x l i (omega arith) q) ∙ fresh (among x l) refl e)
+distinct-told (x ∷ l) e (suc i) zero a b q = absurd (true≢false (sym (among-there x l i (omega arith) q) ∙ fresh (among x l) refl e))
   where
     fresh : (t : Bool) → among x l ≡ t → (not t && distinct l) ≡ true → among x l ≡ false
-    fresh true h m = absurd-bool (sym m)
+    fresh true h m = absurd (false≢true m)
     fresh false h m = h
 distinct-told (x ∷ l) e (suc i) (suc j) a b q = ap suc (distinct-told l (rest (not (among x l)) e) i j (omega arith) (omega arith) q)
   where
     rest : (t : Bool) → (t && distinct l) ≡ true → distinct l ≡ true
     rest true m = m
-    rest false m = absurd-bool (sym m)
+    rest false m = absurd (false≢true m)
 
 -- an id is carried at level 0 only at its own position
 carried-own : {block : ℕ} {ids : List (List ℕ)} {chosen : List ℕ} → Sizes block ids chosen → distinct ids ≡ true → (i o : ℕ) → i < length ids
@@ -144,14 +144,14 @@ carried-own {block} {ids} {chosen} g d i o b e = go (asked ids chosen 0 o) refl 
 
     of-sibling : (t : Bool) → ltb o (size ids 0) ≡ t → carriesAs (node ids 0 i) (pick t (plain (node ids 0 o)) copy) ≡ true → o ≡ i
     of-sibling true h f = own (ltb-true _ _ h) f
-    of-sibling false h f = absurd-bool (sym f)
+    of-sibling false h f = absurd (false≢true f)
 
     way : (c : Carried) → Asking ids chosen 0 o c → carriesAs (node ids 0 i) c ≡ true → o ≡ i
     way c (as-client z u is) f = own (under-size g 0 o u) (rw (← is) at f)
     way c (as-sibling u is) f = of-sibling (ltb o (size ids 0)) refl (rw (← is) at f)
 
     go : (v : Option Carried) → asked ids chosen 0 o ≡ v → carriesAny (node ids 0 i) v ≡ true → o ≡ i
-    go none q f = absurd-bool (sym f)
+    go none q f = absurd (false≢true f)
     go (some c) q f = way c (asked-told ids chosen 0 o c q) f
 
 module _ {block : ℕ} {ids : List (List ℕ)} {chosen s : List ℕ} (g : Sizes block ids chosen) (r : ReadBack block ids chosen s) (i : ℕ) (m : holds i chosen ≡ true) where
@@ -184,7 +184,7 @@ module _ {block : ℕ} {ids : List (List ℕ)} {chosen s : List ℕ} (g : Sizes 
           ∙ asked-carried id (asked ids chosen 0) (2 ^ (height ids - 0)) 0 i (omega arith) range (rw (rw (div-one i) at (under-chosen chosen i 0 m)) (same-refl (node ids 0 i)))
 
       go : (x : Start) → Least s id l x → x ≡ At i
-      go Nowhere f = absurd-bool (sym here ∙ f i)
+      go Nowhere f = absurd (true≢false (sym here ∙ f i))
       go (At j) f = ap At (carried-own g d i j inside (carried-asked id (asked ids chosen 0) (2 ^ (height ids - 0)) 0 j (sym (same-carrying j) ∙ f .0)))
 
   -- the bytes prove the id at its position, over the least height, to the list's root

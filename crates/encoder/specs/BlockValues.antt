@@ -12,7 +12,7 @@ use native.Mathlib.Omega.{arith}
 use native.Mathlib.Nat.{pow-suc, zero-lt-suc}
 use native.Mathlib.Numerals.{add-one}
 use borrow.Author.Tests.{eqb-true, eqb-false, ne-eqb, lt-ltb, ltb-true, ltb-false}
-use Rattle.encoder.specs.Truth.{or-true, or-comm}
+use Rattle.format.specs.Basics.{or-true, or-comm}
 use Rattle.hash.specs.Sha256.{sha256d}
 use Rattle.format.specs.declared.level.Kind.the-variants.{Plain, Copy, Client}
 use Rattle.format.specs.declared.path.Found.{Found}

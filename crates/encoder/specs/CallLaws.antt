@@ -8,8 +8,8 @@ use lib.Seq.{take-all}
 use lib.Dec.{leb, eqb}
 use native.Mathlib.Omega.{arith}
 use borrow.Author.Tests.{le-leb, lt-leb, leb-true, eq-eqb, ne-eqb}
-use Rattle.format.specs.BumpLaws.{both}
-use Rattle.format.specs.Page.{Page, page, putOn, writeOn, filled, write-whole, write-cons, wrote-then}
+use Rattle.format.specs.Basics.{and-true}
+use Rattle.format.specs.Buffer.{Buffer, buffer, putOn, writeOn, filled, write-whole, write-cons, wrote-then}
 use Rattle.format.specs.Digits.{varintBytes}
 use Rattle.format.specs.Spelling.{spells}
 use Rattle.format.specs.BumpBytes.{levelBytes, bumpBytes}
@@ -121,14 +121,14 @@ module _ (block : ℕ) (list chosen : List ℕ) (h : ℕ) (least : h ≡ heightF
       omega arith
 
   module _ (out : List ℕ) (fits : length (bumpBytes (blockBump block (hashesOf list) chosen)) ≤ length out) where
-    pub wrote-all : {p q : Page} {out′ : List ℕ} {next : ℕ} → p ≡ writeOn (page out 0) (varintBytes block) → q ≡ putOn p h
-        → page out′ next ≡ writeOn q (spells levelBytes (levelsFor (hashesOf list) chosen h 0 h))
+    pub wrote-all : {p q : Buffer} {out′ : List ℕ} {next : ℕ} → p ≡ writeOn (buffer out 0) (varintBytes block) → q ≡ putOn p h
+        → buffer out′ next ≡ writeOn q (spells levelBytes (levelsFor (hashesOf list) chosen h 0 h))
         → (out′ ≡ bumpBytes (blockBump block (hashesOf list) chosen) ++ drop (length (bumpBytes (blockBump block (hashesOf list) chosen))) out) × (next ≡ length (bumpBytes (blockBump block (hashesOf list) chosen)))
     wrote-all {p} {q} {out′} {next} e f g =
-        let all : page out′ next ≡ writeOn (page out 0) (bumpBytes (blockBump block (hashesOf list) chosen)) =
-        wrote-then (page out 0) (varintBytes block) (h ∷ levels) e (write-cons p h levels f g) ∙ ap (writeOn (page out 0)) (sym text-is) in
-        let end : page out′ next ≡ page (filled out text) (min (length out) (length text)) = all ∙ write-whole out text in
-        (ap (λ (x : Page). x .room) end ∙ ap (λ (x : List ℕ). x ++ drop (length text) out) (take-all (length out) text fits), ap (λ (x : Page). x .at) end ∙ omega arith)
+        let all : buffer out′ next ≡ writeOn (buffer out 0) (bumpBytes (blockBump block (hashesOf list) chosen)) =
+        wrote-then (buffer out 0) (varintBytes block) (h ∷ levels) e (write-cons p h levels f g) ∙ ap (writeOn (buffer out 0)) (sym text-is) in
+        let end : buffer out′ next ≡ buffer (filled out text) (min (length out) (length text)) = all ∙ write-whole out text in
+        (ap (λ (x : Buffer). x .room) end ∙ ap (λ (x : List ℕ). x ++ drop (length text) out) (take-all (length out) text fits), ap (λ (x : Buffer). x .at) end ∙ omega arith)
 
     pub written-so : {w : Writing} {out′ : List ℕ} {next : ℕ} {r : Written} → w ≡ writes (bumpBytes (blockBump block (hashesOf list) chosen))
         → (out′ ≡ bumpBytes (blockBump block (hashesOf list) chosen) ++ drop (length (bumpBytes (blockBump block (hashesOf list) chosen))) out) × (next ≡ length (bumpBytes (blockBump block (hashesOf list) chosen)))
@@ -141,9 +141,9 @@ module _ (block : ℕ) (list chosen : List ℕ) (h : ℕ) (least : h ≡ heightF
 pub sized-told : (block : ℕ) (list : List ℕ) → sized block list ≡ true → (2 ≤ length list / 32) × (length list / 32 ≤ 1024)
 unfolding sized
 sized-told block list s =
-    let x = both (leb block MAX-BLOCK) _ s in
-    let y = both (eqb (length list % 32) 0) _ (x .1) in
-    let z = both (leb 2 (length list / 32)) _ (y .1) in
+    let x = and-true (leb block MAX-BLOCK) _ s in
+    let y = and-true (eqb (length list % 32) 0) _ (x .1) in
+    let z = and-true (leb 2 (length list / 32)) _ (y .1) in
     (leb-true 2 (length list / 32) (z .0), leb-true (length list / 32) 1024 (z .1))
 
 -- the least tree is low, and holds the list

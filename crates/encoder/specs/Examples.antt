@@ -5,7 +5,7 @@ use Prim.Native.Nat.{ℕ}
 use lib.ListN.{replicate}
 use Rattle.hash.specs.Sha256.{sha256d}
 use Rattle.format.specs.Bytes.{same}
-use Rattle.spv.specs.Climb.{beside, joined, step, ascend, outcome, ascendBy, outcomeBy}
+use Rattle.spv.specs.Climb.{beside, joined, step, ascendBy, outcomeBy}
 use Rattle.spv.specs.Bundle.{hashes, hashesOf, among}
 use Rattle.format.specs.Spelling.{spells}
 use Rattle.format.specs.Digits.{little, varintBytes}

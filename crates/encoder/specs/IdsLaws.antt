@@ -10,12 +10,13 @@ use native.Mathlib.Omega.{arith}
 use native.Mathlib.Nat.{sub-zero, mul-zero, add-zero}
 use native.Mathlib.Numerals.{add-one}
 use borrow.Author.Tests.{lt-ltb, le-ltb, ltb-true, eqb-true, eqb-false}
+use Rattle.format.specs.Basics.{and-false, one-less}
 use Rattle.format.specs.Bytes.{same, ne-same}
 use Rattle.format.specs.Search.{hashAt}
 use Rattle.format.specs.SearchLaws.{hash-there}
 use Rattle.format.specs.Spelling.{AllBytes, part-bytes}
 use Rattle.spv.specs.Bundle.{hashes, hashesOf}
-use Rattle.spv.specs.BundleHashes.{searching, search-here, search-on, search-end, one-less}
+use Rattle.spv.specs.BundleHashes.{searching, search-here, search-on, search-end}
 use Rattle.encoder.specs.TreeLaws.{Hashes}
 use Rattle.encoder.specs.BlockBump.{allBelow, distinct}
 use Rattle.encoder.specs.Ids.{idAt, slotAt}
@@ -116,10 +117,6 @@ module _ (list : List ℕ) where
   distinct-fails zero h e = sym distinct-all ∙ e
   distinct-fails (suc i) h e =
       distinct-fails i (omega arith) (distinct-step i (omega arith) ∙ rw (add-one i, e) (and-false (not (searching (idAt list i) list (suc i)))))
-    where
-      and-false : (t : Bool) → (t && false) ≡ false
-      and-false true = refl
-      and-false false = refl
 
 -- ---- slots: equal ids have the same
 

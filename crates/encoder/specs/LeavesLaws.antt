@@ -7,15 +7,15 @@ use lib.ListN.{length, length-append}
 use lib.Dec.{eqb}
 use native.Mathlib.Omega.{arith}
 use native.Mathlib.Nat.{sub-zero, add-zero}
-use native.Mathlib.Numerals.{add-one}
 use borrow.Author.Tests.{eqb-true, eqb-false, lt-ltb, le-ltb}
 use Rattle.spv.specs.Climb.{beside}
 use Rattle.spv.specs.ClimbLaws.{beside-odd, beside-even}
 use Rattle.encoder.specs.declared.level.Asked.{Asked}
 use Rattle.encoder.specs.declared.level.Asked.the-variants.{Nothing, Plain, Copy, Client}
+use Rattle.format.specs.Basics.{one-less}
 use Rattle.format.specs.Digits.{varintBytes}
 use Rattle.format.specs.VarintSpelling.{varint-length}
-use Rattle.format.specs.Page.{Page, putOn, writeOn, write-then, write-none, write-one, write-cons, wrote-then}
+use Rattle.format.specs.Buffer.{Buffer, putOn, writeOn, write-then, write-none, write-one, write-cons, wrote-then}
 use Rattle.encoder.specs.Heap.{nodeIn}
 use Rattle.encoder.specs.HeapLaws.{node-length}
 use Rattle.encoder.specs.Marks.{marked}
@@ -24,24 +24,24 @@ use Rattle.encoder.specs.Leaves.{passedAt, formAt, leafCount, leafBytes,
 -- ---- for the functions' proofs
 
 -- an offset, flags and a hash, one after the other
-pub wrote-hashed : (p : Page) (o b : ℕ) {hash node : List ℕ} {q r t : Page} → hash ≡ node → q ≡ writeOn p (varintBytes o) → r ≡ putOn q b → t ≡ writeOn r hash → t ≡ writeOn p (varintBytes o ++ (b ∷ node))
+pub wrote-hashed : (p : Buffer) (o b : ℕ) {hash node : List ℕ} {q r t : Buffer} → hash ≡ node → q ≡ writeOn p (varintBytes o) → r ≡ putOn q b → t ≡ writeOn r hash → t ≡ writeOn p (varintBytes o ++ (b ∷ node))
 wrote-hashed p o b {hash} i e f g = wrote-then p (varintBytes o) (b ∷ hash) e (write-cons _ b hash f g) ∙ ap (λ (x : List ℕ). writeOn p (varintBytes o ++ (b ∷ x))) i
 
 -- a leaf's text, by what is asked for
-module _ (list heap : List ℕ) (base : Bool) (width o : ℕ) (p : Page) {a : Asked} where
+module _ (list heap : List ℕ) (base : Bool) (width o : ℕ) (p : Buffer) {a : Asked} where
   pub text-nothing : a ≡ Nothing → p ≡ writeOn p (leafText list heap base width o a)
   unfolding leafText writeOn
   text-nothing e = rw e
 
-  pub text-plain : a ≡ Plain → {t : Page} → t ≡ writeOn p (varintBytes o ++ (0 ∷ nodeIn list heap base width o)) → t ≡ writeOn p (leafText list heap base width o a)
+  pub text-plain : a ≡ Plain → {t : Buffer} → t ≡ writeOn p (varintBytes o ++ (0 ∷ nodeIn list heap base width o)) → t ≡ writeOn p (leafText list heap base width o a)
   unfolding leafText
   text-plain i e = rw i e
 
-  pub text-client : a ≡ Client → {t : Page} → t ≡ writeOn p (varintBytes o ++ (2 ∷ nodeIn list heap base width o)) → t ≡ writeOn p (leafText list heap base width o a)
+  pub text-client : a ≡ Client → {t : Buffer} → t ≡ writeOn p (varintBytes o ++ (2 ∷ nodeIn list heap base width o)) → t ≡ writeOn p (leafText list heap base width o a)
   unfolding leafText
   text-client i e = rw i e
 
-  pub text-copy : a ≡ Copy → {q r : Page} → q ≡ writeOn p (varintBytes o) → r ≡ putOn q 1 → r ≡ writeOn p (leafText list heap base width o a)
+  pub text-copy : a ≡ Copy → {q r : Buffer} → q ≡ writeOn p (varintBytes o) → r ≡ putOn q 1 → r ≡ writeOn p (leafText list heap base width o a)
   unfolding leafText
   text-copy i {q} e f = rw i (wrote-then p (varintBytes o) (1 ∷ []) e (f ∙ sym (write-one q 1)))
 
@@ -71,19 +71,15 @@ module _ (marks : List ℕ) (base : Bool) (width count o : ℕ) where
     unfolding formAt
     form-copy f h = rw (e, f, le-ltb o count h)
 
--- one offset more
-one-more : (w o : ℕ) → o < w → w - o ≡ suc (w - (o + 1))
-one-more w o h = omega (arith, add-one (w - (o + 1)))
-
 module _ (g : ℕ → List ℕ) (w : ℕ) where
-  pub text-start : (p : Page) → writeOn p (textFrom g 0 w) ≡ writeOn p (textFrom g 0 (w - 0))
+  pub text-start : (p : Buffer) → writeOn p (textFrom g 0 w) ≡ writeOn p (textFrom g 0 (w - 0))
   text-start p = rw (sub-zero w)
 
-  pub text-on : (p : Page) (o : ℕ) {q : Page} → o < w → q ≡ writeOn p (g o) → writeOn p (textFrom g o (w - o)) ≡ writeOn q (textFrom g (o + 1) (w - (o + 1)))
+  pub text-on : (p : Buffer) (o : ℕ) {q : Buffer} → o < w → q ≡ writeOn p (g o) → writeOn p (textFrom g o (w - o)) ≡ writeOn q (textFrom g (o + 1) (w - (o + 1)))
   unfolding textFrom
-  text-on p o h e = rw (one-more w o h) (write-then p (g o) (textFrom g (o + 1) (w - (o + 1))) ∙ ap (λ (x : Page). writeOn x (textFrom g (o + 1) (w - (o + 1)))) (sym e))
+  text-on p o h e = rw (one-less w o h) (write-then p (g o) (textFrom g (o + 1) (w - (o + 1))) ∙ ap (λ (x : Buffer). writeOn x (textFrom g (o + 1) (w - (o + 1)))) (sym e))
 
-  pub text-end : (p : Page) (o : ℕ) → w ≤ o → writeOn p (textFrom g o (w - o)) ≡ p
+  pub text-end : (p : Buffer) (o : ℕ) → w ≤ o → writeOn p (textFrom g o (w - o)) ≡ p
   unfolding textFrom
   text-end p o h = let f : w - o ≡ 0 = omega arith in rw f (write-none p)
 
@@ -93,7 +89,7 @@ module _ (g : ℕ → ℕ) (w : ℕ) where
 
   pub sum-on : (a o x : ℕ) → o < w → x ≡ g o → a + x + sumFrom g (o + 1) (w - (o + 1)) ≡ a + sumFrom g o (w - o)
   unfolding sumFrom
-  sum-on a o x h e = rw (one-more w o h, e) (omega arith)
+  sum-on a o x h e = rw (one-less w o h, e) (omega arith)
 
   pub sum-end : (a o : ℕ) → w ≤ o → a + sumFrom g o (w - o) ≡ sumFrom g 0 w → a ≡ sumFrom g 0 w
   unfolding sumFrom
@@ -125,10 +121,10 @@ beside-in width o even h = go (eqb (o % 2) 1) refl
     go false e = rw (beside-even o (eqb-false (o % 2) 1 e)) (let q = eqb-false (o % 2) 1 e in omega arith)
 
 -- what is put for a leaf that was asked about
-pub asked-text : (list heap : List ℕ) (base : Bool) (width o : ℕ) (p : Page) {a f : Asked} → a ≡ f → writeOn p (leafText list heap base width o a) ≡ writeOn p (leafText list heap base width o f)
+pub asked-text : (list heap : List ℕ) (base : Bool) (width o : ℕ) (p : Buffer) {a f : Asked} → a ≡ f → writeOn p (leafText list heap base width o a) ≡ writeOn p (leafText list heap base width o f)
 asked-text list heap base width o p e = ap (λ (x : Asked). writeOn p (leafText list heap base width o x)) e
 
-pub wrote-level : (list heap marks : List ℕ) (base : Bool) (width count : ℕ) (p : Page) {n : ℕ} {q r : Page}
+pub wrote-level : (list heap marks : List ℕ) (base : Bool) (width count : ℕ) (p : Buffer) {n : ℕ} {q r : Buffer}
     → n ≡ levelLeaves marks base width count → q ≡ writeOn p (varintBytes n)
     → r ≡ writeOn q (leavesText list heap marks base width count) → r ≡ writeOn p (levelText list heap marks base width count)
 unfolding levelText

@@ -22,7 +22,7 @@ use Rattle.encoder.specs.RisingLaws.{rising-none, rising-some}
 use Rattle.encoder.specs.BlockFit.{under-below, below-told}
 use Rattle.encoder.specs.Heap.{Stored, Heap, Level}
 use Rattle.encoder.specs.Marks.{Marked}
-use Rattle.format.specs.Page.{Page, writeOn, write-then, write-none}
+use Rattle.format.specs.Buffer.{Buffer, writeOn, write-then, write-none}
 use Rattle.encoder.specs.IdsLaws.{hashes-length}
 use Rattle.encoder.specs.TreeLaws.{size-suc}
 use native.Mathlib.Nat.{pow-suc, sub-zero, zero-lt-suc}
@@ -158,10 +158,10 @@ rest-on {list} {heap} {marks} {chosen} {h} r k width count b more e =
 
 -- a level written, and its bytes counted
 module _ {list heap marks chosen : List ℕ} {h n : ℕ} (r : Ready list heap marks chosen h n) (k width count : ℕ) (b : Level h k width) (more : k < h) (e : count ≡ size (hashesOf list) k) where
-  pub written-on : (p : Page) {q : Page} → q ≡ writeOn p (levelText list heap marks (eqb k 0) width count) → writeOn p (rest list chosen h k) ≡ writeOn q (rest list chosen h (k + 1))
+  pub written-on : (p : Buffer) {q : Buffer} → q ≡ writeOn p (levelText list heap marks (eqb k 0) width count) → writeOn p (rest list chosen h k) ≡ writeOn q (rest list chosen h (k + 1))
   written-on p f =
       ap (writeOn p) (rest-on r k width count b more e) ∙ write-then p (levelText list heap marks (eqb k 0) width count) (rest list chosen h (k + 1))
-      ∙ ap (λ (x : Page). writeOn x (rest list chosen h (k + 1))) (sym f)
+      ∙ ap (λ (x : Buffer). writeOn x (rest list chosen h (k + 1))) (sym f)
 
   pub sized-on : (total : ℕ) {leaves bytes : ℕ} → leaves ≡ length (varintBytes (levelLeaves marks (eqb k 0) width count)) → bytes ≡ levelSize marks (eqb k 0) width count
       → total + (leaves + bytes) + length (rest list chosen h (k + 1)) ≡ total + length (rest list chosen h k)
@@ -172,7 +172,7 @@ module _ {list heap marks chosen : List ℕ} {h n : ℕ} (r : Ready list heap ma
       omega arith
 
 module _ (list chosen : List ℕ) (h k : ℕ) (end : h ≤ k) where
-  pub written-end : (p : Page) {q : Page} → writeOn p (rest list chosen h 0) ≡ writeOn q (rest list chosen h k) → q ≡ writeOn p (spells levelBytes (levelsFor (hashesOf list) chosen h 0 h))
+  pub written-end : (p : Buffer) {q : Buffer} → writeOn p (rest list chosen h 0) ≡ writeOn q (rest list chosen h k) → q ≡ writeOn p (spells levelBytes (levelsFor (hashesOf list) chosen h 0 h))
   written-end p {q} e = sym (ap (writeOn p) (rest-all list chosen h) ∙ e ∙ ap (writeOn q) (rest-none list chosen h k end) ∙ write-none q)
 
   pub sized-end : (total : ℕ) → total + length (rest list chosen h k) ≡ length (rest list chosen h 0) → total ≡ length (spells levelBytes (levelsFor (hashesOf list) chosen h 0 h))

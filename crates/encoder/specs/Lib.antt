@@ -1,6 +1,5 @@
 pub mod Tree
 pub mod BlockBump
-pub mod Truth
 pub mod TreeLaws
 pub mod TreeClimb
 pub mod RisingLaws

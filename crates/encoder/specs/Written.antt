@@ -7,7 +7,7 @@ use lib.ListN.{length}
 use lib.Dec.{leb, eqb}
 use native.Mathlib.Omega.{arith}
 use borrow.Author.Tests.{leb-true, eqb-true}
-use Rattle.format.specs.BumpLaws.{both}
+use Rattle.format.specs.Basics.{and-true}
 use Rattle.format.specs.Parse.{pick}
 use Rattle.format.specs.Level.{holds}
 use Rattle.format.specs.Refusals.{OVER-LIMIT, NOT-LISTED, BAD-OFFSET, SAME-TX, TWIN, NO-ROOM, MAX-BLOCK}
@@ -32,10 +32,10 @@ passed false n w bytes e = absurd (let z : _≡_ {A = ℕ} 0 1 = cc in omega ari
 reach-told : (ids : List (List ℕ)) (chosen : List ℕ) → allReach ids chosen ≡ true → (i : ℕ) → holds i chosen ≡ true → reaches (treeClimb ids i) ≡ true
 unfolding allReach holds
 reach-told ids [] e i h = absurd (let z : _≡_ {A = ℕ} 0 1 = cc in omega arith)
-reach-told ids (x ∷ chosen) e i h = go (eqb i x) refl h (λ m. reach-told ids chosen (both (reaches (treeClimb ids x)) (allReach ids chosen) e .1) i m)
+reach-told ids (x ∷ chosen) e i h = go (eqb i x) refl h (λ m. reach-told ids chosen (and-true (reaches (treeClimb ids x)) (allReach ids chosen) e .1) i m)
   where
     f : (reaches (treeClimb ids x) ≡ true) × (allReach ids chosen ≡ true)
-    f = both (reaches (treeClimb ids x)) (allReach ids chosen) e
+    f = and-true (reaches (treeClimb ids x)) (allReach ids chosen) e
 
     go : (t : Bool) → eqb i x ≡ t → (t || holds i chosen) ≡ true → (holds i chosen ≡ true → reaches (treeClimb ids i) ≡ true) → reaches (treeClimb ids i) ≡ true
     go true q m r = rw (eqb-true i x q) (f .0)
@@ -45,9 +45,9 @@ sizes-of : (block : ℕ) (list chosen : List ℕ) → AllBytes list → sized bl
 unfolding sized hashesOf
 sizes-of block list chosen h s b =
     let n = hashes-length (length list / 32) list in
-    let x = both (leb block MAX-BLOCK) _ s in
-    let y = both (eqb (length list % 32) 0) _ (x .1) in
-    let z = both (leb 2 (length list / 32)) _ (y .1) in
+    let x = and-true (leb block MAX-BLOCK) _ s in
+    let y = and-true (eqb (length list % 32) 0) _ (x .1) in
+    let z = and-true (leb 2 (length list / 32)) _ (y .1) in
     record {
       block-fits = leb-true block MAX-BLOCK (x .0);
       two = rw n (leb-true 2 (length list / 32) (z .0));

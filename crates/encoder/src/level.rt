@@ -1,14 +1,14 @@
 // The levels of a BUMP of chosen positions: what they ask for at each offset, how many bytes that takes, and the bytes.
 use super::tree::node_at;
-use format::page::put;
-use format::page::varint_size;
-use format::page::write;
-use format::page::write_varint;
+use format::buffer::put;
+use format::buffer::varint_size;
+use format::buffer::write;
+use format::buffer::write_varint;
 ghost use mathlib.Core.Path.{_≡_};
 ghost use mathlib.Core.List.{List, _∷_, _++_};
 ghost use Prim.Native.Nat.{ℕ, _+_, _%_, _^_, _<_, _≤_};
 ghost use lib.ListN.{length};
-ghost use Rattle.format.specs.Page.{page, writeOn};
+ghost use Rattle.format.specs.Buffer.{buffer, writeOn};
 ghost use Rattle.format.specs.Digits.{varintBytes};
 ghost use Rattle.format.specs.Spelling.{spells};
 ghost use Rattle.format.specs.BumpBytes.{levelBytes};
@@ -118,7 +118,7 @@ fn write_hashed(
     flags: u8,
 ) -> usize
     requires { ⌜ (width ≤ 1024) × (o ≤ 1024) ⌝ }
-    ensures { λ r. ⌜ page (now (out .exit)) r ≡ writeOn (page (now (out .entry)) at) (varintBytes o ++ (flags ∷ nodeIn (now (ids .entry)) (now (heap .entry)) base width o)) ⌝ }
+    ensures { λ r. ⌜ buffer (now (out .exit)) r ≡ writeOn (buffer (now (out .entry)) at) (varintBytes o ++ (flags ∷ nodeIn (now (ids .entry)) (now (heap .entry)) base width o)) ⌝ }
 {
     let hash = node_at(ids, heap, base, width, o);
     let mut next = write_varint(out, at, o as u64);
@@ -137,7 +137,7 @@ fn write_leaf(
     a: Asked,
 ) -> usize
     requires { ⌜ (width ≤ 1024) × (o ≤ 1024) ⌝ }
-    ensures { λ r. ⌜ page (now (out .exit)) r ≡ writeOn (page (now (out .entry)) at) (leafText (now (ids .entry)) (now (heap .entry)) base width o a) ⌝ }
+    ensures { λ r. ⌜ buffer (now (out .exit)) r ≡ writeOn (buffer (now (out .entry)) at) (leafText (now (ids .entry)) (now (heap .entry)) base width o a) ⌝ }
 {
     match a {
         Asked::Nothing => at,
@@ -162,7 +162,7 @@ fn write_leaves(
     count: usize,
 ) -> usize
     requires { ⌜ (width % 2 ≡ 0) × (width ≤ 1024) × (length (now marks) ≡ 2048) ⌝ }
-    ensures { λ r. ⌜ page (now (out .exit)) r ≡ writeOn (page (now (out .entry)) at) (leavesText (now (ids .entry)) (now (heap .entry)) (now (marks .entry)) base width count) ⌝ }
+    ensures { λ r. ⌜ buffer (now (out .exit)) r ≡ writeOn (buffer (now (out .entry)) at) (leavesText (now (ids .entry)) (now (heap .entry)) (now (marks .entry)) base width count) ⌝ }
 {
     let mut next = at;
     let mut o: usize = 0;
@@ -194,7 +194,7 @@ fn write_level(
     count: usize,
 ) -> usize
     requires { ⌜ (width % 2 ≡ 0) × (width ≤ 1024) × (length (now marks) ≡ 2048) ⌝ }
-    ensures { λ r. ⌜ page (now (out .exit)) r ≡ writeOn (page (now (out .entry)) at) (levelText (now (ids .entry)) (now (heap .entry)) (now (marks .entry)) base width count) ⌝ }
+    ensures { λ r. ⌜ buffer (now (out .exit)) r ≡ writeOn (buffer (now (out .entry)) at) (levelText (now (ids .entry)) (now (heap .entry)) (now (marks .entry)) base width count) ⌝ }
 {
     let t = level_tally(marks, base, width, count);
     let leaves = t.leaves;
@@ -215,7 +215,7 @@ pub(crate) fn write_levels(
 ) -> usize
     requires { ⌜ (height ≤ 10) × (top ≡ 2 ^ height) × (n ≤ 1024) × (length (now marks) ≡ 2048) ⌝ }
     ensures { λ r. ⌜ ((chosen : List ℕ) → Ready (now (ids .entry)) (now (heap .entry)) (now (marks .entry)) chosen height n
-        → page (now (out .exit)) r ≡ writeOn (page (now (out .entry)) at) (spells levelBytes (levelsFor (hashesOf (now (ids .entry))) chosen height 0 height))) ⌝ }
+        → buffer (now (out .exit)) r ≡ writeOn (buffer (now (out .entry)) at) (spells levelBytes (levelsFor (hashesOf (now (ids .entry))) chosen height 0 height))) ⌝ }
 {
     let mut next = at;
     let mut width = top;

@@ -5,7 +5,6 @@ ghost use mathlib.Core.Bool.{true, false};
 ghost use mathlib.Core.List.{List};
 ghost use Prim.Native.Nat.{ℕ, _+_, _*_, _/_, _%_, _^_, _<_, _≤_};
 ghost use lib.ListN.{length};
-ghost use lib.Seq.{paste};
 ghost use Rattle.format.specs.Search.{hashAt};
 ghost use Rattle.spv.specs.Bundle.{hashesOf};
 ghost use Rattle.encoder.specs.Tree.{above, heightFor, treeClimb};
@@ -42,18 +41,6 @@ pub(crate) fn node_at(ids: &[u8], heap: &[u8], base: bool, width: usize, j: usiz
     format::hash_at(heap, 32 * (width + j))
 }
 
-fn store(heap: &mut [u8], index: usize, hash: [u8; 32])
-    requires { ⌜ 32 * index + 32 ≤ length (now heap) ⌝ }
-    ensures { λ r. ⌜ now (heap .exit) ≡ paste (now (heap .entry)) (32 * index) hash 32 ⌝ }
-{
-    let at = 32 * index;
-    let mut i: usize = 0;
-    while i < 32 {
-        heap[at + i] = hash[i];
-        i += 1;
-    }
-}
-
 // The right-hand one of a pair: the next node, or where there is none a copy.
 fn right_of(ids: &[u8], heap: &[u8], base: bool, width: usize, count: usize, j: usize) -> [u8; 32]
     requires { ⌜ (width ≤ 2048) × (j < 2048) ⌝ }
@@ -77,7 +64,7 @@ fn raise(ids: &[u8], heap: &mut [u8], base: bool, width: usize, count: usize)
     while j < above {
         let left = node_at(ids, heap, base, width, 2 * j);
         let right = right_of(ids, heap, base, width, count, 2 * j);
-        store(heap, half + j, hash::join(left, right));
+        format::set_hash(heap, half + j, hash::join(left, right));
         j += 1;
     }
 }

@@ -1,11 +1,12 @@
 -- Laws of BUMP and CMP as wholes: their answers by their fields, and what is known of one that was read.
 use mathlib.Core.Path.{_≡_, refl, ap, _∙_}
 use mathlib.Core.List.{List, reverse}
-use mathlib.Core.Bool.{Bool, true, false, _&&_, false≢true}
+use mathlib.Core.Bool.{_&&_}
 use Prim.Native.Nat.{ℕ, _+_, _≤_}
 use lib.Dec.{leb}
 use native.Mathlib.Omega.{arith}
 use borrow.Author.Tests.{leb-true}
+use Rattle.format.specs.Basics.{and-true}
 use Rattle.format.specs.declared.level.Layout.{Layout}
 use Rattle.format.specs.declared.level.Leaf.{Leaf}
 use lib.ListN.{length}
@@ -19,14 +20,10 @@ use Rattle.format.specs.Bump.{Bump, blockField, heightField, bumpField, 
 use Rattle.format.specs.Cmp.{Cmp, topField, cmpField, cmpWhole, cmpHeadOf}
 use Rattle.format.specs.Refusals.{BAD-HEIGHT, MAX-HEIGHT, MAX-TOP}
 
-pub both : (a b : Bool) → (a && b) ≡ true → (a ≡ true) × (b ≡ true)
-both true b e = (refl, e)
-both false b e = absurd (false≢true e)
-
 pub height-bounded : (s : List ℕ) (at : ℕ) {h q : ℕ} → heightField s at ≡ got h q → (1 ≤ h) × (h ≤ MAX-HEIGHT)
 unfolding heightField
 height-bounded s at {h} e =
-    let t = both (leb 1 h) (leb h MAX-HEIGHT) (passing-told byte (λ h. leb 1 h && leb h MAX-HEIGHT) BAD-HEIGHT s at e .1) in
+    let t = and-true (leb 1 h) (leb h MAX-HEIGHT) (passing-told byte (λ h. leb 1 h && leb h MAX-HEIGHT) BAD-HEIGHT s at e .1) in
     (leb-true 1 h (t .0), leb-true h MAX-HEIGHT (t .1))
 
 pub top-bounded : (s : List ℕ) (at : ℕ) {m q : ℕ} → topField s at ≡ got m q → m ≤ MAX-TOP

@@ -19,7 +19,7 @@ use Rattle.format.specs.FieldLaws.{bytes-here}
 use Rattle.format.specs.Level.{holds, offsetField, flagAllowed, flagField, kindField, carriedField, leafField, andOffset, leafFields, levelField, levelInTurn, nextTurn, levelFields, written}
 use Rattle.format.specs.Search.{hashAt}
 use Rattle.format.specs.SearchLaws.{hash-there, hash-at-length}
-use Rattle.format.specs.BumpLaws.{both}
+use Rattle.format.specs.Basics.{and-true}
 use Rattle.format.specs.Bump.{Bump, blockField, heightField, bumpField}
 use Rattle.format.specs.Refusals.{BAD-OFFSET, REPEATED, BAD-FLAG, OVER-LIMIT, BAD-HEIGHT, MAX-BLOCK, MAX-HEIGHT, MAX-LEAVES}
 use Rattle.format.specs.Stands.{Stands, stands-join, stands-split, stands-fits, stands-take, stands-here}
@@ -185,7 +185,7 @@ block-spelling = refit (λ n f. (omega arith, le-leb n MAX-BLOCK f)) (λ n f. le
 height-spelling : Spelling heightField itself (λ b. b ∷ []) (λ h. (1 ≤ h) × (h ≤ MAX-HEIGHT))
 unfolding heightField
 height-spelling =
-    refit (λ h f. (omega (arith, f .1), rw (le-leb 1 h (f .0)) (le-leb h MAX-HEIGHT (f .1)))) (λ h f. let t = both (leb 1 h) (leb h MAX-HEIGHT) (f .1) in (leb-true 1 h (t .0), leb-true h MAX-HEIGHT (t .1)))
+    refit (λ h f. (omega (arith, f .1), rw (le-leb 1 h (f .0)) (le-leb h MAX-HEIGHT (f .1)))) (λ h f. let t = and-true (leb 1 h) (leb h MAX-HEIGHT) (f .1) in (leb-true 1 h (t .0), leb-true h MAX-HEIGHT (t .1)))
     (tested-spelling (λ h. leb 1 h && leb h MAX-HEIGHT) BAD-HEIGHT byte-spelling)
 
 pub bump-spelling : Spelling bumpField contentOf bumpBytes ContentFit

@@ -1,3 +1,4 @@
+pub mod Basics
 pub mod Refusals
 pub mod Parse
 pub mod ParseLaws
@@ -40,7 +41,7 @@ pub mod Spelling
 pub mod Digits
 pub mod DigitsLaws
 pub mod VarintSpelling
-pub mod Page
+pub mod Buffer
 pub mod BumpBytes
 pub mod BumpSpelling
 pub mod BumpRoundTrip

@@ -1,6 +1,6 @@
 // Hashes as 32 bytes.
 ghost use mathlib.Core.Path.{_≡_};
-ghost use Rattle.format.specs.Bytes.{same};
+ghost use Rattle.format.specs.Bytes.{same, setHash};
 ghost use Rattle.format.specs.Search.{hashAt};
 
 // Whether two hashes are the same 32 bytes.
@@ -34,4 +34,19 @@ pub fn hash_at(s: &[u8], place: usize) -> [u8; 32]
         i += 1;
     }
     out
+}
+
+// The i-th of hashes end to end becomes this one; where there is no room for it nothing changes.
+pub fn set_hash(list: &mut [u8], i: usize, hash: [u8; 32])
+    ensures { λ _. ⌜ now (list .exit) ≡ setHash (now (list .entry)) i hash ⌝ }
+{
+    if list.len() / 32 <= i {
+        return;
+    }
+    let at = 32 * i;
+    let mut k: usize = 0;
+    while k < 32 {
+        list[at + k] = hash[k];
+        k += 1;
+    }
 }

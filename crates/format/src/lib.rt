@@ -1,5 +1,6 @@
 // Readers of the published layouts of Merkle proofs over lent bytes, and writers of their fields.
 mod beef;
+pub mod buffer;
 mod bump;
 mod bytes;
 mod cmp;
@@ -7,7 +8,6 @@ mod field;
 mod id;
 mod level;
 mod node;
-pub mod page;
 mod path;
 pub mod refusal;
 mod tsc;
@@ -31,6 +31,7 @@ pub use bump::bump_at;
 pub use bump::read_bump;
 pub use bytes::hash_at;
 pub use bytes::same_bytes;
+pub use bytes::set_hash;
 pub use cmp::Cmp;
 pub use cmp::CmpAnswer;
 pub use cmp::CmpHead;

@@ -11,7 +11,7 @@ use Rattle.format.specs.ParseLaws.{each-got, each-bad}
 use Rattle.format.specs.Bump.{Bump, bumpWhole, headOf}
 use Rattle.format.specs.BumpLaws.{bump-whole-told}
 use Rattle.listing.specs.Text.{ascii, decimal, line}
-use Rattle.format.specs.Page.{Page, page, writeOn, filled, wrote-then, write-whole}
+use Rattle.format.specs.Buffer.{Buffer, buffer, writeOn, filled, wrote-then, write-whole}
 use Rattle.listing.specs.Listing.{LISTED-BYTES, levelLines, bumpLines, refusedLine, report, listing}
 use Rattle.listing.specs.Walk.{Walk, walkLevels, levels-walked}
 
@@ -25,15 +25,15 @@ module _ (s : List ℕ) where
   listing-whole h = rw (le-leb (length s) LISTED-BYTES h)
 
   -- the line of a refusal
-  pub report-refused : (p : Page) {n q : ℕ} {p₁ : Page} → each headOf (bumpWhole s) ≡ bad n q → p₁ ≡ writeOn p (refusedLine n q) → p₁ ≡ writeOn p (report s (bumpWhole s))
+  pub report-refused : (p : Buffer) {n q : ℕ} {p₁ : Buffer} → each headOf (bumpWhole s) ≡ bad n q → p₁ ≡ writeOn p (refusedLine n q) → p₁ ≡ writeOn p (report s (bumpWhole s))
   unfolding report
   report-refused p e e₁ = rw (each-bad headOf (bumpWhole s) e) e₁
 
   -- the lines of a BUMP that was read, written one after the other
-  pub report-read : (p : Page) {head : BumpHead} {q : ℕ} {p₁ p₂ p₃ p₄ : Page} → each headOf (bumpWhole s) ≡ got head q
+  pub report-read : (p : Buffer) {head : BumpHead} {q : ℕ} {p₁ p₂ p₃ p₄ : Buffer} → each headOf (bumpWhole s) ≡ got head q
       → p₁ ≡ writeOn p (line (ascii "block " ++ decimal (head .block)))
       → p₂ ≡ writeOn p₁ (line (ascii "height " ++ decimal (head .height)))
-      → p₃ ≡ walkLevels s (head .height) 0 (head .levels .at) p₂ .page
+      → p₃ ≡ walkLevels s (head .height) 0 (head .levels .at) p₂ .buffer
       → p₄ ≡ writeOn p₃ (line (ascii "ok"))
       → p₄ ≡ writeOn p (report s (bumpWhole s))
   unfolding report bumpLines
@@ -42,11 +42,11 @@ module _ (s : List ℕ) where
       rw (x .1) (lines (x .0) (x .1) (rw (← x .2) at e₁) (rw (← x .2) at e₂) (rw (← x .2) at e₃))
     where
       lines : (b : Bump) → bumpWhole s ≡ got b q → p₁ ≡ writeOn p (line (ascii "block " ++ decimal (b .block))) → p₂ ≡ writeOn p₁ (line (ascii "height " ++ decimal (b .height)))
-          → p₃ ≡ walkLevels s (b .height) 0 (b .start) p₂ .page → p₄ ≡ writeOn p (bumpLines s b)
+          → p₃ ≡ walkLevels s (b .height) 0 (b .start) p₂ .buffer → p₄ ≡ writeOn p (bumpLines s b)
       lines b r f₁ f₂ f₃ =
-          let walked : p₃ ≡ writeOn p₂ (levelLines s 0 (b .levels)) = f₃ ∙ ap (λ (w : Walk). w .page) (levels-walked s (b .height) (b .height) 0 (b .start) p₂ (bump-whole-told s r .levels)) in
+          let walked : p₃ ≡ writeOn p₂ (levelLines s 0 (b .levels)) = f₃ ∙ ap (λ (w : Walk). w .buffer) (levels-walked s (b .height) (b .height) 0 (b .start) p₂ (bump-whole-told s r .levels)) in
           wrote-then p _ _ (wrote-then p _ _ (wrote-then p _ _ f₁ f₂) walked) e₄
 
 -- what is written from the start of the memory lent
-pub wrote-whole : (o text : List ℕ) {o′ : List ℕ} {r : ℕ} → page o′ r ≡ writeOn (page o 0) text → (r ≡ min (length o) (length text)) × (o′ ≡ filled o text)
-wrote-whole o text e = (ap (λ (p : Page). p .at) (e ∙ write-whole o text), ap (λ (p : Page). p .room) (e ∙ write-whole o text))
+pub wrote-whole : (o text : List ℕ) {o′ : List ℕ} {r : ℕ} → buffer o′ r ≡ writeOn (buffer o 0) text → (r ≡ min (length o) (length text)) × (o′ ≡ filled o text)
+wrote-whole o text e = (ap (λ (p : Buffer). p .at) (e ∙ write-whole o text), ap (λ (p : Buffer). p .room) (e ∙ write-whole o text))

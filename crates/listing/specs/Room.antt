@@ -22,7 +22,7 @@ use Rattle.format.specs.Search.{hashAt}
 use Rattle.format.specs.SearchLaws.{hash-at-length}
 use Rattle.listing.specs.Text.{digit, digits, decimal, hex, printed}
 use Rattle.listing.specs.Listing.{LISTED-BYTES, LISTING-ROOM, kindText, leafLine, leafLines, levelLine, levelLines, bumpLines, refusedLine, report, listing}
-use Rattle.format.specs.Page.{filled}
+use Rattle.format.specs.Buffer.{filled}
 use Rattle.listing.specs.Within.{Within, read, refused, within-then, within-each, within-weaken, within-choice, within-passing, carriedBytes, within-byte, within-varint, within-leaf}
 
 digits-few : (k most n : ℕ) → n < 10 ^ suc k → length (digits most n) ≤ suc k

@@ -9,7 +9,7 @@ use lib.Dec.{ltb}
 use native.Mathlib.Omega.{arith}
 use native.Mathlib.Numerals.{add-one}
 use borrow.Author.Tests.{le-ltb, lt-ltb, ltb-false}
-use Rattle.format.specs.Page.{Page, putOn, writeOn, write-one, wrote-then}
+use Rattle.format.specs.Buffer.{Buffer, putOn, writeOn, write-one, wrote-then}
 use Rattle.listing.specs.Text.{digit, digits, decimal, hex, printed}
 
 pub digit-low : (d : ℕ) → d < 10 → digit d ≡ 48 + d
@@ -40,23 +40,23 @@ unfolding digits decimal
 decimal-more n h = rw (le-ltb n 10 h) (ap (λ (l : List ℕ). l ++ (digit (n % 10) ∷ [])) (digits-enough n (suc (n / 10)) (n / 10) (omega arith) (omega arith)))
 
 -- a number written: its one digit, or those before its last and then that
-module _ (p : Page) (n : ℕ) where
-  pub decimal-one : {q : Page} {d : ℕ} → n < 10 → d ≡ digit n → q ≡ putOn p d → q ≡ writeOn p (decimal n)
+module _ (p : Buffer) (n : ℕ) where
+  pub decimal-one : {q : Buffer} {d : ℕ} → n < 10 → d ≡ digit n → q ≡ putOn p d → q ≡ writeOn p (decimal n)
   decimal-one h e f = rw (decimal-digit n h, write-one) (f ∙ ap (putOn p) e)
 
-  pub decimal-on : {q r : Page} {d : ℕ} → 10 ≤ n → q ≡ writeOn p (decimal (n / 10)) → d ≡ digit (n % 10) → r ≡ putOn q d → r ≡ writeOn p (decimal n)
+  pub decimal-on : {q r : Buffer} {d : ℕ} → 10 ≤ n → q ≡ writeOn p (decimal (n / 10)) → d ≡ digit (n % 10) → r ≡ putOn q d → r ≡ writeOn p (decimal n)
   decimal-on {q} h e g f = rw (decimal-more n h) (wrote-then p (decimal (n / 10)) (digit (n % 10) ∷ []) e (f ∙ ap (putOn q) g ∙ sym (write-one q (digit (n % 10)))))
 
 -- bytes written in printed order: the last of those stored comes first
-module _ (p : Page) (l : List ℕ) where
+module _ (p : Buffer) (l : List ℕ) where
   pub printed-start : (n : ℕ) → length l ≡ n → writeOn p (printed l) ≡ writeOn p (printed (take n l))
   printed-start n h = rw (take-all n l (omega arith))
 
-  pub printed-on : (i j : ℕ) {q r : Page} {b d e : ℕ} → i ≡ j + 1 → j < length l → b ≡ getD l j 0 → d ≡ digit (b / 16) → q ≡ putOn p d → e ≡ digit (b % 16) → r ≡ putOn q e
+  pub printed-on : (i j : ℕ) {q r : Buffer} {b d e : ℕ} → i ≡ j + 1 → j < length l → b ≡ getD l j 0 → d ≡ digit (b / 16) → q ≡ putOn p d → e ≡ digit (b % 16) → r ≡ putOn q e
       → writeOn p (printed (take i l)) ≡ writeOn r (printed (take j l))
   unfolding printed hex writeOn
   printed-on i j hi h hb hd hq he hr =
-      rw (hi, add-one, take-suc l j 0, reverse-append (take j l) (getD l j 0 ∷ [])) (ap (λ (x : Page). writeOn x (printed (take j l))) (sym (hr ∙ rw (hq, hd, he, hb))))
+      rw (hi, add-one, take-suc l j 0, reverse-append (take j l) (getD l j 0 ∷ [])) (ap (λ (x : Buffer). writeOn x (printed (take j l))) (sym (hr ∙ rw (hq, hd, he, hb))))
 
   pub printed-end : (i : ℕ) → i ≤ 0 → writeOn p (printed (take i l)) ≡ p
   unfolding printed hex writeOn

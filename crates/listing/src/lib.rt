@@ -4,7 +4,7 @@ mod text;
 
 use format::BumpAnswer;
 use format::Refusal;
-use format::page::write;
+use format::buffer::write;
 use format::read_bump;
 use format::refusal::TOO_LONG;
 use lines::number_line;
@@ -15,14 +15,14 @@ ghost use Prim.Native.Nat.{min};
 ghost use lib.ListN.{length};
 ghost use Rattle.format.specs.Bump.{bumpWhole};
 ghost use Rattle.listing.specs.Listing.{listing, report};
-ghost use Rattle.format.specs.Page.{page, writeOn, filled};
+ghost use Rattle.format.specs.Buffer.{buffer, writeOn, filled};
 
 // The bytes of a BUMP that are listed; more are refused.
 pub const LISTED_BYTES: usize = 65536;
 
 // The listing of a BUMP whose length is not over the limit.
 fn list_whole(s: &[u8], out: &mut [u8]) -> usize
-    ensures { λ r. ⌜ page (now (out .exit)) r ≡ writeOn (page (now (out .entry)) 0) (report (now (s .entry)) (bumpWhole (now (s .entry)))) ⌝ }
+    ensures { λ r. ⌜ buffer (now (out .exit)) r ≡ writeOn (buffer (now (out .entry)) 0) (report (now (s .entry)) (bumpWhole (now (s .entry)))) ⌝ }
 {
     let answer = read_bump(s);
     let BumpAnswer::Value(head, _) = answer else {

@@ -8,15 +8,15 @@ use format::Leaf;
 use format::LeafAnswer;
 use format::Number;
 use format::Refusal;
+use format::buffer::write;
 use format::hash_at;
 use format::leaf_at;
-use format::page::write;
 use format::read_varint;
 ghost use mathlib.Core.Path.{_≡_};
 ghost use mathlib.Core.List.{_++_};
 ghost use Rattle.listing.specs.Text.{decimal, line};
 ghost use Rattle.listing.specs.Listing.{kindText, leafLine, levelLine, refusedLine};
-ghost use Rattle.format.specs.Page.{page, writeOn};
+ghost use Rattle.format.specs.Buffer.{buffer, writeOn};
 ghost use Rattle.listing.specs.Walk.{walk, walkLeaves, walkLevel, walkLevels};
 
 // Where the next byte goes, and where reading goes on.
@@ -27,7 +27,7 @@ pub struct Step {
 
 // A word and a number.
 pub fn number_line(out: &mut [u8], at: usize, word: &[u8], n: u64) -> usize
-    ensures { λ r. ⌜ page (now (out .exit)) r ≡ writeOn (page (now (out .entry)) at) (line (now (word .entry) ++ decimal n)) ⌝ }
+    ensures { λ r. ⌜ buffer (now (out .exit)) r ≡ writeOn (buffer (now (out .entry)) at) (line (now (word .entry) ++ decimal n)) ⌝ }
 {
     let mut next = write(out, at, word);
     next = write_decimal(out, next, n);
@@ -36,7 +36,7 @@ pub fn number_line(out: &mut [u8], at: usize, word: &[u8], n: u64) -> usize
 
 // Two words, each with a number after it.
 fn pair_line(out: &mut [u8], at: usize, first: &[u8], a: u64, second: &[u8], b: u64) -> usize
-    ensures { λ r. ⌜ page (now (out .exit)) r ≡ writeOn (page (now (out .entry)) at) (line (now (first .entry) ++ decimal a ++ now (second .entry) ++ decimal b)) ⌝ }
+    ensures { λ r. ⌜ buffer (now (out .exit)) r ≡ writeOn (buffer (now (out .entry)) at) (line (now (first .entry) ++ decimal a ++ now (second .entry) ++ decimal b)) ⌝ }
 {
     let mut next = write(out, at, first);
     next = write_decimal(out, next, a);
@@ -46,7 +46,7 @@ fn pair_line(out: &mut [u8], at: usize, first: &[u8], a: u64, second: &[u8], b: 
 }
 
 pub fn write_refusal(out: &mut [u8], refusal: Refusal) -> usize
-    ensures { λ r. ⌜ page (now (out .exit)) r ≡ writeOn (page (now (out .entry)) 0) (refusedLine (refusal .number) (refusal .place)) ⌝ }
+    ensures { λ r. ⌜ buffer (now (out .exit)) r ≡ writeOn (buffer (now (out .entry)) 0) (refusedLine (refusal .number) (refusal .place)) ⌝ }
 {
     let number = refusal.number;
     let place = refusal.place;
@@ -54,7 +54,7 @@ pub fn write_refusal(out: &mut [u8], refusal: Refusal) -> usize
 }
 
 fn write_kind(s: &[u8], out: &mut [u8], at: usize, kind: Kind) -> usize
-    ensures { λ r. ⌜ page (now (out .exit)) r ≡ writeOn (page (now (out .entry)) at) (kindText (now (s .entry)) kind) ⌝ }
+    ensures { λ r. ⌜ buffer (now (out .exit)) r ≡ writeOn (buffer (now (out .entry)) at) (kindText (now (s .entry)) kind) ⌝ }
 {
     match kind {
         Kind::Plain(place) => {
@@ -70,7 +70,7 @@ fn write_kind(s: &[u8], out: &mut [u8], at: usize, kind: Kind) -> usize
 }
 
 fn write_leaf(s: &[u8], out: &mut [u8], at: usize, leaf: Leaf) -> usize
-    ensures { λ r. ⌜ page (now (out .exit)) r ≡ writeOn (page (now (out .entry)) at) (leafLine (now (s .entry)) leaf) ⌝ }
+    ensures { λ r. ⌜ buffer (now (out .exit)) r ≡ writeOn (buffer (now (out .entry)) at) (leafLine (now (s .entry)) leaf) ⌝ }
 {
     let offset = leaf.offset;
     let kind = leaf.kind;
@@ -81,7 +81,7 @@ fn write_leaf(s: &[u8], out: &mut [u8], at: usize, leaf: Leaf) -> usize
 }
 
 fn write_leaves(s: &[u8], out: &mut [u8], at: usize, c: Cursor, count: u64) -> Step
-    ensures { λ r. ⌜ walk (page (now (out .exit)) (r .at)) (r .next .at) ≡ walkLeaves (now (s .entry)) count (c .at) (page (now (out .entry)) at) ⌝ }
+    ensures { λ r. ⌜ walk (buffer (now (out .exit)) (r .at)) (r .next .at) ≡ walkLeaves (now (s .entry)) count (c .at) (buffer (now (out .entry)) at) ⌝ }
 {
     let mut at = at;
     let mut next = c;
@@ -99,7 +99,7 @@ fn write_leaves(s: &[u8], out: &mut [u8], at: usize, c: Cursor, count: u64) -> S
 }
 
 fn write_level(s: &[u8], out: &mut [u8], at: usize, c: Cursor, level: u64) -> Step
-    ensures { λ r. ⌜ walk (page (now (out .exit)) (r .at)) (r .next .at) ≡ walkLevel (now (s .entry)) level (c .at) (page (now (out .entry)) at) ⌝ }
+    ensures { λ r. ⌜ walk (buffer (now (out .exit)) (r .at)) (r .next .at) ≡ walkLevel (now (s .entry)) level (c .at) (buffer (now (out .entry)) at) ⌝ }
 {
     let field = read_varint(s, c);
     let Number::Value(count, next) = field else {
@@ -110,7 +110,7 @@ fn write_level(s: &[u8], out: &mut [u8], at: usize, c: Cursor, level: u64) -> St
 }
 
 pub fn write_levels(s: &[u8], out: &mut [u8], at: usize, c: Cursor, height: u64) -> usize
-    ensures { λ r. ⌜ page (now (out .exit)) r ≡ walkLevels (now (s .entry)) height 0 (c .at) (page (now (out .entry)) at) .page ⌝ }
+    ensures { λ r. ⌜ buffer (now (out .exit)) r ≡ walkLevels (now (s .entry)) height 0 (c .at) (buffer (now (out .entry)) at) .buffer ⌝ }
 {
     let mut at = at;
     let mut next = c;

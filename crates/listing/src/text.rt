@@ -1,10 +1,10 @@
 // Text written into lent memory: bytes, numbers in decimal, hashes in hex. Each function takes the place of the next byte and
 // answers the place after its text; bytes that find no room are dropped.
-use format::page::put;
+use format::buffer::put;
 ghost use mathlib.Core.Path.{_≡_};
 ghost use Prim.Native.Nat.{_<_};
 ghost use Rattle.listing.specs.Text.{digit as digitOf, decimal, printed};
-ghost use Rattle.format.specs.Page.{page, writeOn};
+ghost use Rattle.format.specs.Buffer.{buffer, writeOn};
 
 fn digit(d: u64) -> u8
     requires { ⌜ d < 16 ⌝ }
@@ -14,7 +14,7 @@ fn digit(d: u64) -> u8
 }
 
 pub fn write_decimal(out: &mut [u8], at: usize, n: u64) -> usize
-    ensures { λ r. ⌜ page (now (out .exit)) r ≡ writeOn (page (now (out .entry)) at) (decimal n) ⌝ }
+    ensures { λ r. ⌜ buffer (now (out .exit)) r ≡ writeOn (buffer (now (out .entry)) at) (decimal n) ⌝ }
 {
     if n < 10 {
         return put(out, at, digit(n));
@@ -25,7 +25,7 @@ pub fn write_decimal(out: &mut [u8], at: usize, n: u64) -> usize
 
 // In printed order, the last of the bytes stored comes first.
 pub fn write_hash(out: &mut [u8], at: usize, hash: [u8; 32]) -> usize
-    ensures { λ r. ⌜ page (now (out .exit)) r ≡ writeOn (page (now (out .entry)) at) (printed hash) ⌝ }
+    ensures { λ r. ⌜ buffer (now (out .exit)) r ≡ writeOn (buffer (now (out .entry)) at) (printed hash) ⌝ }
 {
     let mut next = at;
     let mut i: usize = 32;

@@ -5,16 +5,13 @@ use mathlib.Core.Bool.{Bool, true, false}
 use mathlib.Core.List.{List, [], _∷_, _++_}
 use native.Mathlib.Nat.{sub-zero, mul-zero}
 use native.Mathlib.Omega.{arith}
-use native.Mathlib.Numerals.{add-one}
 use lib.ListN.{length, take, drop, getD, length-append, length-take, length-drop}
 use lib.Seq.{ext-getD, getD-take, getD-drop, drop-drop, take-append-le, drop-append-le, take-all, length-take-le}
+use Rattle.format.specs.Basics.{one-less}
 use Rattle.format.specs.Bytes.{same, eq-same, ne-same}
 use Rattle.spv.specs.Bundle.{hashes, hashesOf, among}
 
 -- a loop that has passed i of n has one fewer to pass after the next
-pub one-less : (n i : ℕ) → i < n → n - i ≡ suc (n - (i + 1))
-one-less n i low = omega (arith, add-one (n - (i + 1)))
-
 -- 32 bytes from a place, byte by byte
 module _ (l x : List ℕ) (at : ℕ) where
   part-at : (i : ℕ) → i < 32 → getD (take 32 (drop at l)) i 0 ≡ getD l (at + i) 0

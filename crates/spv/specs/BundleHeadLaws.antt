@@ -1,19 +1,18 @@
 -- Laws of the bundle rule over heads.
 use Prim.Native.Nat.{ℕ, _+_, _-_, _<_, _≤_}
-use mathlib.Core.Path.{_≡_, refl, sym, ap, _∙_}
-use mathlib.Core.Bool.{Bool, true, false, _&&_}
+use mathlib.Core.Path.{_≡_, sym, ap, _∙_}
+use mathlib.Core.Bool.{true, false}
 use mathlib.Core.List.{List}
 use native.Mathlib.Omega.{arith}
-use lib.Dec.{ltb, leb}
-use lib.ListN.{length, getD, take, drop, replicate}
-use borrow.Author.Tests.{lt-ltb, le-ltb, ltb-true, ltb-false}
+use lib.ListN.{getD}
+use borrow.Author.Tests.{lt-ltb, le-ltb}
 use Rattle.format.specs.declared.tx.Input.{Input}
 use Rattle.format.specs.declared.refusal.Refusal.{Refusal}
 use Rattle.format.specs.declared.bump.BumpHead.{BumpHead}
 use Rattle.format.specs.declared.path.Path.{Path}
 use Rattle.format.specs.declared.beef.Anchor.the-variants.{Unanchored, Bump as InBump}
 use Rattle.format.specs.declared.beef.EntryHead.{EntryHead}
-use Rattle.format.specs.Parse.{got, bad, pick}
+use Rattle.format.specs.Parse.{got, bad}
 use Rattle.format.specs.Search.{hashAt}
 use Rattle.format.specs.Path.{bumpPathOf}
 use Rattle.format.specs.Transaction.{inputField}
@@ -26,7 +25,7 @@ use Rattle.spv.specs.Compare.{denied, proved, judge, Verdict as Proving}
 use Rattle.spv.specs.Readings.{pathReading}
 use Rattle.spv.specs.Shapes.{provedOf, acceptedOf, refusalOf}
 use Rattle.spv.specs.Bundle.{hashesOf, among, refuses, passes, trusted}
-use Rattle.spv.specs.BundleHashes.{one-less}
+use Rattle.format.specs.Basics.{one-less}
 use Rattle.spv.specs.BundleHeads.{restsFrom, headProving, headAnchoring, headStanding, headId, headStands, standingOf}
 
 -- a search for parents that has passed i of n inputs

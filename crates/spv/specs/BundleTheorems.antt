@@ -9,6 +9,7 @@ use native.Mathlib.Decide.{decLt}
 use native.Mathlib.Omega.{arith}
 use lib.ListN.{length, getD, take, length-take, length-map}
 use lib.Seq.{getD-take}
+use Rattle.format.specs.Basics.{or-true}
 use Rattle.format.specs.declared.tx.Input.{Input}
 use Rattle.format.specs.declared.beef.Anchor.{Anchor}
 use Rattle.format.specs.declared.beef.Anchor.the-variants.{Unanchored, Bump as InBump}
@@ -43,10 +44,6 @@ unfolding among
 told-among x [] k h e = absurd (omega arith)
 told-among x (y ∷ l) zero h e = rw (eq-same y x e)
 told-among x (y ∷ l) (suc k) h e = rw (told-among x l k (omega arith) e) (or-true (same y x))
-  where
-    or-true : (t : Bool) → (t || true) ≡ true
-    or-true true = refl
-    or-true false = refl
 
 pub map-at : {A B : Type 0} (f : A → B) (l : List A) (j : ℕ) (d : A) (z : B) → j < length l → getD (map f l) j z ≡ f (getD l j d)
 map-at f [] j d z h = absurd (omega arith)

@@ -17,7 +17,8 @@ use Rattle.spv.specs.declared.bundle.Verdict.the-variants.{Accepted, Ref
 use Rattle.spv.specs.Table.{flatHead, flat}
 use Rattle.spv.specs.TableLaws.{flat-more}
 use Rattle.spv.specs.Bundle.{hashesOf, refuses, passes, Judgement, refusedAs, accepted, judgeFrom}
-use Rattle.spv.specs.BundleHashes.{one-less, hashes-more, hashes-empty, hashes-length}
+use Rattle.format.specs.Basics.{one-less}
+use Rattle.spv.specs.BundleHashes.{hashes-more, hashes-empty, hashes-length}
 use Rattle.spv.specs.BundleLaws.{followed, followed-ahead, followed-none, from-refuses, from-passes, from-none}
 use Rattle.spv.specs.BundleHeads.{numbersOf, headsFrom, headId, headStands, headRow}
 use Rattle.spv.specs.BundleAnswer.{judgementOf}

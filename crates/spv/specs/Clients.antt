@@ -4,7 +4,7 @@ use mathlib.Core.Path.{_≡_, refl, ap, _∙_}
 use mathlib.Core.List.{List, [], _∷_}
 use lib.ListN.{getD}
 use native.Mathlib.Omega.{arith}
-use native.Mathlib.Numerals.{add-one}
+use Rattle.format.specs.Basics.{one-less}
 use Rattle.format.specs.declared.level.Kind.{Kind}
 use Rattle.format.specs.declared.level.Kind.the-variants.{Plain, Copy, Client}
 use Rattle.format.specs.declared.level.Leaf.{Leaf}
@@ -153,20 +153,17 @@ clients-refused s number place e = rw e
 
 module _ (σ : Siblings) (h : ℕ) (s : List ℕ) (n m at : ℕ) (w : Target) where
   module _ (b : m < n) where
-    one-more : n - m ≡ suc (n - (m + 1))
-    one-more = omega (arith, add-one (n - (m + 1)))
-
     pub turn-leaf : (leaf : Leaf) (next : ℕ) → looseLeaf Layout.Bump s at ≡ got leaf next
         → clientsIn σ h s (n - m) at w ≡ follow (afterLeaf σ h s w leaf) (λ w′. clientsIn σ h s (n - (m + 1)) next w′)
     unfolding clientsIn
     turn-leaf leaf next e =
-        ap (λ (r : ℕ). clientsIn σ h s r at w) one-more
+        ap (λ (r : ℕ). clientsIn σ h s r at w) (one-less n m b)
         ∙ otherwise-got (rejected NOT-LISTED 0 0 0) (λ leaf next. follow (afterLeaf σ h s w leaf) (λ w′. clientsIn σ h s (n - (m + 1)) next w′)) e
 
     pub turn-short : (number place : ℕ) → looseLeaf Layout.Bump s at ≡ bad number place → clientsIn σ h s (n - m) at w ≡ rejected NOT-LISTED 0 0 0
     unfolding clientsIn
     turn-short number place e =
-        ap (λ (r : ℕ). clientsIn σ h s r at w) one-more
+        ap (λ (r : ℕ). clientsIn σ h s r at w) (one-less n m b)
         ∙ otherwise-bad (rejected NOT-LISTED 0 0 0) (λ leaf next. follow (afterLeaf σ h s w leaf) (λ w′. clientsIn σ h s (n - (m + 1)) next w′)) e
 
   pub turn-last : n ≤ m → clientsIn σ h s (n - m) at w ≡ closing w

@@ -9,6 +9,7 @@ use native.Mathlib.Omega.{arith}
 use native.Mathlib.Nat.{add-zero, zero-lt-suc}
 use native.Mathlib.Numerals.{add-one}
 use Rattle.hash.specs.Sha256.{sha256d}
+use Rattle.format.specs.Basics.{one-less}
 use Rattle.format.specs.Bytes.{same}
 use Rattle.format.specs.Refusals.{TWIN}
 use Rattle.spv.specs.Climb.{Sibling, Siblings, odd, beside, besides, Step, joined, step, Ascent, ascendBy, ascend, joins, fails, top, up, stop}
@@ -55,14 +56,11 @@ ascended = ascendedBy sha256d
 
 -- one turn of a loop that climbs: m layers are done of h, and the layer is k
 module _ (σ : Siblings) (k m h j : ℕ) (c : List ℕ) (b : m < h) where
-  one-more : h - m ≡ suc (h - (m + 1))
-  one-more = omega (arith, add-one (h - (m + 1)))
-
   pub turn-joins : (l r : List ℕ) → step (σ k (beside j)) (odd j) c ≡ joins l r → ascend σ k (h - m) j c ≡ up (l ++ r) (ascend σ (k + 1) (h - (m + 1)) (j / 2) (sha256d (l ++ r)))
-  turn-joins l r e = rw (one-more, add-one k) (ascend-joins σ k (h - (m + 1)) j c l r e)
+  turn-joins l r e = rw (one-less h m b, add-one k) (ascend-joins σ k (h - (m + 1)) j c l r e)
 
   pub turn-fails : (number : ℕ) → step (σ k (beside j)) (odd j) c ≡ fails number → ascend σ k (h - m) j c ≡ stop number k (beside j)
-  turn-fails number e = rw one-more (ascend-fails σ k (h - (m + 1)) j c number e)
+  turn-fails number e = rw (one-less h m b) (ascend-fails σ k (h - (m + 1)) j c number e)
 
 -- at the end nothing is left
 pub turn-none : (σ : Siblings) (k m h j : ℕ) (c : List ℕ) → h ≤ m → ascend σ k (h - m) j c ≡ top

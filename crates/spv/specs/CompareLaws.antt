@@ -1,12 +1,13 @@
 -- Laws of judging a proof and of comparing two.
 use Prim.Native.Nat.{ℕ}
 use mathlib.Core.Path.{_≡_, refl, ap}
-use mathlib.Core.Bool.{Bool, true, false, _&&_}
+use mathlib.Core.Bool.{Bool, true, false}
 use mathlib.Core.List.{List, [], _∷_}
 use lib.Dec.{eqb}
 use native.Mathlib.Omega.{arith}
 use borrow.Author.Tests.{eqb-true}
 use Rattle.hash.specs.Sha256.{sha256d}
+use Rattle.format.specs.Basics.{and-true}
 use Rattle.format.specs.Bytes.{same, same-eq}
 use Rattle.format.specs.Parse.{pick}
 use Rattle.format.specs.Refusals.{ROOTS-DIFFER, UNLIKE, SAME-ID}
@@ -74,10 +75,6 @@ judge-proved = judge-proved-by sha256d
 
 -- ---- comparing
 
-and-true : (a b : Bool) → (a && b) ≡ true → (a ≡ true) × (b ≡ true)
-and-true true b e = (refl, e)
-and-true false b e = let z : _≡_ {A = ℕ} 0 1 = cc in absurd (omega arith)
-
 pub alike-told : (x y : Proof) → alike x y ≡ true → (x .root ≡ y .root) × (x .position ≡ y .position) × (x .layers ≡ y .layers)
 unfolding alike
 alike-told x y e =
@@ -97,10 +94,6 @@ module _ (x y : Proof) where
   pub against-meet : alike x y ≡ true → same (x .id) (y .id) ≡ false → against x y ≡ answerOf (meet (x .made) (y .made))
   unfolding againstBy
   against-meet e f = rw (e, f)
-
-pub compare-first : (v w : Verdict) (number place k q : ℕ) → v ≡ denied number place k q → compare v w ≡ told number place k q
-unfolding compareBy
-compare-first v w number place k q e = rw e
 
 pub compare-second : (v w : Verdict) (x : Proof) (number place k q : ℕ) → v ≡ proved x → w ≡ denied number place k q → compare v w ≡ told number place k q
 unfolding compareBy

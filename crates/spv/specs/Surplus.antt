@@ -9,6 +9,7 @@ use lib.Dec.{eqb, ltb}
 use native.Mathlib.Omega.{arith}
 use native.Mathlib.Nat.{min-eq-left, min-eq-right}
 use borrow.Author.Tests.{eq-eqb, ne-eqb, ltb-true, ltb-false}
+use Rattle.format.specs.Basics.{and-false, or-true}
 use Rattle.format.specs.declared.level.Leaf.{Leaf}
 use Rattle.format.specs.declared.path.Start.{Start}
 use Rattle.format.specs.declared.path.Start.the-variants.{At, Nowhere}
@@ -33,14 +34,6 @@ carriedAt s id o (leaf ∷ l) = (eqb (leaf .offset) o && carries s id (leaf .kin
 unfoldable pub Least : List ℕ → List ℕ → List Leaf → Start → Type 0
 Least s id l (At i) = (carriedAt s id i l ≡ true) × ((o : ℕ) → o < i → carriedAt s id o l ≡ false)
 Least s id l Nowhere = (o : ℕ) → carriedAt s id o l ≡ false
-
-and-false : (a : Bool) → (a && false) ≡ false
-and-false true = refl
-and-false false = refl
-
-or-true : (a : Bool) → (a || true) ≡ true
-or-true true = refl
-or-true false = refl
 
 -- one leaf more
 module _ (s id : List ℕ) (leaf : Leaf) (l : List Leaf) where

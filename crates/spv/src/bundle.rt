@@ -74,20 +74,6 @@ fn is_among(x: [u8; 32], list: &[u8]) -> bool
     false
 }
 
-// The id of the i-th transaction, among ids end to end.
-fn put_id(ids: &mut [u8], i: usize, id: [u8; 32])
-    requires { ⌜ i < 256 ⌝ }
-    requires { ⌜ 32 * i + 32 ≤ length (now ids) ⌝ }
-    ensures { λ _. ⌜ now (ids .exit) ≡ paste (now (ids .entry)) (32 * i) id 32 ⌝ }
-{
-    let at = 32 * i;
-    let mut k = 0;
-    while k < 32 {
-        ids[at + k] = id[k];
-        k += 1;
-    }
-}
-
 // The numbers of the i-th record, five for each.
 fn put_numbers(numbers: &mut [u64], i: usize, row: [u64; 5])
     requires { ⌜ i < 256 ⌝ }
@@ -235,7 +221,7 @@ fn judge_entries(
                 position,
             } => {
                 let row = numbers_of(tx, anchored, bump, position);
-                put_id(ids, i, id);
+                format::set_hash(ids, i, id);
                 put_numbers(numbers, i, row);
                 next = after;
                 i += 1;
@@ -246,7 +232,8 @@ fn judge_entries(
 }
 
 // The bundle rule, for the bytes of a BEEF, a list of trusted roots end to end, and a table of so many rows. What the records say is written in a flat
-// form with room for 256: their ids end to end, and five numbers for each.
+// form with room for 256: their ids end to end, and five numbers for each. Both callers lend that room; the tests of it stand for a `requires`, which
+// a walk by hand would have to meet.
 pub(crate) fn judge_flat(
     s: &[u8],
     roots: &[u8],

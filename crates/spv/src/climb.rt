@@ -7,7 +7,7 @@ use format::refusal::MISSING;
 use format::refusal::TWIN;
 ghost use mathlib.Core.Path.{_≡_};
 ghost use Prim.Native.Nat.{_<_};
-ghost use Rattle.spv.specs.Climb.{joined, step, odd, beside, ascend, outcome, strings, absent, value, fails};
+ghost use Rattle.spv.specs.Climb.{joined, step, odd, beside, ascend, outcome, absent, value, fails};
 ghost use Rattle.format.specs.Search.{hashAt};
 ghost use Rattle.spv.specs.Siblings.{written, pathSiblings};
 ghost use Rattle.spv.specs.Low.{Low};

@@ -2,14 +2,14 @@ use native.Mathlib.Omega.{arith}
 use mathlib.Core.Path.{_≡_, _∙_, sym, refl}
 use Prim.Native.Nat.{_≤_, _-_}
 use lib.ListN.{length}
-use Rattle.format.specs.Page.{page, writeOn}
+use Rattle.format.specs.Buffer.{buffer, writeOn}
 use Rattle.encoder.specs.Leaves.{leavesText, formAt, leafText, textFrom}
 use Rattle.encoder.specs.LeavesLaws.{text-start, text-on, text-end, asked-text}
 use Rattle.encoder.proofs.level.write_leaves.Statement.{statement}
 use Rattle.encoder.proofs.level.write_leaves.Tie as tie
 
 abbrev Inv-loop : tie.InvT-loop
-Inv-loop ids heap marks out₀ at base width count next₀ o₀ out next o = (writeOn (page out₀ at) (textFrom (λ o. leafText ids heap base width o (formAt marks base width count o)) 0 width) ≡ writeOn (page out next) (textFrom (λ o. leafText ids heap base width o (formAt marks base width count o)) o (width - o))) × (o ≤ width) × (length out ≡ length out₀)
+Inv-loop ids heap marks out₀ at base width count next₀ o₀ out next o = (writeOn (buffer out₀ at) (textFrom (λ o. leafText ids heap base width o (formAt marks base width count o)) 0 width) ≡ writeOn (buffer out next) (textFrom (λ o. leafText ids heap base width o (formAt marks base width count o)) o (width - o))) × (o ≤ width) × (length out ≡ length out₀)
 
 abbrev μ-loop : tie.MeasureT-loop
 μ-loop ids heap marks out₀ at base width count next₀ o₀ out next o = width - o

@@ -5,7 +5,7 @@ use Prim.Native.Nat.{ℕ, _-_, _≤_}
 use mathlib.Core.List.{List}
 use lib.ListN.{length}
 use Rattle.spv.specs.Bundle.{hashesOf}
-use Rattle.format.specs.Page.{page, writeOn}
+use Rattle.format.specs.Buffer.{buffer, writeOn}
 use Rattle.encoder.specs.Tree.{size as layerSize}
 use Rattle.encoder.specs.Heap.{Level}
 use Rattle.encoder.specs.HeapLaws.{level-start, level-small, level-on}
@@ -15,7 +15,7 @@ use Rattle.encoder.proofs.level.write_levels.Statement.{statement}
 use Rattle.encoder.proofs.level.write_levels.Tie as tie
 
 abbrev Inv-loop : tie.InvT-loop
-Inv-loop ids heap marks out₀ at height n top next₀ width₀ count₀ k₀ out next width count k = Level height k width × (count ≤ 1024) × (length out ≡ length out₀) × ((chosen : List ℕ) → Ready ids heap marks chosen height n → (count ≡ layerSize (hashesOf ids) k) × (writeOn (page out₀ at) (rest ids chosen height 0) ≡ writeOn (page out next) (rest ids chosen height k)))
+Inv-loop ids heap marks out₀ at height n top next₀ width₀ count₀ k₀ out next width count k = Level height k width × (count ≤ 1024) × (length out ≡ length out₀) × ((chosen : List ℕ) → Ready ids heap marks chosen height n → (count ≡ layerSize (hashesOf ids) k) × (writeOn (buffer out₀ at) (rest ids chosen height 0) ≡ writeOn (buffer out next) (rest ids chosen height k)))
 
 abbrev μ-loop : tie.MeasureT-loop
 μ-loop ids heap marks out₀ at height n top next₀ width₀ count₀ k₀ out next width count k = height - k

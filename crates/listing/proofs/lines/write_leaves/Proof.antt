@@ -5,14 +5,14 @@ use borrow.Author.Needs.{needs}
 use lib.ListN.{length}
 use Rattle.format.specs.ParseLaws.{answered}
 use Rattle.format.specs.LevelAnswer.{leafOf}
-use Rattle.format.specs.Page.{page}
+use Rattle.format.specs.Buffer.{buffer}
 use Rattle.listing.specs.Walk.{walkLeaves, leaves-start, leaves-more, leaves-refused, leaves-done}
 use Rattle.listing.proofs.lines.write_leaves.Statement.{statement}
 use Rattle.listing.proofs.lines.write_leaves.Tie as tie
 
 abbrev Inv-loop : tie.InvT-loop
 Inv-loop s out₀ at count at₀ next₀ i₀ out at' next i =
-    (walkLeaves s count (next₀ .at) (page out₀ at₀) ≡ walkLeaves s (count - i) (next .at) (page out at')) × (i ≤ count) × (length out ≡ length out₀)
+    (walkLeaves s count (next₀ .at) (buffer out₀ at₀) ≡ walkLeaves s (count - i) (next .at) (buffer out at')) × (i ≤ count) × (length out ≡ length out₀)
 
 abbrev μ-loop : tie.MeasureT-loop
 μ-loop s out₀ at count at₀ next₀ i₀ out at' next i = count - i

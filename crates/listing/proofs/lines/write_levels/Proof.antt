@@ -3,14 +3,14 @@ use Prim.Native.Nat.{_-_, _≤_}
 use native.Mathlib.Omega.{arith}
 use borrow.Author.Needs.{needs}
 use lib.ListN.{length}
-use Rattle.format.specs.Page.{page}
+use Rattle.format.specs.Buffer.{buffer}
 use Rattle.listing.specs.Walk.{Walk, walkLevels, levels-start, levels-more, levels-done}
 use Rattle.listing.proofs.lines.write_levels.Statement.{statement}
 use Rattle.listing.proofs.lines.write_levels.Tie as tie
 
 abbrev Inv-loop : tie.InvT-loop
 Inv-loop s out₀ at height at₀ next₀ level₀ out at' next level =
-    (walkLevels s height 0 (next₀ .at) (page out₀ at₀) ≡ walkLevels s (height - level) level (next .at) (page out at')) × (level ≤ height) × (length out ≡ length out₀)
+    (walkLevels s height 0 (next₀ .at) (buffer out₀ at₀) ≡ walkLevels s (height - level) level (next .at) (buffer out at')) × (level ≤ height) × (length out ≡ length out₀)
 
 abbrev μ-loop : tie.MeasureT-loop
 μ-loop s out₀ at height at₀ next₀ level₀ out at' next level = height - level
@@ -38,7 +38,7 @@ same-length : tie.Need-same-length Inv-loop μ-loop
 same-length c = c .before .loop .inv .2
 
 returns : tie.Need-returns Inv-loop μ-loop
-returns c = ap (λ (w : Walk). w .page) (sym (c .before .loop .inv .0 ∙ levels-done _ _ _ _ _ (c .loop-test .left)))
+returns c = ap (λ (w : Walk). w .buffer) (sym (c .before .loop .inv .0 ∙ levels-done _ _ _ _ _ (c .loop-test .left)))
 
 pub write-levels-spec : {M : Type 1} → statement M
 write-levels-spec =

@@ -5,13 +5,13 @@ use borrow.Author.Needs.{needs}
 use lib.ListN.{length, take}
 use Rattle.listing.specs.Text.{printed}
 use Rattle.listing.specs.TextLaws.{printed-start, printed-on, printed-end}
-use Rattle.format.specs.Page.{page, writeOn}
+use Rattle.format.specs.Buffer.{buffer, writeOn}
 use Rattle.listing.proofs.text.write_hash.Statement.{statement}
 use Rattle.listing.proofs.text.write_hash.Tie as tie
 
 abbrev Inv-loop : tie.InvT-loop
 Inv-loop out₀ at hash next₀ i₀ out next i =
-    (writeOn (page out₀ at) (printed hash) ≡ writeOn (page out next) (printed (take i hash))) × (i ≤ 32) × (length out ≡ length out₀)
+    (writeOn (buffer out₀ at) (printed hash) ≡ writeOn (buffer out next) (printed (take i hash))) × (i ≤ 32) × (length out ≡ length out₀)
 
 abbrev μ-loop : tie.MeasureT-loop
 μ-loop out₀ at hash next₀ i₀ out next i = i

@@ -1,9 +1,10 @@
-use Prim.Native.Nat.{_-_, _*_}
+use Prim.Native.Nat.{_-_, _*_, _/_, _<_}
 use mathlib.Core.Path.{_≡_, refl, sym, _∙_}
 use native.Mathlib.Omega.{arith}
 use borrow.Author.Needs.{needs}
 use lib.ListN.{length}
 use lib.Seq.{length-take-le}
+use Rattle.format.specs.Bytes.{set-inside}
 use Rattle.format.specs.ParseLaws.{answered}
 use Rattle.format.specs.BeefAnswer.{entryAnswer}
 use Rattle.spv.specs.BundleHeadLaws.{head-told}
@@ -80,15 +81,8 @@ enum-known-standing-2 c = search needs
 numbers-of-requires : tie.Need-numbers-of-requires Inv-loop μ-loop
 numbers-of-requires c κs = search needs
 
-put-id-requires : tie.Need-put-id-requires Inv-loop μ-loop
-put-id-requires c κs =
-    let l = c .before .before .before .before .before .before .before .before .before .before .before .before .before .before .loop in
-    let v = l .inv .2 in
-    let wide = v .wide in
-    let long = v .long in
-    let low = c .before .before .before .before .before .before .before .before .before .before .before .before .before .loop-test .taken in
-    let few = c .before .before .before .before .before .before .before .before .before .before .before .before .before .before .before .before .before .before .before .pre .0 in
-    (omega arith, omega arith)
+set-hash-requires : tie.Need-set-hash-requires Inv-loop μ-loop
+set-hash-requires c κs = search needs
 
 put-numbers-requires : tie.Need-put-numbers-requires Inv-loop μ-loop
 put-numbers-requires c κs =
@@ -122,14 +116,18 @@ loop-less c =
 
 loop-again : tie.Need-loop-again Inv-loop μ-loop
 loop-again c =
-    let l = c .before .before .before .before .before .before .before .before .before .before .before .before .before .before .before .before .before .before .before .before .before .loop in (
-      c .before .before .before .before .before .before .put-id .kept .0 ∙ l .inv .0,
+    let l = c .before .before .before .before .before .before .before .before .before .before .before .before .before .before .before .before .before .before .before .before .before .loop in
+    let wide = l .inv .2 .wide in
+    let low = c .before .before .before .before .before .before .before .before .before .before .before .before .before .before .before .before .before .before .before .before .loop-test .taken in
+    let few = c .before .before .before .before .before .before .before .before .before .before .before .before .before .before .before .before .before .before .before .before .before .before .before .before .before .before .pre .0 in
+    let room : l .i < length (l .ids) / 32 = omega arith in (
+      c .before .before .before .before .before .before .set-hash .kept .0 ∙ l .inv .0,
       c .before .before .put-numbers .kept .0 ∙ l .inv .1,
       judging-passes _ _ _ _ _ _ (l .inv .2) (c .before .before .before .before .before .before .before .before .before .before .before .before .before .before .before .before .before .before .before .before .before .before .before .before .before .before .pre .0) (c .before .before .before .before .before .before .before .before .before .before .before .before .before .before .before .before .before .before .before .before .loop-test .taken) (answered entryAnswer (c .before .before .before .before .before .before .before .before .before .before .before .before .before .before .before .before .before .before .before .read-entry .ensures) (c .before .before .before .before .before .before .before .before .before .before .before .before .before .before .before .before .before .field .given .1))
           (head-told _ _ _ _ _ (c .before .before .before .before .before .before .before .before .before .before .before .before .before .before .tx-id .ensures) (c .before .before .before .before .before .before .before .before .before .before .before .before .judge-entry .ensures) (c .before .before .before .before .before .before .before .before .before .before .standing2 .given .1))
           (c .before .before .before .before .before .before .before .before .before .before .before .before .before .before .tx-id .ensures)
           (c .before .before .before .before .before .before .before .before .numbers-of .ensures)
-          (c .before .before .before .before .before .before .put-id .ensures)
+          (c .before .before .before .before .before .before .set-hash .ensures ∙ set-inside (l .ids) (l .i) _ room)
           (c .before .before .put-numbers .ensures),
     )
 
@@ -166,7 +164,7 @@ judge-entries-spec =
     returns-2
     enum-known-standing-2
     numbers-of-requires
-    put-id-requires
+    set-hash-requires
     put-numbers-requires
     add-i
     loop-less

@@ -3,13 +3,13 @@ use Prim.Native.Nat.{_≤_, _-_}
 use native.Mathlib.Omega.{arith}
 use borrow.Author.Needs.{needs}
 use lib.ListN.{length}
-use Rattle.format.specs.Page.{page, writeOn, little-start, little-on, little-end}
+use Rattle.format.specs.Buffer.{buffer, writeOn, little-start, little-on, little-end}
 use Rattle.format.specs.Digits.{little}
-use Rattle.format.proofs.page.write_little.Statement.{statement}
-use Rattle.format.proofs.page.write_little.Tie as tie
+use Rattle.format.proofs.buffer.write_little.Statement.{statement}
+use Rattle.format.proofs.buffer.write_little.Tie as tie
 
 abbrev Inv-loop : tie.InvT-loop
-Inv-loop out₀ at width n next₀ rest₀ i₀ out next rest i = (writeOn (page out₀ at) (little width n) ≡ writeOn (page out next) (little (width - i) rest)) × (i ≤ width) × (length out ≡ length out₀)
+Inv-loop out₀ at width n next₀ rest₀ i₀ out next rest i = (writeOn (buffer out₀ at) (little width n) ≡ writeOn (buffer out next) (little (width - i) rest)) × (i ≤ width) × (length out ≡ length out₀)
 
 abbrev μ-loop : tie.MeasureT-loop
 μ-loop out₀ at width n next₀ rest₀ i₀ out next rest i = width - i

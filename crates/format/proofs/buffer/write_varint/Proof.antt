@@ -1,9 +1,9 @@
 use native.Mathlib.Omega.{arith}
-use Rattle.format.specs.Page.{wrote-byte, wrote-cons}
+use Rattle.format.specs.Buffer.{wrote-byte, wrote-cons}
 use Rattle.format.specs.VarintSpelling.{varint-one, varint-two, varint-four, varint-eight}
 use borrow.Author.Needs.{needs}
-use Rattle.format.proofs.page.write_varint.Statement.{statement}
-use Rattle.format.proofs.page.write_varint.Tie as tie
+use Rattle.format.proofs.buffer.write_varint.Statement.{statement}
+use Rattle.format.proofs.buffer.write_varint.Tie as tie
 
 cast-put : tie.Need-cast-put
 cast-put c = search needs

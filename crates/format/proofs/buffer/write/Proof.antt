@@ -3,13 +3,13 @@ use Prim.Native.Nat.{_≤_, _-_}
 use native.Mathlib.Omega.{arith}
 use borrow.Author.Needs.{needs}
 use lib.ListN.{length, drop}
-use Rattle.format.specs.Page.{page, writeOn, write-on, write-end}
-use Rattle.format.proofs.page.write.Statement.{statement}
-use Rattle.format.proofs.page.write.Tie as tie
+use Rattle.format.specs.Buffer.{buffer, writeOn, write-on, write-end}
+use Rattle.format.proofs.buffer.write.Statement.{statement}
+use Rattle.format.proofs.buffer.write.Tie as tie
 
 abbrev Inv-loop : tie.InvT-loop
 Inv-loop out₀ at text next₀ i₀ out next i =
-    (writeOn (page out₀ at) text ≡ writeOn (page out next) (drop i text)) × (i ≤ length text) × (length out ≡ length out₀)
+    (writeOn (buffer out₀ at) text ≡ writeOn (buffer out next) (drop i text)) × (i ≤ length text) × (length out ≡ length out₀)
 
 abbrev μ-loop : tie.MeasureT-loop
 μ-loop out₀ at text next₀ i₀ out next i = length text - i

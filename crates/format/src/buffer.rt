@@ -2,11 +2,11 @@
 // that find no room are dropped.
 ghost use mathlib.Core.Path.{_≡_};
 ghost use lib.ListN.{length};
-ghost use Rattle.format.specs.Page.{page, putOn, writeOn};
+ghost use Rattle.format.specs.Buffer.{buffer, putOn, writeOn};
 ghost use Rattle.format.specs.Digits.{little, varintBytes};
 
 pub fn put(out: &mut [u8], at: usize, b: u8) -> usize
-    ensures { λ r. ⌜ page (now (out .exit)) r ≡ putOn (page (now (out .entry)) at) b ⌝ }
+    ensures { λ r. ⌜ buffer (now (out .exit)) r ≡ putOn (buffer (now (out .entry)) at) b ⌝ }
 {
     if at < out.len() {
         out[at] = b;
@@ -16,7 +16,7 @@ pub fn put(out: &mut [u8], at: usize, b: u8) -> usize
 }
 
 pub fn write(out: &mut [u8], at: usize, text: &[u8]) -> usize
-    ensures { λ r. ⌜ page (now (out .exit)) r ≡ writeOn (page (now (out .entry)) at) (now (text .entry)) ⌝ }
+    ensures { λ r. ⌜ buffer (now (out .exit)) r ≡ writeOn (buffer (now (out .entry)) at) (now (text .entry)) ⌝ }
 {
     let mut next = at;
     let mut i = 0;
@@ -29,7 +29,7 @@ pub fn write(out: &mut [u8], at: usize, text: &[u8]) -> usize
 
 // The low bytes of n, as many as `width`, little end first.
 fn write_little(out: &mut [u8], at: usize, width: usize, n: u64) -> usize
-    ensures { λ r. ⌜ page (now (out .exit)) r ≡ writeOn (page (now (out .entry)) at) (little width n) ⌝ }
+    ensures { λ r. ⌜ buffer (now (out .exit)) r ≡ writeOn (buffer (now (out .entry)) at) (little width n) ⌝ }
 {
     let mut next = at;
     let mut rest = n;
@@ -44,7 +44,7 @@ fn write_little(out: &mut [u8], at: usize, width: usize, n: u64) -> usize
 
 // A VarInt in its shortest form.
 pub fn write_varint(out: &mut [u8], at: usize, n: u64) -> usize
-    ensures { λ r. ⌜ page (now (out .exit)) r ≡ writeOn (page (now (out .entry)) at) (varintBytes n) ⌝ }
+    ensures { λ r. ⌜ buffer (now (out .exit)) r ≡ writeOn (buffer (now (out .entry)) at) (varintBytes n) ⌝ }
 {
     if n < 253 {
         return put(out, at, n as u8);

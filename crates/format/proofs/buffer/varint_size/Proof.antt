@@ -1,10 +1,10 @@
-use mathlib.Core.Path.{_≡_, sym, ap}
+use mathlib.Core.Path.{sym, ap}
 use native.Mathlib.Omega.{arith}
 use lib.ListN.{length}
 use Rattle.format.specs.Digits.{little}
 use Rattle.format.specs.VarintSpelling.{varint-one, varint-two, varint-four, varint-eight}
-use Rattle.format.proofs.page.varint_size.Statement.{statement}
-use Rattle.format.proofs.page.varint_size.Tie as tie
+use Rattle.format.proofs.buffer.varint_size.Statement.{statement}
+use Rattle.format.proofs.buffer.varint_size.Tie as tie
 
 returns : tie.Need-returns
 returns c = sym (ap length (varint-one _ (omega arith)))

@@ -1,8 +1,8 @@
 use mathlib.Core.Path.{sym}
-use Rattle.format.specs.Page.{put-stored, put-dropped}
+use Rattle.format.specs.Buffer.{put-stored, put-dropped}
 use borrow.Author.Needs.{needs}
-use Rattle.format.proofs.page.put.Statement.{statement}
-use Rattle.format.proofs.page.put.Tie as tie
+use Rattle.format.proofs.buffer.put.Statement.{statement}
+use Rattle.format.proofs.buffer.put.Tie as tie
 
 slice-write-out : tie.Need-slice-write-out
 slice-write-out c = search needs
