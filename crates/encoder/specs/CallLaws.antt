@@ -19,7 +19,7 @@ use Rattle.encoder.specs.declared.block.Written.{Written}
 use Rattle.encoder.specs.declared.block.Written.the-variants.{Bytes}
 use Rattle.encoder.specs.Tree.{heightFor}
 use Rattle.encoder.specs.TreeLaws.{height-holds, height-least}
-use Rattle.encoder.specs.IdsLaws.{hashes-length}
+use Rattle.spv.specs.BundleHashes.{hashes-length}
 use Rattle.encoder.specs.BlockBump.{levelsFor, blockBump, sized, noneChosen, allBelow, distinct, allReach, Writing, writes, refuses, roomFor, writing, writtenOf, outputAfter}
 
 -- ---- the sizes

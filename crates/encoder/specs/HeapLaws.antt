@@ -20,7 +20,7 @@ use Rattle.format.specs.SearchLaws.{hash-there, hash-none, hash-at-length}
 use Rattle.spv.specs.Bundle.{hashesOf}
 use Rattle.encoder.specs.Tree.{above, layer, size, node, heightFor, treeClimb}
 use Rattle.encoder.specs.TreeLaws.{above-length, above-pair, above-last, height-holds, height-least, size-suc}
-use Rattle.encoder.specs.IdsLaws.{hashes-length, hashes-at}
+use Rattle.spv.specs.BundleHashes.{hashes-length, hashes-at}
 use Rattle.encoder.specs.BlockBump.{reaches, allReach}
 use Rattle.encoder.specs.TreeClimb.{twinAt, free, free-end, free-twin, free-on, free-all}
 use Rattle.encoder.specs.Heap.{nodeIn, rightIn, Stored, Heap, Level, twinIn, Grown}

@@ -3,7 +3,7 @@ use mathlib.Core.Path.{_≡_, refl, sym, ap, _∙_}
 use mathlib.Core.Bool.{Bool, true, false, _&&_, not}
 use mathlib.Core.List.{List, [], _∷_}
 use Prim.Native.Nat.{ℕ, zero, suc, _+_, _-_, _*_, _/_, _≤_, _<_}
-use lib.ListN.{length, getD, take, drop, set, length-set, length-drop, drop-of-length-le}
+use lib.ListN.{length, getD, drop, set, length-set, length-drop, drop-of-length-le}
 use lib.Seq.{length-take-le, drop-drop, drop-cons, getD-take, getD-drop, getD-set-same, getD-set-other}
 use lib.Dec.{ltb, eqb}
 use native.Mathlib.Omega.{arith}
@@ -16,23 +16,10 @@ use Rattle.format.specs.Search.{hashAt}
 use Rattle.format.specs.SearchLaws.{hash-there}
 use Rattle.format.specs.Spelling.{AllBytes, part-bytes}
 use Rattle.spv.specs.Bundle.{hashes, hashesOf}
-use Rattle.spv.specs.BundleHashes.{searching, search-here, search-on, search-end}
+use Rattle.spv.specs.BundleHashes.{hashes-length, hashes-at, searching, search-here, search-on, search-end}
 use Rattle.encoder.specs.TreeLaws.{Hashes}
 use Rattle.encoder.specs.BlockBump.{allBelow, distinct}
 use Rattle.encoder.specs.Ids.{idAt, slotAt}
-
-pub hashes-length : (n : ℕ) (l : List ℕ) → length (hashes n l) ≡ n
-unfolding hashes
-hashes-length zero l = refl
-hashes-length (suc n) l = ap suc (hashes-length n (drop 32 l))
-
-pub hashes-at : (n : ℕ) (l : List ℕ) (j : ℕ) → j < n → getD (hashes n l) j [] ≡ take 32 (drop (32 * j) l)
-unfolding hashes
-hashes-at zero l j b = absurd (omega arith)
-hashes-at (suc n) l zero b = refl
-hashes-at (suc n) l (suc j) b =
-    let e : 32 + 32 * j ≡ 32 * suc j = omega arith in
-    hashes-at n (drop 32 l) j (omega arith) ∙ ap (take 32) (drop-drop (32 * j) 32 l ∙ ap (λ (k : ℕ). drop k l) e)
 
 pub ids-hashes : (l : List ℕ) → AllBytes l → Hashes (hashesOf l)
 unfolding hashesOf Hashes

@@ -23,7 +23,7 @@ use Rattle.encoder.specs.BlockFit.{under-below, below-told}
 use Rattle.encoder.specs.Heap.{Stored, Heap, Level}
 use Rattle.encoder.specs.Marks.{Marked}
 use Rattle.format.specs.Buffer.{Buffer, writeOn, write-then, write-none}
-use Rattle.encoder.specs.IdsLaws.{hashes-length}
+use Rattle.spv.specs.BundleHashes.{hashes-length}
 use Rattle.encoder.specs.TreeLaws.{size-suc}
 use native.Mathlib.Nat.{pow-suc, sub-zero, zero-lt-suc}
 use native.Mathlib.Numerals.{add-one}

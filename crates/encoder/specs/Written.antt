@@ -18,7 +18,8 @@ use Rattle.format.specs.Spelling.{AllBytes}
 use Rattle.format.specs.BumpBytes.{bumpBytes}
 use Rattle.encoder.specs.Tree.{node, height, root, treeSiblings, treeClimb}
 use Rattle.encoder.specs.BlockBump.{blockBump, sized, noneChosen, allBelow, distinct, reaches, allReach, Writing, writes, refuses, roomFor, writing, Meets}
-use Rattle.encoder.specs.IdsLaws.{hashes-length, ids-hashes}
+use Rattle.spv.specs.BundleHashes.{hashes-length}
+use Rattle.encoder.specs.IdsLaws.{ids-hashes}
 use Rattle.encoder.specs.BlockFit.{Sizes, below-told}
 use Rattle.encoder.specs.BlockMeets.{read-back, bump-meets}
 use Rattle.encoder.specs.BlockProved.{chosen-proved}

@@ -1,5 +1,5 @@
 -- The BUMP's reader takes exactly what its writer writes, and says its content.
-use mathlib.Core.Path.{_≡_, refl, sym, ap, _∙_, subst}
+use mathlib.Core.Path.{_≡_, refl, sym, ap, _∙_, subst, subst⁻¹}
 use mathlib.Core.List.{List, [], _∷_, map}
 use mathlib.Core.Bool.{Bool, true, false, _&&_, _||_, not}
 use Prim.Native.Nat.{ℕ, _+_, _-_, _^_, _%_, _≤_, _<_}
@@ -23,7 +23,8 @@ use Rattle.format.specs.Basics.{and-true}
 use Rattle.format.specs.Bump.{Bump, blockField, heightField, bumpField}
 use Rattle.format.specs.Refusals.{BAD-OFFSET, REPEATED, BAD-FLAG, OVER-LIMIT, BAD-HEIGHT, MAX-BLOCK, MAX-HEIGHT, MAX-LEAVES}
 use Rattle.format.specs.Stands.{Stands, stands-join, stands-split, stands-fits, stands-take, stands-here}
-use Rattle.format.specs.Spelling.{AllBytes, Spelling, itself, part-bytes, byte-spelling, tested-spelling, bytes-told, spells, Fits, many-spelling}
+use Rattle.format.specs.Span.{bytes-told}
+use Rattle.format.specs.Spelling.{AllBytes, Spelling, itself, part-bytes, byte-spelling, tested-spelling, spells, Fits, many-spelling}
 use Rattle.format.specs.VarintSpelling.{varint-spelling}
 use Rattle.format.specs.Digits.{varintBytes}
 use Rattle.format.specs.BumpBytes.{Carried, plain, copy, client, Entry, Content, carriedBytes, entryBytes, levelBytes, bumpBytes, carriedOf, entryOf, levelsOf, contentOf, HashFit, CarriedFit, EntryFit, andEntry, LevelFit, nextLevel, ContentFit}
@@ -50,8 +51,8 @@ hash-reads s at q h l a =
 hash-says : (s : List ℕ) (at q p : ℕ) → AllBytes s → bytes 32 s at ≡ got p q → Stands s at (hashAt s p) q × HashFit (hashAt s p)
 hash-says s at q p h e =
     let t = bytes-told 32 s at e in
-    let is : hashAt s p ≡ take 32 (drop at s) = ap (hashAt s) (sym (t .1)) ∙ hash-there s at (t .0) in
-    (rw is (subst (λ (k : ℕ). Stands s at (take 32 (drop at s)) k) (t .2) (stands-here s at 32 (t .0))), (hash-at-length s p, rw is (part-bytes s at 32 h)))
+    let is : hashAt s p ≡ take 32 (drop at s) = ap (hashAt s) (t .place-is) ∙ hash-there s at (t .inside) in
+    (rw is (subst⁻¹ (λ (k : ℕ). Stands s at (take 32 (drop at s)) k) (t .next-is) (stands-here s at 32 (t .inside))), (hash-at-length s p, rw is (part-bytes s at 32 h)))
 
 -- ---- what a leaf carries
 

@@ -1,17 +1,18 @@
 -- Readers and writers of one layout. `Spelling p say spell Fit`: the reader p takes exactly the strings spell b, b that fit, and says b of them.
-use mathlib.Core.Path.{_≡_, refl, sym, ap, ap₂, _∙_, subst}
+use mathlib.Core.Path.{_≡_, refl, sym, ap, ap₂, _∙_, subst, subst⁻¹}
 use mathlib.Core.List.{List, [], _∷_, _++_, map}
 use mathlib.Core.Bool.{Bool, true, false}
 use Prim.Native.Nat.{ℕ, zero, suc, _+_, _-_, _≤_, _<_}
 use lib.ListN.{length, getD, take, drop, length-take, List·getD-eq-default}
-use lib.Dec.{ltb, leb}
+use lib.Dec.{ltb}
 use lib.Seq.{drop-cons, getD-take, getD-drop}
 use native.Mathlib.Omega.{arith}
 use native.Mathlib.Nat.{add-zero}
-use borrow.Author.Tests.{lt-ltb, ltb-true, ltb-false, leb-true}
-use Rattle.format.specs.Parse.{Reader, pick, _passing_else_, many, each, got, bad}
+use borrow.Author.Tests.{lt-ltb, ltb-true, ltb-false}
+use Rattle.format.specs.Parse.{Reader, _passing_else_, many, each, got}
 use Rattle.format.specs.ParseLaws.{passing-told, many-told}
 use Rattle.format.specs.Field.{bytes, byte}
+use Rattle.format.specs.Span.{byte-told}
 use Rattle.format.specs.Stands.{Stands, stands-none, stands-join, stands-split, stands-fits, stands-get, stands-here}
 
 -- every element is a byte
@@ -41,22 +42,6 @@ part-bytes s at n h i = go (ltb i n) refl
 
 -- ---- a byte, a run of bytes
 
-pub byte-told : (s : List ℕ) (at : ℕ) {a q : ℕ} → byte s at ≡ got a q → (at < length s) × (getD s at 0 ≡ a) × (at + 1 ≡ q)
-unfolding byte
-byte-told s at {a} {q} e = go (ltb at (length s)) refl e
-  where
-    go : (t : Bool) → ltb at (length s) ≡ t → pick t (got (getD s at 0) (at + 1)) (bad 2 at) ≡ got a q → (at < length s) × (getD s at 0 ≡ a) × (at + 1 ≡ q)
-    go true h m = (ltb-true _ _ h, cc, cc)
-    go false h m = absurd (let z : _≡_ {A = ℕ} 0 1 = cc in omega arith)
-
-pub bytes-told : (n : ℕ) (s : List ℕ) (at : ℕ) {a q : ℕ} → bytes n s at ≡ got a q → (at + n ≤ length s) × (at ≡ a) × (at + n ≡ q)
-unfolding bytes
-bytes-told n s at {a} {q} e = go (leb (at + n) (length s)) refl e
-  where
-    go : (t : Bool) → leb (at + n) (length s) ≡ t → pick t (got at (at + n)) (bad 2 at) ≡ got a q → (at + n ≤ length s) × (at ≡ a) × (at + n ≡ q)
-    go true h m = (leb-true _ _ h, cc, cc)
-    go false h m = absurd (let z : _≡_ {A = ℕ} 0 1 = cc in omega arith)
-
 -- one element stands at a place of the input
 pub stands-one : (s : List ℕ) (at : ℕ) {x : ℕ} → at < length s → getD s at 0 ≡ x → Stands s at (x ∷ []) (at + 1)
 stands-one s at {x} h e = subst (λ (y : ℕ). Stands s at (y ∷ []) (at + 1)) e (subst (λ (l : List ℕ). Stands s at l (at + 1)) (ap (take 1) (drop-cons s at 0 h)) (stands-here s at 1 (omega arith)))
@@ -69,7 +54,7 @@ unfolding byte
 byte-spelling = record {
   reads = λ s at q b f a. let e = a .next in let g = stands-fits a (omega arith) in
       (b, rw (lt-ltb at (length s) (omega arith), first-is a) (ap (λ (k : ℕ). got b k) e), refl);
-  told = λ s at q a h e. let t = byte-told s at e in (subst (λ (k : ℕ). Stands s at (a ∷ []) k) (t .2) (stands-one s at (t .0) (t .1)), rw (t .1) at (h at));
+  told = λ s at q a h e. let t = byte-told s at e in (subst⁻¹ (λ (k : ℕ). Stands s at (a ∷ []) k) (t .next-is) (stands-one s at (t .inside) (sym (t .value-is))), rw (← t .value-is) at (h at));
 }
 
 -- ---- a test

@@ -13,7 +13,8 @@ use Rattle.format.specs.Field.{bytes, number, varint, le2, le4, le8}
 use Rattle.format.specs.FieldLaws.{long-value, varint-none, varint-announced, varint-small}
 use Rattle.format.specs.Refusals.{LONG-VARINT}
 use Rattle.format.specs.Stands.{Stands, stands-join, stands-split, stands-fits, stands-here}
-use Rattle.format.specs.Spelling.{AllBytes, Spelling, itself, first-is, stands-one, bytes-told, part-bytes}
+use Rattle.format.specs.Span.{bytes-told}
+use Rattle.format.specs.Spelling.{AllBytes, Spelling, itself, first-is, stands-one, part-bytes}
 use Rattle.format.specs.Digits.{little, varintBytes}
 use Rattle.format.specs.DigitsLaws.{num, numAt, little-length, num-little, little-num, num-below, num-stands, le2-is, le4-is, le8-is}
 
@@ -54,7 +55,7 @@ module _ (value : List ℕ → ℕ → ℕ) (w least : ℕ) (is : (s : List ℕ)
       let y = passing-told (number value w) (λ v. leb least v) LONG-VARINT s (at + 1) (started _ m) in
       let x = onward-told (bytes w s (at + 1)) _ (y .0) in
       let r = bytes-told w s (at + 1) (x .2) in
-      go (x .0) (x .1) (r .0) (r .1) (r .2) (x .3) (leb-true least n (y .1))
+      go (x .0) (x .1) (r .inside) (sym (r .place-is)) (sym (r .next-is)) (x .3) (leb-true least n (y .1))
     where
       started : (x : Parse ℕ) → at-start at x ≡ got n q → x ≡ got n q
       started (got a r) f = f

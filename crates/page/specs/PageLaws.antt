@@ -1,13 +1,12 @@
 -- Laws of a page: how it is refused, what stands in its answers, and that what the code holds of it gives the page.
-use Prim.Native.Nat.{ℕ, zero, suc, _+_, _*_, _/_, _%_, _<_, _≤_, zero-le}
+use Prim.Native.Nat.{ℕ, _+_, _*_, _/_, _%_, _<_, _≤_, zero-le}
 use mathlib.Core.Path.{_≡_, refl, sym, ap, _∙_}
 use mathlib.Core.Bool.{Bool, true, false}
-use mathlib.Core.List.{List, [], _∷_, map}
+use mathlib.Core.List.{List, []}
 use native.Mathlib.Nat.{sub-zero}
 use native.Mathlib.Omega.{arith}
 use lib.Dec.{ltb, leb}
-use lib.ListN.{length, take, drop, getD, replicate, length-map, List·getD-eq-default}
-use lib.Seq.{drop-drop}
+use lib.ListN.{length, getD, replicate, length-map, List·getD-eq-default}
 use borrow.Author.Tests.{le-leb, lt-leb, leb-true, eq-eqb, ne-eqb, ltb-true, ltb-false}
 use Rattle.format.specs.Parse.{Parse, got, bad, pick, each}
 use Rattle.format.specs.Bump.{Bump, bumpWhole}
@@ -18,7 +17,9 @@ use Rattle.format.specs.Refusals.{OVER-LIMIT, NO-ROOM}
 use Rattle.spv.specs.Compare.{Verdict, judge}
 use Rattle.spv.specs.Readings.{pathReading, bump-judge}
 use Rattle.spv.specs.Shapes.{provedOf}
-use Rattle.spv.specs.Bundle.{hashes, hashesOf}
+use Rattle.spv.specs.Bundle.{hashesOf}
+use Rattle.spv.specs.BundleHashes.{hashes-length, hashes-at}
+use Rattle.spv.specs.BundleTheorems.{map-at}
 use Rattle.spv.specs.Table.{rows}
 use Rattle.spv.specs.TableLaws.{rows-list}
 use Rattle.page.specs.declared.Paged.{Paged}
@@ -58,31 +59,13 @@ module _ (s ids : List ℕ) (room : ℕ) where
 
 -- ---- an answer for each id
 
-hashes-length : (n : ℕ) (l : List ℕ) → length (hashes n l) ≡ n
-unfolding hashes
-hashes-length zero l = refl
-hashes-length (suc n) l = ap suc (hashes-length n (drop 32 l))
-
-hashes-part : (n : ℕ) (l : List ℕ) (i : ℕ) → i < n → getD (hashes n l) i [] ≡ take 32 (drop (32 * i) l)
-unfolding hashes
-hashes-part zero l i h = absurd (omega arith)
-hashes-part (suc n) l zero h = refl
-hashes-part (suc n) l (suc i) h =
-    let next : 32 + 32 * i ≡ 32 * suc i = omega arith in
-    hashes-part n (drop 32 l) i (omega arith) ∙ ap (take 32) (drop-drop (32 * i) 32 l ∙ ap (λ (k : ℕ). drop k l) next)
-
 -- the i-th id is the 32 bytes from 32 * i
-hashes-at : (l : List ℕ) (i : ℕ) → i < length l / 32 → getD (hashesOf l) i [] ≡ hashAt l (i * 32)
+id-at : (l : List ℕ) (i : ℕ) → i < length l / 32 → getD (hashesOf l) i [] ≡ hashAt l (i * 32)
 unfolding hashesOf hashAt
-hashes-at l i h =
+id-at l i h =
     let place : 32 * i ≡ i * 32 = omega arith in
     let inside : i * 32 + 32 ≤ length l = omega arith in
-    hashes-part (length l / 32) l i h ∙ rw (le-leb (i * 32 + 32) (length l) inside) (rw place)
-
-map-at : {A B : Type 0} (f : A → B) (l : List A) (i : ℕ) (c : A) (d : B) → i < length l → getD (map f l) i d ≡ f (getD l i c)
-map-at f [] i c d h = absurd (omega arith)
-map-at f (x ∷ l) zero c d h = refl
-map-at f (x ∷ l) (suc i) c d h = map-at f l i c d (omega arith)
+    hashes-at (length l / 32) l i h ∙ rw (le-leb (i * 32 + 32) (length l) inside) (rw place)
 
 module _ (s ids : List ℕ) where
   pub answers-length : length (answers s ids) ≡ length ids / 32
@@ -93,7 +76,7 @@ module _ (s ids : List ℕ) where
   unfolding answers hashesOf
   answers-at i h =
       let inside : i < length (hashesOf ids) = rw (hashes-length (length ids / 32) ids) h in
-      map-at (single s) (hashesOf ids) i [] blankAnswer inside ∙ ap (single s) (hashes-at ids i h)
+      map-at (single s) (hashesOf ids) i [] blankAnswer inside ∙ ap (single s) (id-at ids i h)
 
 -- ---- what the code holds
 

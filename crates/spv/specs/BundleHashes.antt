@@ -11,7 +11,19 @@ use Rattle.format.specs.Basics.{one-less}
 use Rattle.format.specs.Bytes.{same, eq-same, ne-same}
 use Rattle.spv.specs.Bundle.{hashes, hashesOf, among}
 
--- a loop that has passed i of n has one fewer to pass after the next
+pub hashes-length : (n : ℕ) (l : List ℕ) → length (hashes n l) ≡ n
+unfolding hashes
+hashes-length zero l = refl
+hashes-length (suc n) l = ap suc (hashes-length n (drop 32 l))
+
+pub hashes-at : (n : ℕ) (l : List ℕ) (j : ℕ) → j < n → getD (hashes n l) j [] ≡ take 32 (drop (32 * j) l)
+unfolding hashes
+hashes-at zero l j b = absurd (omega arith)
+hashes-at (suc n) l zero b = refl
+hashes-at (suc n) l (suc j) b =
+    let e : 32 + 32 * j ≡ 32 * suc j = omega arith in
+    hashes-at n (drop 32 l) j (omega arith) ∙ ap (take 32) (drop-drop (32 * j) 32 l ∙ ap (λ (k : ℕ). drop k l) e)
+
 -- 32 bytes from a place, byte by byte
 module _ (l x : List ℕ) (at : ℕ) where
   part-at : (i : ℕ) → i < 32 → getD (take 32 (drop at l)) i 0 ≡ getD l (at + i) 0
@@ -80,16 +92,11 @@ hashes-more n l x e h =
     counted : (n m : ℕ) → m ≡ 32 * n → m / 32 ≡ n
     counted n m e = omega arith
 
-hashes-count : (n : ℕ) (l : List ℕ) → length (hashes n l) ≡ n
-unfolding hashes
-hashes-count zero l = refl
-hashes-count (suc n) l = ap suc (hashes-count n (drop 32 l))
-
-pub hashes-length : (n : ℕ) (l : List ℕ) → 32 * n ≤ length l → length (hashesOf (take (32 * n) l)) ≡ n
+pub taken-length : (n : ℕ) (l : List ℕ) → 32 * n ≤ length l → length (hashesOf (take (32 * n) l)) ≡ n
 unfolding hashesOf
-hashes-length n l h =
+taken-length n l h =
     let whole = length-take-le (32 * n) l h in
-    hashes-count (length (take (32 * n) l) / 32) (take (32 * n) l) ∙ omega arith
+    hashes-length (length (take (32 * n) l) / 32) (take (32 * n) l) ∙ omega arith
 
 pub hashes-empty : hashesOf [] ≡ []
 unfolding hashesOf hashes

@@ -18,7 +18,7 @@ use Rattle.spv.specs.Table.{flatHead, flat}
 use Rattle.spv.specs.TableLaws.{flat-more}
 use Rattle.spv.specs.Bundle.{hashesOf, refuses, passes, Judgement, refusedAs, accepted, judgeFrom}
 use Rattle.format.specs.Basics.{one-less}
-use Rattle.spv.specs.BundleHashes.{hashes-more, hashes-empty, hashes-length}
+use Rattle.spv.specs.BundleHashes.{hashes-more, hashes-empty, taken-length}
 use Rattle.spv.specs.BundleLaws.{followed, followed-ahead, followed-none, from-refuses, from-passes, from-none}
 use Rattle.spv.specs.BundleHeads.{numbersOf, headsFrom, headId, headStands, headRow}
 use Rattle.spv.specs.BundleAnswer.{judgementOf}
@@ -79,7 +79,7 @@ module _ (s roots : List ℕ) (bumps : List BumpHead) (count n start : ℕ) wher
         pub judging-refused : {number : ℕ} → headStands s roots bumps (earlier ids i) e ≡ refuses number → judgementOf (Refused (record { number = number; place = i })) ids numbers ≡ whole
         unfolding judgementOf followed
         judging-refused {number} t =
-            ap (λ (k : ℕ). followed (flat i ids numbers) (refusedAs number k)) (sym (hashes-length i ids (let w = j .wide in omega arith)))
+            ap (λ (k : ℕ). followed (flat i ids numbers) (refusedAs number k)) (sym (taken-length i ids (let w = j .wide in omega arith)))
             ∙ ap (followed (flat i ids numbers)) (sym (ap (from (earlier ids i)) next ∙ from-refuses (headId s) (headStands s roots bumps) (headRow s) (earlier ids i) e (rest (i + 1) q) number t))
             ∙ j .kept
 
