@@ -84,6 +84,74 @@ const K: [u32; 64] = [
     0xc671_78f2,
 ];
 
+// For each round, the sum of its constant and of its word in the schedule of a padding block for 64 bytes.
+const KNOWN: [u32; 64] = [
+    0xc28a_2f98,
+    0x7137_4491,
+    0xb5c0_fbcf,
+    0xe9b5_dba5,
+    0x3956_c25b,
+    0x59f1_11f1,
+    0x923f_82a4,
+    0xab1c_5ed5,
+    0xd807_aa98,
+    0x1283_5b01,
+    0x2431_85be,
+    0x550c_7dc3,
+    0x72be_5d74,
+    0x80de_b1fe,
+    0x9bdc_06a7,
+    0xc19b_f374,
+    0x649b_69c1,
+    0xf0fe_4786,
+    0x0fe1_edc6,
+    0x240c_f254,
+    0x4fe9_346f,
+    0x6cc9_84be,
+    0x61b9_411e,
+    0x16f9_88fa,
+    0xf2c6_5152,
+    0xa88e_5a6d,
+    0xb019_fc65,
+    0xb9d9_9ec7,
+    0x9a12_31c3,
+    0xe70e_eaa0,
+    0xfdb1_232b,
+    0xc735_3eb0,
+    0x3069_bad5,
+    0xcb97_6d5f,
+    0x5a0f_118f,
+    0xdc1e_eefd,
+    0x0a35_b689,
+    0xde0b_7a04,
+    0x58f4_ca9d,
+    0xe15d_5b16,
+    0x007f_3e86,
+    0x3708_8980,
+    0xa507_ea32,
+    0x6fab_9537,
+    0x1740_6110,
+    0x0d8c_d6f1,
+    0xcdaa_3b6d,
+    0xc0bb_be37,
+    0x8361_3bda,
+    0xdb48_a363,
+    0x0b02_e931,
+    0x6fd1_5ca7,
+    0x521a_faca,
+    0x3133_8431,
+    0x6ed4_1a95,
+    0x6d43_7890,
+    0xc39c_91f2,
+    0x9ecc_abbd,
+    0xb5c9_a0e6,
+    0x532f_b63c,
+    0xd2c7_41c6,
+    0x0723_7ea3,
+    0xa495_4b68,
+    0x4c19_1d76,
+];
+
 fn big_sigma0(x: u32) -> u32
     ensures { λ r. ⌜ r ≡ F.Σ0 x ⌝ }
 {
@@ -130,20 +198,6 @@ fn next_word(w2: u32, w7: u32, w15: u32, w16: u32) -> u32
     )
 }
 
-// Step 1.
-fn schedule(m: [u32; 16]) -> [u32; 64]
-    ensures { λ r. ⌜ r ≡ F.schedule m 48 ⌝ }
-{
-    let mut w = [0u32; 64];
-    for t in 0..16 {
-        w[t] = m[t];
-    }
-    for t in 16..64 {
-        w[t] = next_word(w[t - 2], w[t - 7], w[t - 15], w[t - 16]);
-    }
-    w
-}
-
 // One turn of step 3.
 fn round(s: State, k: u32, w: u32) -> State
     ensures { λ r. ⌜ r ≡ F.round s k w ⌝ }
@@ -188,10 +242,33 @@ fn plus(s: State, t: State) -> State
 pub fn compress(s: State, m: [u32; 16]) -> State
     ensures { λ r. ⌜ r ≡ F.compress s m ⌝ }
 {
-    let w = schedule(m);
+    let k = K;
+    let mut w = m;
+    let mut r = s;
+    for t in 0..16 {
+        r = round(r, k[t], w[t]);
+    }
+    for t in 16..64 {
+        let x = next_word(
+            w[(t + 14) % 16],
+            w[(t + 9) % 16],
+            w[(t + 1) % 16],
+            w[t % 16],
+        );
+        w[t % 16] = x;
+        r = round(r, k[t], x);
+    }
+    plus(r, s)
+}
+
+// The same for the padding block of a message of 64 bytes, whose schedule is known.
+pub fn compress_padding(s: State) -> State
+    ensures { λ r. ⌜ r ≡ F.compress s (F.words (F.padding 64) 0 16) ⌝ }
+{
+    let k = KNOWN;
     let mut r = s;
     for t in 0..64 {
-        r = round(r, K[t], w[t]);
+        r = round(r, k[t], 0);
     }
     plus(r, s)
 }

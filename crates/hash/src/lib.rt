@@ -9,6 +9,7 @@ mod compress;
 
 use compress::State;
 use compress::compress;
+use compress::compress_padding;
 
 // The most bytes that an input may have.
 pub const MAX_INPUT: usize = 16_777_216;
@@ -244,17 +245,10 @@ pub fn sha256d(s: &[u8]) -> Hashed
     }
 }
 
-// The second block of a padded message of 64 bytes: the bit 1, and the length of 512 bits.
-fn node_padding() -> [u32; 16]
-    ensures { λ r. ⌜ r ≡ F.words (F.padding 64) 0 16 ⌝ }
-{
-    [0x8000_0000, 0, 0, 0, 0, 0, 0, 0, 0, 0, 0, 0, 0, 0, 0, 512]
-}
-
 // The Merkle parent: the double hash of the left child followed by the right one.
 pub fn join(left: [u8; 32], right: [u8; 32]) -> [u8; 32]
     ensures { λ r. ⌜ r ≡ F.sha256d (left ++ right) ⌝ }
 {
     let children = whole(eight_words(&left, 0), eight_words(&right, 0));
-    hash_digest(compress(compress(initial(), children), node_padding()))
+    hash_digest(compress_padding(compress(initial(), children)))
 }

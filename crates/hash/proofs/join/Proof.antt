@@ -27,19 +27,16 @@ initial-requires c κs = search needs
 compress-requires : tie.Need-compress-requires
 compress-requires c κs = search needs
 
-node-padding-requires : tie.Need-node-padding-requires
-node-padding-requires c κs = search needs
-
-compress-requires-2 : tie.Need-compress-requires-2
-compress-requires-2 c κs = search needs
+compress-padding-requires : tie.Need-compress-padding-requires
+compress-padding-requires c κs = search needs
 
 hash-digest-requires : tie.Need-hash-digest-requires
 hash-digest-requires c κs = search needs
 
 returns : tie.Need-returns
 returns c =
-    let b = c .before .before .before .before .before .before .before .before .before .before .args in
-    let g = c .before .before .before .before .before .before .before .before .before .before .good in
+    let b = c .before .before .before .before .before .before .before .before .before .args in
+    let g = c .before .before .before .before .before .before .before .before .before .good in
     let hl : length (b .t1) ≡ 32 = search needs in
     let hr : length (b .t2) ≡ 32 = search needs in
     cc (joined (b .t1) (b .t2) hl hr)
@@ -55,7 +52,6 @@ join-spec =
     whole-requires
     initial-requires
     compress-requires
-    node-padding-requires
-    compress-requires-2
+    compress-padding-requires
     hash-digest-requires
     returns)
