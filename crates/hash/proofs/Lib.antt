@@ -1,6 +1,6 @@
 pub mod Words
 pub mod Padding
-pub mod Compression
 pub mod Digests
-pub mod Ring
+pub mod Bitwise
+pub mod Stages
 pub mod Known

@@ -3,6 +3,7 @@
 ghost use mathlib.Core.Path.{_≡_};
 ghost use Rattle.hash.specs.Sha256 as F;
 ghost use Rattle.hash.specs.Sha256.{_⊞_};
+ghost use Rattle.hash.specs.Parts as P;
 use std::num::wrapping_add_u32;
 
 // The eight words of a hash value, or the eight working variables.
@@ -17,7 +18,8 @@ pub struct State {
     pub h: u32,
 }
 
-const K: [u32; 64] = [
+// The constants of section 4.2.2, sixteen at a time.
+const K0: [u32; 16] = [
     0x428a_2f98,
     0x7137_4491,
     0xb5c0_fbcf,
@@ -34,6 +36,9 @@ const K: [u32; 64] = [
     0x80de_b1fe,
     0x9bdc_06a7,
     0xc19b_f174,
+];
+
+const K1: [u32; 16] = [
     0xe49b_69c1,
     0xefbe_4786,
     0x0fc1_9dc6,
@@ -50,6 +55,9 @@ const K: [u32; 64] = [
     0xd5a7_9147,
     0x06ca_6351,
     0x1429_2967,
+];
+
+const K2: [u32; 16] = [
     0x27b7_0a85,
     0x2e1b_2138,
     0x4d2c_6dfc,
@@ -66,6 +74,9 @@ const K: [u32; 64] = [
     0xd699_0624,
     0xf40e_3585,
     0x106a_a070,
+];
+
+const K3: [u32; 16] = [
     0x19a4_c116,
     0x1e37_6c08,
     0x2748_774c,
@@ -84,8 +95,8 @@ const K: [u32; 64] = [
     0xc671_78f2,
 ];
 
-// For each round, the sum of its constant and of its word in the schedule of a padding block for 64 bytes.
-const KNOWN: [u32; 64] = [
+// For each round, the sum of its constant and of its word in the schedule of the padding block of a 64-byte message.
+const PADDING0: [u32; 16] = [
     0xc28a_2f98,
     0x7137_4491,
     0xb5c0_fbcf,
@@ -102,6 +113,9 @@ const KNOWN: [u32; 64] = [
     0x80de_b1fe,
     0x9bdc_06a7,
     0xc19b_f374,
+];
+
+const PADDING1: [u32; 16] = [
     0x649b_69c1,
     0xf0fe_4786,
     0x0fe1_edc6,
@@ -118,6 +132,9 @@ const KNOWN: [u32; 64] = [
     0xe70e_eaa0,
     0xfdb1_232b,
     0xc735_3eb0,
+];
+
+const PADDING2: [u32; 16] = [
     0x3069_bad5,
     0xcb97_6d5f,
     0x5a0f_118f,
@@ -134,6 +151,9 @@ const KNOWN: [u32; 64] = [
     0x0d8c_d6f1,
     0xcdaa_3b6d,
     0xc0bb_be37,
+];
+
+const PADDING3: [u32; 16] = [
     0x8361_3bda,
     0xdb48_a363,
     0x0b02_e931,
@@ -167,25 +187,25 @@ fn big_sigma1(x: u32) -> u32
 fn small_sigma0(x: u32) -> u32
     ensures { λ r. ⌜ r ≡ F.σ0 x ⌝ }
 {
-    ((x >> 7) | (x << 25)) ^ ((x >> 18) | (x << 14)) ^ (x >> 3)
+    ((x >> 7) ^ (x << 14)) ^ ((x >> 18) ^ (x << 25)) ^ (x >> 3)
 }
 
 fn small_sigma1(x: u32) -> u32
     ensures { λ r. ⌜ r ≡ F.σ1 x ⌝ }
 {
-    ((x >> 17) | (x << 15)) ^ ((x >> 19) | (x << 13)) ^ (x >> 10)
+    ((x >> 17) ^ (x << 13)) ^ ((x >> 19) ^ (x << 15)) ^ (x >> 10)
 }
 
 fn ch(x: u32, y: u32, z: u32) -> u32
     ensures { λ r. ⌜ r ≡ F.Ch x y z ⌝ }
 {
-    (x & y) ^ (!x & z)
+    z ^ (x & (y ^ z))
 }
 
 fn maj(x: u32, y: u32, z: u32) -> u32
     ensures { λ r. ⌜ r ≡ F.Maj x y z ⌝ }
 {
-    (x & y) ^ (x & z) ^ (y & z)
+    y ^ ((x ^ y) & (y ^ z))
 }
 
 // The schedule's word from those that stand 2, 7, 15 and 16 places before it.
@@ -238,37 +258,146 @@ fn plus(s: State, t: State) -> State
     }
 }
 
+// After a number of rounds: the working variables, the schedule's next sixteen words, and for each the sum with its constant.
+struct Stage {
+    s: State,
+    w: [u32; 16],
+    x: [u32; 16],
+}
+
+// The sums of sixteen constants and words.
+fn sums(k: [u32; 16], w: [u32; 16]) -> [u32; 16]
+    ensures { λ r. ⌜ r ≡ P.sums k w ⌝ }
+{
+    let mut x = w;
+    for t in 0..16 {
+        x[t] = wrapping_add_u32(k[t], w[t]);
+    }
+    x
+}
+
+fn stage_of(s: State, w: [u32; 16], k: [u32; 16]) -> Stage
+    ensures { λ r. ⌜ r ≡ P.stage s w k ⌝ }
+{
+    let x = sums(k, w);
+    Stage { s: s, w: w, x: x }
+}
+
+// The stage sixteen rounds on, where k are the constants of its words. A round and a word by turns: neither waits for the other.
+fn next_stage(t: Stage, k: [u32; 16]) -> Stage
+    ensures { λ r. ⌜ r ≡ P.nextStage t k ⌝ }
+{
+    let w = t.w;
+    let x = t.x;
+    let r0 = round(t.s, x[0], 0);
+    let a0 = next_word(w[14], w[9], w[1], w[0]);
+    let r1 = round(r0, x[1], 0);
+    let a1 = next_word(w[15], w[10], w[2], w[1]);
+    let r2 = round(r1, x[2], 0);
+    let a2 = next_word(a0, w[11], w[3], w[2]);
+    let r3 = round(r2, x[3], 0);
+    let a3 = next_word(a1, w[12], w[4], w[3]);
+    let r4 = round(r3, x[4], 0);
+    let a4 = next_word(a2, w[13], w[5], w[4]);
+    let r5 = round(r4, x[5], 0);
+    let a5 = next_word(a3, w[14], w[6], w[5]);
+    let r6 = round(r5, x[6], 0);
+    let a6 = next_word(a4, w[15], w[7], w[6]);
+    let r7 = round(r6, x[7], 0);
+    let a7 = next_word(a5, a0, w[8], w[7]);
+    let r8 = round(r7, x[8], 0);
+    let a8 = next_word(a6, a1, w[9], w[8]);
+    let r9 = round(r8, x[9], 0);
+    let a9 = next_word(a7, a2, w[10], w[9]);
+    let r10 = round(r9, x[10], 0);
+    let a10 = next_word(a8, a3, w[11], w[10]);
+    let r11 = round(r10, x[11], 0);
+    let a11 = next_word(a9, a4, w[12], w[11]);
+    let r12 = round(r11, x[12], 0);
+    let a12 = next_word(a10, a5, w[13], w[12]);
+    let r13 = round(r12, x[13], 0);
+    let a13 = next_word(a11, a6, w[14], w[13]);
+    let r14 = round(r13, x[14], 0);
+    let a14 = next_word(a12, a7, w[15], w[14]);
+    let r15 = round(r14, x[15], 0);
+    let a15 = next_word(a13, a8, a0, w[15]);
+    stage_of(
+        r15,
+        [
+            a0,
+            a1,
+            a2,
+            a3,
+            a4,
+            a5,
+            a6,
+            a7,
+            a8,
+            a9,
+            a10,
+            a11,
+            a12,
+            a13,
+            a14,
+            a15,
+        ],
+        k,
+    )
+}
+
+// Sixteen rounds.
+fn rounds(s: State, x: [u32; 16]) -> State
+    ensures { λ r. ⌜ r ≡ P.roundsBy s x 16 ⌝ }
+{
+    let mut r = s;
+    for t in 0..16 {
+        r = round(r, x[t], 0);
+    }
+    r
+}
+
+// The same written out, for the rounds that end a block.
+fn last_rounds(s: State, x: [u32; 16]) -> State
+    ensures { λ r. ⌜ r ≡ P.roundsBy s x 16 ⌝ }
+{
+    let r0 = round(s, x[0], 0);
+    let r1 = round(r0, x[1], 0);
+    let r2 = round(r1, x[2], 0);
+    let r3 = round(r2, x[3], 0);
+    let r4 = round(r3, x[4], 0);
+    let r5 = round(r4, x[5], 0);
+    let r6 = round(r5, x[6], 0);
+    let r7 = round(r6, x[7], 0);
+    let r8 = round(r7, x[8], 0);
+    let r9 = round(r8, x[9], 0);
+    let r10 = round(r9, x[10], 0);
+    let r11 = round(r10, x[11], 0);
+    let r12 = round(r11, x[12], 0);
+    let r13 = round(r12, x[13], 0);
+    let r14 = round(r13, x[14], 0);
+    let r15 = round(r14, x[15], 0);
+    r15
+}
+
 // The hash value after s and the block m.
 pub fn compress(s: State, m: [u32; 16]) -> State
     ensures { λ r. ⌜ r ≡ F.compress s m ⌝ }
 {
-    let k = K;
-    let mut w = m;
-    let mut r = s;
-    for t in 0..16 {
-        r = round(r, k[t], w[t]);
-    }
-    for t in 16..64 {
-        let x = next_word(
-            w[(t + 14) % 16],
-            w[(t + 9) % 16],
-            w[(t + 1) % 16],
-            w[t % 16],
-        );
-        w[t % 16] = x;
-        r = round(r, k[t], x);
-    }
-    plus(r, s)
+    let mut t = stage_of(s, m, K0);
+    t = next_stage(t, K1);
+    t = next_stage(t, K2);
+    t = next_stage(t, K3);
+    let x = t.x;
+    plus(last_rounds(t.s, x), s)
 }
 
 // The same for the padding block of a message of 64 bytes, whose schedule is known.
 pub fn compress_padding(s: State) -> State
     ensures { λ r. ⌜ r ≡ F.compress s (F.words (F.padding 64) 0 16) ⌝ }
 {
-    let k = KNOWN;
-    let mut r = s;
-    for t in 0..64 {
-        r = round(r, k[t], 0);
-    }
+    let mut r = rounds(s, PADDING0);
+    r = rounds(r, PADDING1);
+    r = rounds(r, PADDING2);
+    r = rounds(r, PADDING3);
     plus(r, s)
 }
