@@ -2,12 +2,12 @@
 use mathlib.Core.Path.{_≡_, refl, sym, ap, ap₂, _∙_}
 use mathlib.Core.Logic.{⊎-elim}
 use mathlib.Core.List.{List, [], _∷_, _++_}
-use Prim.Native.Nat.{ℕ, zero, suc, _+_, _-_, _%_, _^_, _≤_, _<_}
+use Prim.Native.Nat.{ℕ, zero, suc, _+_, _-_, _%_, _≤_, _<_}
 use native.Mathlib.Nat.{add-zero, add-suc, eq-or-lt-of-le}
 use native.Mathlib.Numerals.{add-one}
 use native.Mathlib.Omega.{arith}
-use lib.ListN.{length, getD, take, drop, set, length-append, length-drop, List·getD-append, drop-of-length-le}
-use lib.Seq.{take-all, take-suc, getD-take, getD-drop, getD-at, take-append-le, take-add, drop-at, drop-drop, drop-cons, length-take-le}
+use lib.ListN.{length, getD, take, drop, set, length-append, length-drop, length-set, List·getD-append}
+use lib.Seq.{take-all, take-suc, getD-take, getD-drop, getD-at, take-append-le, take-add, drop-at, drop-drop, length-take-le, getD-set-same, getD-set-other, ext-getD}
 use Rattle.hash.specs.declared.compress.State.{State}
 use Rattle.hash.specs.declared.compress.Stage.{Stage}
 use Rattle.hash.specs.Sha256.{_⊞_, σ0, σ1, W, schedule, K, T1, round, rounds, plus, compress}
@@ -28,10 +28,7 @@ W-take w t h =
     (getD-take t w (t - 2) 0 (omega arith), getD-take t w (t - 7) 0 (omega arith), getD-take t w (t - 15) 0 (omega arith), getD-take t w (t - 16) 0 (omega arith))
 
 W-append : (w : List ℕ) (v t : ℕ) → 16 ≤ t → t ≤ length w → W (w ++ v ∷ []) t ≡ W w t
-unfolding W
-W-append w v t h l =
-    rw
-    (List·getD-append w (v ∷ []) 0 (t - 2) (omega arith), List·getD-append w (v ∷ []) 0 (t - 7) (omega arith), List·getD-append w (v ∷ []) 0 (t - 15) (omega arith), List·getD-append w (v ∷ []) 0 (t - 16) (omega arith))
+W-append w v t h l = sym (W-take (w ++ v ∷ []) t h) ∙ ap (λ (x : List ℕ). W x t) (take-append-le t w (v ∷ []) l) ∙ W-take w t h
 
 schedule-at : (m : List ℕ) (n t : ℕ) → length m ≡ 16 → 16 ≤ t → t < 16 + n → getD (schedule m n) t 0 ≡ W (schedule m n) t
 unfolding schedule
@@ -102,29 +99,72 @@ window-next m q lm h =
     ap (drop 16) (g ∙ ta) ∙ drop-at (take 16 (drop q (schedule m 48))) (take 16 (drop 16 (drop q (schedule m 48)))) 16 (length-take-le 16 (drop q (schedule m 48)) (rw length-drop (omega arith)))
     ∙ ap (take 16) (drop-drop 16 q (schedule m 48))
 
--- The sixteen words that follow w, from the four that each is made of.
-pub front : (w : List ℕ) (j : ℕ) → length w ≡ 16 → j < 16 → getD w j 0 ≡ getD (schedule w 16) j 0
-front w j lw h = sym (ap (λ (x : List ℕ). getD x j 0) (schedule-front w 16 lw)) ∙ getD-take 16 (schedule w 16) j 0 h
+length-last : (m w : List ℕ) → length m ≡ 16 → length w ≡ 16 → length w ≡ length (drop 16 (schedule m 16))
+length-last m w lm lw = let ls = length-schedule m 16 in rw length-drop (omega arith)
 
-pub following : (w : List ℕ) (t r p q x y : ℕ) → length w ≡ 16 → 16 ≤ t → t < 32 → r ≡ σ1 p ⊞ q ⊞ σ0 x ⊞ y
-    → p ≡ getD (schedule w 16) (t - 2) 0 → q ≡ getD (schedule w 16) (t - 7) 0 → x ≡ getD (schedule w 16) (t - 15) 0 → y ≡ getD (schedule w 16) (t - 16) 0
-    → r ≡ getD (schedule w 16) t 0
+-- A ring of sixteen words: w holds those before word t, word j at j % 16.
+abbrev pub Ring : List ℕ → List ℕ → ℕ → Type 0
+Ring s w t = (length w ≡ 16) × ((j : ℕ) → t ≤ j + 16 → j < t → getD w (j % 16) 0 ≡ getD s j 0)
+
+pub ring-first : (m : List ℕ) → length m ≡ 16 → Ring (schedule m 16) m 16
+ring-first m lm = (lm, λ j h l. at j l)
+  where
+    at : (j : ℕ) → j < 16 → getD m (j % 16) 0 ≡ getD (schedule m 16) j 0
+    at j l =
+        let e : j % 16 ≡ j = omega arith in
+        rw e (sym (ap (λ (x : List ℕ). getD x j 0) (schedule-front m 16 lm)) ∙ getD-take 16 (schedule m 16) j 0 l)
+
+ring-word : (m w : List ℕ) (t v : ℕ) → length m ≡ 16 → 16 ≤ t → t < 32 → Ring (schedule m 16) w t
+    → v ≡ σ1 (getD w ((t + 14) % 16) 0) ⊞ getD w ((t + 9) % 16) 0 ⊞ σ0 (getD w ((t + 1) % 16) 0) ⊞ getD w (t % 16) 0 → v ≡ getD (schedule m 16) t 0
 unfolding W
-following w t r p q x y lw h l e ep eq ex ey = e ∙ rw (ep, eq, ex, ey) (sym (schedule-at w 16 t lw h (omega arith)))
+ring-word m w t v lm h l g e =
+    let e2 : (t + 14) % 16 ≡ (t - 2) % 16 = omega arith in
+    let a2 = g .1 (t - 2) (omega arith) (omega arith) in
+    let e7 : (t + 9) % 16 ≡ (t - 7) % 16 = omega arith in
+    let a7 = g .1 (t - 7) (omega arith) (omega arith) in
+    let e15 : (t + 1) % 16 ≡ (t - 15) % 16 = omega arith in
+    let a15 = g .1 (t - 15) (omega arith) (omega arith) in
+    let e16 : t % 16 ≡ (t - 16) % 16 = omega arith in
+    let a16 = g .1 (t - 16) (omega arith) (omega arith) in
+    e ∙ rw (e2, e7, e15, e16, a2, a7, a15, a16) (sym (schedule-at m 16 t lm h (omega arith)))
 
-last-words : (w : List ℕ) → length w ≡ 32
-    → drop 16 w ≡ getD w 16 0 ∷ getD w 17 0 ∷ getD w 18 0 ∷ getD w 19 0 ∷ getD w 20 0 ∷ getD w 21 0 ∷ getD w 22 0 ∷ getD w 23 0 ∷
-    getD w 24 0 ∷ getD w 25 0 ∷ getD w 26 0 ∷ getD w 27 0 ∷ getD w 28 0 ∷ getD w 29 0 ∷ getD w 30 0 ∷ getD w 31 0 ∷ []
-last-words w h =
-    rw
-    (drop-cons w 16 0 (omega arith), drop-cons w 17 0 (omega arith), drop-cons w 18 0 (omega arith), drop-cons w 19 0 (omega arith), drop-cons w 20 0 (omega arith), drop-cons w 21 0 (omega arith), drop-cons w 22 0 (omega arith), drop-cons w 23 0 (omega arith), drop-cons w 24 0 (omega arith), drop-cons w 25 0 (omega arith), drop-cons w 26 0 (omega arith), drop-cons w 27 0 (omega arith), drop-cons w 28 0 (omega arith), drop-cons w 29 0 (omega arith), drop-cons w 30 0 (omega arith), drop-cons w 31 0 (omega arith), drop-of-length-le w {i = 32} (omega arith))
+ring-set : (s w : List ℕ) (t v : ℕ) → Ring s w t → v ≡ getD s t 0 → Ring s (set w (t % 16) v) (t + 1)
+ring-set s w t v g e = (simp length-set (g .0), λ j h l. at j h l)
+  where
+    bound : (j t : ℕ) → j < t + 1 → j ≤ t
+    bound j t l = omega arith
 
-next-words : (w : List ℕ) → length w ≡ 16
-    → drop 16 (schedule w 16) ≡ getD (schedule w 16) 16 0 ∷ getD (schedule w 16) 17 0 ∷ getD (schedule w 16) 18 0 ∷ getD (schedule w 16) 19 0 ∷
-    getD (schedule w 16) 20 0 ∷ getD (schedule w 16) 21 0 ∷ getD (schedule w 16) 22 0 ∷ getD (schedule w 16) 23 0 ∷
-    getD (schedule w 16) 24 0 ∷ getD (schedule w 16) 25 0 ∷ getD (schedule w 16) 26 0 ∷ getD (schedule w 16) 27 0 ∷
-    getD (schedule w 16) 28 0 ∷ getD (schedule w 16) 29 0 ∷ getD (schedule w 16) 30 0 ∷ getD (schedule w 16) 31 0 ∷ []
-next-words w lw = last-words (schedule w 16) (length-schedule w 16 ∙ ap (λ (x : ℕ). x + 16) lw)
+    at : (j : ℕ) → t + 1 ≤ j + 16 → j < t + 1 → getD (set w (t % 16) v) (j % 16) 0 ≡ getD s j 0
+    at j h l =
+        let lw = g .0 in
+        ⊎-elim
+        (λ q. rw q (getD-set-same w (t % 16) v 0 (omega arith) ∙ e))
+        (λ k. getD-set-other w (t % 16) (j % 16) v 0 (λ z. omega arith) ∙ g .1 j (omega arith) k)
+        (eq-or-lt-of-le (bound j t l))
+
+-- The next word takes the place of the one sixteen before it.
+pub overwritten : (m w : List ℕ) (t v : ℕ) → length m ≡ 16 → 16 ≤ t → t < 32 → Ring (schedule m 16) w t
+    → v ≡ σ1 (getD w ((t + 14) % 16) 0) ⊞ getD w ((t + 9) % 16) 0 ⊞ σ0 (getD w ((t + 1) % 16) 0) ⊞ getD w (t % 16) 0
+    → Ring (schedule m 16) (set w (t % 16) v) (t + 1)
+overwritten m w t v lm h l g e = ring-set (schedule m 16) w t v g (ring-word m w t v lm h l g e)
+
+ring-last : (m w : List ℕ) → length m ≡ 16 → Ring (schedule m 16) w 32 → w ≡ drop 16 (schedule m 16)
+ring-last m w lm g = ext-getD 0 w (drop 16 (schedule m 16)) (length-last m w lm (g .0)) (λ i l. at i (below i (g .0) l))
+  where
+    below : (i : ℕ) → length w ≡ 16 → i < length w → i < 16
+    below i e l = omega arith
+
+    at : (i : ℕ) → i < 16 → getD w i 0 ≡ getD (drop 16 (schedule m 16)) i 0
+    at i l =
+        let e : (16 + i) % 16 ≡ i = omega arith in
+        let a = g .1 (16 + i) (omega arith) (omega arith) in
+        (rw e at a) ∙ sym (getD-drop 16 (schedule m 16) i 0)
+
+-- The stage that sixteen rounds and words make.
+pub next-made : (t u : Stage) (k w : List ℕ) (r : State) → length (t .w) ≡ 16 → r ≡ roundsBy (t .s) (t .x) 16 → Ring (schedule (t .w) 16) w 32
+    → u ≡ stage r w k → u ≡ nextStage t k
+unfolding nextStage
+next-made t u k w r lw er g e = e ∙ rw (er, ring-last (t .w) w lw g)
 
 -- A round more, by its sum.
 pub no-round : (s : State) (x : List ℕ) → s ≡ roundsBy s x 0
@@ -134,16 +174,6 @@ no-round s x = refl
 pub one-round : (s : State) (x : List ℕ) (n : ℕ) (r q : State) → r ≡ roundsBy s x n → q ≡ round r (getD x n 0) 0 → q ≡ roundsBy s x (suc n)
 unfolding roundsBy
 one-round s x n r q e f = f ∙ rw e
-
--- The stage that sixteen rounds and sixteen words make.
-pub next-made : (t u : Stage) (k : List ℕ) (r : State) (a0 a1 a2 a3 a4 a5 a6 a7 a8 a9 a10 a11 a12 a13 a14 a15 : ℕ) → length (t .w) ≡ 16 → r ≡ roundsBy (t .s) (t .x) 16
-    → a0 ≡ getD (schedule (t .w) 16) 16 0 → a1 ≡ getD (schedule (t .w) 16) 17 0 → a2 ≡ getD (schedule (t .w) 16) 18 0 → a3 ≡ getD (schedule (t .w) 16) 19 0
-    → a4 ≡ getD (schedule (t .w) 16) 20 0 → a5 ≡ getD (schedule (t .w) 16) 21 0 → a6 ≡ getD (schedule (t .w) 16) 22 0 → a7 ≡ getD (schedule (t .w) 16) 23 0
-    → a8 ≡ getD (schedule (t .w) 16) 24 0 → a9 ≡ getD (schedule (t .w) 16) 25 0 → a10 ≡ getD (schedule (t .w) 16) 26 0 → a11 ≡ getD (schedule (t .w) 16) 27 0
-    → a12 ≡ getD (schedule (t .w) 16) 28 0 → a13 ≡ getD (schedule (t .w) 16) 29 0 → a14 ≡ getD (schedule (t .w) 16) 30 0 → a15 ≡ getD (schedule (t .w) 16) 31 0
-    → u ≡ stage r (a0 ∷ a1 ∷ a2 ∷ a3 ∷ a4 ∷ a5 ∷ a6 ∷ a7 ∷ a8 ∷ a9 ∷ a10 ∷ a11 ∷ a12 ∷ a13 ∷ a14 ∷ a15 ∷ []) k → u ≡ nextStage t k
-unfolding nextStage
-next-made t u k r a0 a1 a2 a3 a4 a5 a6 a7 a8 a9 a10 a11 a12 a13 a14 a15 lw er e0 e1 e2 e3 e4 e5 e6 e7 e8 e9 e10 e11 e12 e13 e14 e15 e = e ∙ rw (er, e0, e1, e2, e3, e4, e5, e6, e7, e8, e9, e10, e11, e12, e13, e14, e15, next-words (t .w) lw)
 
 -- A round by the sum is the round by its constant and its word.
 sum-first : (x k w : ℕ) → (x ⊞ (k ⊞ w)) ⊞ 0 ≡ (x ⊞ k) ⊞ w
@@ -191,7 +221,7 @@ rounds-by s r w x q (suc n) e h =
     let ih = rounds-by s r w x q n e (λ j l. h j (omega arith)) in
     rw (ih, h n (omega arith), add-suc q n, round-sum)
 
-long-K : length K ≡ 64
+pub long-K : length K ≡ 64
 unfolding K
 long-K = refl
 

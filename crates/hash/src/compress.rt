@@ -18,7 +18,7 @@ pub struct State {
     pub h: u32,
 }
 
-// The constants of section 4.2.2, sixteen at a time.
+// The constants (section 4.2.2), sixteen at a time.
 const K0: [u32; 16] = [
     0x428a_2f98,
     0x7137_4491,
@@ -95,7 +95,7 @@ const K3: [u32; 16] = [
     0xc671_78f2,
 ];
 
-// For each round, the sum of its constant and of its word in the schedule of the padding block of a 64-byte message.
+// The sums of the constants and of the words of a known schedule: that of the padding block of a 64-byte message.
 const PADDING0: [u32; 16] = [
     0xc28a_2f98,
     0x7137_4491,
@@ -184,6 +184,7 @@ fn big_sigma1(x: u32) -> u32
     ((x >> 6) | (x << 26)) ^ ((x >> 11) | (x << 21)) ^ ((x >> 25) | (x << 7))
 }
 
+// Without rotations: the compiler then makes several words at once.
 fn small_sigma0(x: u32) -> u32
     ensures { λ r. ⌜ r ≡ F.σ0 x ⌝ }
 {
@@ -258,7 +259,7 @@ fn plus(s: State, t: State) -> State
     }
 }
 
-// After a number of rounds: the working variables, the schedule's next sixteen words, and for each the sum with its constant.
+// After a number of rounds: the working variables, the words of the next sixteen rounds, and the sum of each with its constant.
 struct Stage {
     s: State,
     w: [u32; 16],
@@ -283,69 +284,49 @@ fn stage_of(s: State, w: [u32; 16], k: [u32; 16]) -> Stage
     Stage { s: s, w: w, x: x }
 }
 
-// The stage sixteen rounds on, where k are the constants of its words. A round and a word by turns: neither waits for the other.
+// The stage sixteen rounds on, where k are the constants of its words. A word takes the place of the one sixteen before it.
+// Rounds and words by turns: neither waits for the other.
 fn next_stage(t: Stage, k: [u32; 16]) -> Stage
     ensures { λ r. ⌜ r ≡ P.nextStage t k ⌝ }
 {
-    let w = t.w;
+    let mut w = t.w;
     let x = t.x;
     let r0 = round(t.s, x[0], 0);
-    let a0 = next_word(w[14], w[9], w[1], w[0]);
+    w[0] = next_word(w[14], w[9], w[1], w[0]);
     let r1 = round(r0, x[1], 0);
-    let a1 = next_word(w[15], w[10], w[2], w[1]);
+    w[1] = next_word(w[15], w[10], w[2], w[1]);
     let r2 = round(r1, x[2], 0);
-    let a2 = next_word(a0, w[11], w[3], w[2]);
+    w[2] = next_word(w[0], w[11], w[3], w[2]);
     let r3 = round(r2, x[3], 0);
-    let a3 = next_word(a1, w[12], w[4], w[3]);
+    w[3] = next_word(w[1], w[12], w[4], w[3]);
     let r4 = round(r3, x[4], 0);
-    let a4 = next_word(a2, w[13], w[5], w[4]);
+    w[4] = next_word(w[2], w[13], w[5], w[4]);
     let r5 = round(r4, x[5], 0);
-    let a5 = next_word(a3, w[14], w[6], w[5]);
+    w[5] = next_word(w[3], w[14], w[6], w[5]);
     let r6 = round(r5, x[6], 0);
-    let a6 = next_word(a4, w[15], w[7], w[6]);
+    w[6] = next_word(w[4], w[15], w[7], w[6]);
     let r7 = round(r6, x[7], 0);
-    let a7 = next_word(a5, a0, w[8], w[7]);
+    w[7] = next_word(w[5], w[0], w[8], w[7]);
     let r8 = round(r7, x[8], 0);
-    let a8 = next_word(a6, a1, w[9], w[8]);
+    w[8] = next_word(w[6], w[1], w[9], w[8]);
     let r9 = round(r8, x[9], 0);
-    let a9 = next_word(a7, a2, w[10], w[9]);
+    w[9] = next_word(w[7], w[2], w[10], w[9]);
     let r10 = round(r9, x[10], 0);
-    let a10 = next_word(a8, a3, w[11], w[10]);
+    w[10] = next_word(w[8], w[3], w[11], w[10]);
     let r11 = round(r10, x[11], 0);
-    let a11 = next_word(a9, a4, w[12], w[11]);
+    w[11] = next_word(w[9], w[4], w[12], w[11]);
     let r12 = round(r11, x[12], 0);
-    let a12 = next_word(a10, a5, w[13], w[12]);
+    w[12] = next_word(w[10], w[5], w[13], w[12]);
     let r13 = round(r12, x[13], 0);
-    let a13 = next_word(a11, a6, w[14], w[13]);
+    w[13] = next_word(w[11], w[6], w[14], w[13]);
     let r14 = round(r13, x[14], 0);
-    let a14 = next_word(a12, a7, w[15], w[14]);
+    w[14] = next_word(w[12], w[7], w[15], w[14]);
     let r15 = round(r14, x[15], 0);
-    let a15 = next_word(a13, a8, a0, w[15]);
-    stage_of(
-        r15,
-        [
-            a0,
-            a1,
-            a2,
-            a3,
-            a4,
-            a5,
-            a6,
-            a7,
-            a8,
-            a9,
-            a10,
-            a11,
-            a12,
-            a13,
-            a14,
-            a15,
-        ],
-        k,
-    )
+    w[15] = next_word(w[13], w[8], w[0], w[15]);
+    stage_of(r15, w, k)
 }
 
-// Sixteen rounds.
+// Sixteen rounds, by the sums of their constants and words.
 fn rounds(s: State, x: [u32; 16]) -> State
     ensures { λ r. ⌜ r ≡ P.roundsBy s x 16 ⌝ }
 {
@@ -356,7 +337,7 @@ fn rounds(s: State, x: [u32; 16]) -> State
     r
 }
 
-// The same written out, for the rounds that end a block.
+// The same written out, so that the working variables stay in registers.
 fn last_rounds(s: State, x: [u32; 16]) -> State
     ensures { λ r. ⌜ r ≡ P.roundsBy s x 16 ⌝ }
 {
