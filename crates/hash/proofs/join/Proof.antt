@@ -1,6 +1,6 @@
 -- Two digests are one block, and their padding is the next.
 use borrow.Author.Needs.{needs}
-use mathlib.Core.Path.{_≡_}
+use mathlib.Core.Path.{_≡_, _∙_}
 use lib.ListN.{length}
 use Rattle.hash.proofs.Digests.{joined}
 use Rattle.hash.proofs.join.Statement.{statement}
@@ -39,7 +39,10 @@ returns c =
     let g = c .before .before .before .before .before .before .before .before .before .good in
     let hl : length (b .t1) ≡ 32 = search needs in
     let hr : length (b .t2) ≡ 32 = search needs in
-    cc (joined (b .t1) (b .t2) hl hr)
+    c .hash-digest .ensures
+    ∙ rw
+    (c .before .compress-padding .ensures, c .before .before .compress .ensures, c .before .before .before .initial .ensures, c .before .before .before .before .whole .ensures, c .before .before .before .before .before .eight-words2 .ensures, c .before .before .before .before .before .before .before .eight-words .ensures)
+    (joined (b .t1) (b .t2) hl hr)
 
 pub join-spec : {M : Type 1} → statement M
 join-spec =
