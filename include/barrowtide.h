@@ -39,6 +39,7 @@
  *             barrowtide_check_clients
  *   - 16 KiB  barrowtide_read_bump, barrowtide_read_cmp, barrowtide_read_beef
  *   -  8 KiB  barrowtide_prove_tsc
+ *   -  1 KiB  barrowtide_sha256d, barrowtide_join
  *   -  4 KiB  every other call
  * with the C library's memcpy and memset, which are all that it calls. Only the working out of a
  * sibling recurses, once a level, and is counted here.
@@ -46,7 +47,7 @@
  * Cost. Working out a sibling takes fewer joins than leaves lie under it, so one climb makes fewer
  * joins than its path has layers and leaves: fewer than 32 + n / 2 by a path of n bytes, and fewer
  * than 24,606 by any. Each node that is asked for is searched for among the leaves of its level;
- * where offsets rise this takes a third as long as the joins, and else up to six times as long.
+ * where offsets rise this takes about as long as the joins, and else up to 17 times as long.
  * Nothing is kept from one climb to the next: a page climbs once for each id, all clients once for
  * each client leaf, and a bundle once for each transaction that names a BUMP. The worst inputs
  * known, offsets in no order, on a machine where a join takes a microsecond:
