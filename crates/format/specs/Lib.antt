@@ -11,6 +11,8 @@ pub mod CopyLaws
 pub mod Level
 pub mod LevelAnswer
 pub mod LevelLaws
+pub mod Steps
+pub mod StepLaws
 pub mod Bump
 pub mod Cmp
 pub mod BumpLaws

@@ -12,12 +12,14 @@ use super::refusal::REPEATED;
 use super::refusal::Refusal;
 ghost use mathlib.Core.Path.{_≡_};
 ghost use mathlib.Core.Bool.{Bool, true, false};
+ghost use mathlib.Core.List.{[]};
 ghost use Prim.Native.Nat.{ℕ, _+_, _-_, _≤_, _<_, _^_, _%_};
 ghost use lib.ListN.{length};
 ghost use Rattle.format.specs.Parse.{each, times};
 ghost use Rattle.format.specs.FieldAnswer.{numberOf, runOf};
 ghost use Rattle.format.specs.Refusals.{MAX-LEAVES};
 ghost use Rattle.format.specs.Level.{holds, offsetField, flagField, flagAllowed, kindField, carriedField, leafField, leafFields, levelField, written, levelInTurn, levelFields, total};
+ghost use Rattle.format.specs.Steps.{offsetOf, besides};
 ghost use Rattle.format.specs.LevelAnswer.{kindOf, leafOf, refusalOfKind, refusalOfLeaf};
 ghost use Rattle.format.specs.Search.{looseCarried, looseLeaf, looseLevel};
 
@@ -82,23 +84,24 @@ impl LeafAnswer {
     }
 }
 
-fn contains(l: &[u64], x: u64) -> bool
+// The scan goes to the end whatever it meets, so that several numbers are compared at once.
+fn contains(l: &[u32], x: u32) -> bool
     ensures { λ r. ⌜ r ≡ holds x (now (l .entry)) ⌝ }
 {
+    let mut found = false;
     let mut i = 0;
     while i < l.len() {
         if x == l[i] {
-            return true;
+            found = true;
         }
         i += 1;
     }
-    false
+    found
 }
 
-// An offset of at most `greatest`. No offset seen is above top.
-fn read_offset(s: &[u8], c: Cursor, greatest: u64, seen: &[u64], top: u64) -> Number
-    requires { ⌜ ((x : ℕ) → top < x → holds x (now seen) ≡ false) ⌝ }
-    ensures { λ r. ⌜ numberOf r ≡ offsetField (greatest + 1) (now (seen .entry)) (now (s .entry)) (c .at) ⌝ }
+// An offset of at most `greatest`, where none was seen.
+fn read_bounded(s: &[u8], c: Cursor, greatest: u64) -> Number
+    ensures { λ r. ⌜ numberOf r ≡ offsetField (greatest + 1) [] (now (s .entry)) (c .at) ⌝ }
 {
     let at = c.at;
     let field = read_varint(s, c);
@@ -111,8 +114,21 @@ fn read_offset(s: &[u8], c: Cursor, greatest: u64, seen: &[u64], top: u64) -> Nu
             place: at,
         });
     }
+    field
+}
+
+// No offset seen is above top.
+fn read_offset(s: &[u8], c: Cursor, greatest: u64, seen: &[u32], top: u64) -> Number
+    requires { ⌜ (greatest < 4294967296) × ((x : ℕ) → top < x → holds x (now seen) ≡ false) ⌝ }
+    ensures { λ r. ⌜ numberOf r ≡ offsetField (greatest + 1) (now (seen .entry)) (now (s .entry)) (c .at) ⌝ }
+{
+    let at = c.at;
+    let field = read_bounded(s, c, greatest);
+    let Number::Value(offset, _) = field else {
+        return field;
+    };
     if offset <= top {
-        if contains(seen, offset) {
+        if contains(seen, offset as u32) {
             return Number::Refused(Refusal {
                 number: REPEATED,
                 place: at,
@@ -170,47 +186,58 @@ pub fn read_kind(s: &[u8], c: Cursor, flag: u64) -> KindAnswer
     KindAnswer::Value(Kind::Client(place), next)
 }
 
-fn read_flagged(s: &[u8], c: Cursor, level: u64, offset: u64) -> KindAnswer
-    ensures { λ r. ⌜ kindOf r ≡ carriedField Layout.Bump level offset (now (s .entry)) (c .at) ⌝ }
+// Where what a leaf carries ends, beside its offset.
+fn skip_kind(s: &[u8], c: Cursor, flag: u64, offset: u64) -> Number
+    ensures { λ r. ⌜ numberOf r ≡ each (besides offset) (kindField flag (now (s .entry)) (c .at)) ⌝ }
+{
+    if flag == 1 {
+        return Number::Value(offset, c);
+    }
+    let field = read_run(s, c, 32);
+    let Run::Value(_, next) = field else {
+        return Number::Refused(field.refusal());
+    };
+    Number::Value(offset, next)
+}
+
+fn read_flagged(s: &[u8], c: Cursor, level: u64, offset: u64) -> Number
+    ensures { λ r. ⌜ numberOf r ≡ each (besides offset) (carriedField Layout.Bump level offset (now (s .entry)) (c .at)) ⌝ }
 {
     let first = read_flag(s, c, level, offset);
     let Number::Value(flag, next) = first else {
-        return KindAnswer::Refused(first.refusal());
+        return first;
     };
-    read_kind(s, next, flag)
+    skip_kind(s, next, flag, offset)
 }
 
 // What follows an offset.
-fn read_carried(s: &[u8], c: Cursor, layout: Layout, level: u64, offset: u64) -> KindAnswer
-    ensures { λ r. ⌜ kindOf r ≡ carriedField layout level offset (now (s .entry)) (c .at) ⌝ }
+fn read_carried(s: &[u8], c: Cursor, layout: Layout, level: u64, offset: u64) -> Number
+    ensures { λ r. ⌜ numberOf r ≡ each (besides offset) (carriedField layout level offset (now (s .entry)) (c .at)) ⌝ }
 {
     match layout {
         Layout::Bump => read_flagged(s, c, level, offset),
-        Layout::Cmp => read_kind(s, c, 0),
+        Layout::Cmp => skip_kind(s, c, 0, offset),
     }
 }
 
+// A leaf, by its offset.
 fn read_leaf(
     s: &[u8],
     c: Cursor,
     layout: Layout,
     level: u64,
     greatest: u64,
-    seen: &[u64],
+    seen: &[u32],
     top: u64,
-) -> LeafAnswer
-    requires { ⌜ ((x : ℕ) → top < x → holds x (now seen) ≡ false) ⌝ }
-    ensures { λ r. ⌜ leafOf r ≡ leafField layout (greatest + 1) level (now (seen .entry)) (now (s .entry)) (c .at) ⌝ }
+) -> Number
+    requires { ⌜ (greatest < 4294967296) × ((x : ℕ) → top < x → holds x (now seen) ≡ false) ⌝ }
+    ensures { λ r. ⌜ numberOf r ≡ each offsetOf (leafField layout (greatest + 1) level (now (seen .entry)) (now (s .entry)) (c .at)) ⌝ }
 {
     let first = read_offset(s, c, greatest, seen, top);
     let Number::Value(offset, second_at) = first else {
-        return LeafAnswer::Refused(first.refusal());
+        return first;
     };
-    let second = read_carried(s, second_at, layout, level, offset);
-    let KindAnswer::Value(kind, next) = second else {
-        return LeafAnswer::Refused(second.refusal());
-    };
-    LeafAnswer::Value(Leaf { offset, kind }, next)
+    read_carried(s, second_at, layout, level, offset)
 }
 
 fn larger(a: u64, b: u64) -> u64
@@ -219,7 +246,7 @@ fn larger(a: u64, b: u64) -> u64
     if a < b { b } else { a }
 }
 
-// Only an offset that isn't above all before it is looked for among them, so rising offsets cost one look each.
+// Only an offset that isn't above all before it is looked for among them.
 fn read_leaves(
     s: &[u8],
     c: Cursor,
@@ -228,21 +255,61 @@ fn read_leaves(
     greatest: u64,
     count: usize,
 ) -> Number
-    requires { ⌜ count ≤ MAX-LEAVES ⌝ }
+    requires { ⌜ (greatest < 4294967296) × (count ≤ MAX-LEAVES) ⌝ }
     ensures { λ r. ⌜ numberOf r ≡ each length (leafFields layout (greatest + 1) level count (now (s .entry)) (c .at)) ⌝ }
 {
-    let mut seen = [0u64; Layout::MAX_LEAVES];
+    let mut seen = [0u32; Layout::MAX_LEAVES];
     let mut top: u64 = 0;
     let mut next = c;
     let mut i: usize = 0;
     while i < count {
         let field = read_leaf(s, next, layout, level, greatest, &seen[..i], top);
-        let LeafAnswer::Value(leaf, after) = field else {
-            return Number::Refused(field.refusal());
+        let Number::Value(offset, after) = field else {
+            return field;
         };
-        let offset = leaf.offset;
-        seen[i] = offset;
+        seen[i] = offset as u32;
         top = larger(top, offset);
+        next = after;
+        i += 1;
+    }
+    Number::Value(i as u64, next)
+}
+
+// A leaf, by its offset, where none was seen.
+fn read_first(s: &[u8], c: Cursor, layout: Layout, level: u64, greatest: u64) -> Number
+    ensures { λ r. ⌜ numberOf r ≡ each offsetOf (leafField layout (greatest + 1) level [] (now (s .entry)) (c .at)) ⌝ }
+{
+    let first = read_bounded(s, c, greatest);
+    let Number::Value(offset, second_at) = first else {
+        return first;
+    };
+    read_carried(s, second_at, layout, level, offset)
+}
+
+// Where offsets rise, none can be a repeated one and none is kept. Other leaves are read again from the first.
+fn read_rising(
+    s: &[u8],
+    c: Cursor,
+    layout: Layout,
+    level: u64,
+    greatest: u64,
+    count: usize,
+) -> Number
+    requires { ⌜ (greatest < 4294967296) × (count ≤ MAX-LEAVES) ⌝ }
+    ensures { λ r. ⌜ numberOf r ≡ each length (leafFields layout (greatest + 1) level count (now (s .entry)) (c .at)) ⌝ }
+{
+    let mut least: u64 = 0;
+    let mut next = c;
+    let mut i: usize = 0;
+    while i < count {
+        let field = read_first(s, next, layout, level, greatest);
+        let Number::Value(offset, after) = field else {
+            return read_leaves(s, c, layout, level, greatest, count);
+        };
+        if offset < least {
+            return read_leaves(s, c, layout, level, greatest, count);
+        }
+        least = offset + 1;
         next = after;
         i += 1;
     }
@@ -251,6 +318,7 @@ fn read_leaves(
 
 // A level: the answer is how many leaves it has.
 fn read_level(s: &[u8], c: Cursor, layout: Layout, level: u64, greatest: u64) -> Number
+    requires { ⌜ greatest < 4294967296 ⌝ }
     ensures { λ r. ⌜ numberOf r ≡ each length (levelField layout (greatest + 1) level (now (s .entry)) (c .at)) ⌝ }
 {
     let at = c.at;
@@ -264,7 +332,7 @@ fn read_level(s: &[u8], c: Cursor, layout: Layout, level: u64, greatest: u64) ->
             place: at,
         });
     }
-    read_leaves(s, next, layout, level, greatest, count as usize)
+    read_rising(s, next, layout, level, greatest, count as usize)
 }
 
 fn power(n: u64) -> u64
@@ -295,7 +363,7 @@ pub(crate) fn level_in_turn(layout: Layout, height: u64, i: u64) -> u64
 }
 
 fn read_in_turn(s: &[u8], c: Cursor, layout: Layout, height: u64, i: u64) -> Number
-    requires { ⌜ (i < height) × (height ≤ 64) ⌝ }
+    requires { ⌜ (i < height) × (height ≤ 32) ⌝ }
     ensures { λ r. ⌜ numberOf r ≡ each length (levelInTurn layout height i (now (s .entry)) (c .at)) ⌝ }
 {
     let level = level_in_turn(layout, height, i);
@@ -304,7 +372,7 @@ fn read_in_turn(s: &[u8], c: Cursor, layout: Layout, height: u64, i: u64) -> Num
 
 // The levels of a tree: the answer is how many leaves they have.
 pub(crate) fn read_levels(s: &[u8], c: Cursor, layout: Layout, height: u64) -> Number
-    requires { ⌜ height ≤ 64 ⌝ }
+    requires { ⌜ height ≤ 32 ⌝ }
     ensures { λ r. ⌜ numberOf r ≡ each total (levelFields layout height (now (s .entry)) (c .at)) ⌝ }
 {
     let mut leaves: u64 = 0;

@@ -2,6 +2,8 @@ use borrow.Author.Needs.{needs}
 use Rattle.format.specs.Level.{kindField, carriedField}
 use Rattle.format.proofs.level.read_carried.Statement.{statement}
 use Rattle.format.proofs.level.read_carried.Tie as tie
+use Rattle.format.proofs.level.read_flagged.Reads as read-flagged-reads
+use Rattle.format.proofs.level.skip_kind.Reads as skip-kind-reads
 
 enum-told : tie.Need-enum-told
 enum-told c = search needs
@@ -12,17 +14,17 @@ read-flagged-requires c κs = search needs
 enum-told-2 : tie.Need-enum-told-2
 enum-told-2 c = search needs
 
-read-kind-requires : tie.Need-read-kind-requires
-read-kind-requires c κs = search needs
+skip-kind-requires : tie.Need-skip-kind-requires
+skip-kind-requires c κs = search needs
 
 returns : tie.Need-returns
 returns c = rw (c .before .enum-told .given .1) (c .read-flagged .ensures)
 
 returns-2 : tie.Need-returns-2
-unfolding carriedField kindField
-returns-2 c = rw (c .before .enum-told2 .given .1) (c .read-kind .ensures)
+unfolding kindField carriedField
+returns-2 c = rw (c .before .enum-told2 .given .1) (c .skip-kind .ensures)
 
 pub read-carried-spec : {M : Type 1} → statement M
 read-carried-spec =
     tie.close
-    (tie.spec enum-told read-flagged-requires enum-told-2 read-kind-requires returns returns-2)
+    (tie.spec enum-told read-flagged-requires enum-told-2 skip-kind-requires returns returns-2)

@@ -1,26 +1,26 @@
 use borrow.Author.Needs.{needs}
 use native.Mathlib.Omega.{arith}
-use Rattle.format.specs.ParseLaws.{count-start, count-step, count-refused, count-done, answered}
-use Rattle.format.specs.LevelLaws.{none-above}
-use Rattle.format.specs.Parse.{each, many}
-use Rattle.format.specs.Level.{holds, leafField, leafFields, andOffset}
-use Rattle.format.specs.LevelAnswer.{leafOf}
-use mathlib.Core.List.{[], _∷_, _++_}
 use native.Mathlib.Numerals.{add-one}
-use lib.ListN.{length-set}
-use lib.Seq.{length-take-le, take-suc-set}
 use mathlib.Core.Path.{_≡_, refl, sym, _∙_}
-use Prim.Native.Nat.{ℕ, _≤_, _<_, _-_, _+_}
 use mathlib.Core.Bool.{false}
-use lib.ListN.{length, take, set}
+use mathlib.Core.List.{[], _∷_, _++_}
+use Prim.Native.Nat.{ℕ, _≤_, _<_, _-_, _+_}
+use lib.ListN.{length, take, set, length-set}
+use lib.Seq.{length-take-le, take-suc-set}
+use Rattle.format.specs.FieldAnswer.{numberOf}
+use Rattle.format.specs.Parse.{each, many}
+use Rattle.format.specs.ParseLaws.{answered, count-start, count-done}
+use Rattle.format.specs.Level.{holds, leafField, leafFields, andOffset}
+use Rattle.format.specs.LevelLaws.{none-above}
+use Rattle.format.specs.StepLaws.{leaf-below, leaves-step, leaves-refused}
 use Rattle.format.proofs.level.read_leaves.Statement.{statement}
 use Rattle.format.proofs.level.read_leaves.Tie as tie
+use Rattle.format.proofs.level.larger.Reads as larger-reads
+use Rattle.format.proofs.level.read_leaf.Reads as read-leaf-reads
 
 abbrev Inv-loop : tie.InvT-loop
 Inv-loop s layout level greatest count seen₀ top₀ next₀ i₀ seen top next i =
-    (i ≤ count) × (length seen ≡ 1024) × ((x : ℕ) → top < x → holds x (take i seen) ≡ false)
-    × (each length (leafFields layout (greatest + 1) level count s (next₀ .at))
-    ≡ each (λ l. i + length l) (many (leafField layout (greatest + 1) level) andOffset (count - i) (take i seen) s (next .at)))
+    (i ≤ count) × (length seen ≡ 1024) × ((x : ℕ) → top < x → holds x (take i seen) ≡ false) × (each length (leafFields layout (greatest + 1) level count s (next₀ .at)) ≡ each (λ l. i + length l) (many (leafField layout (greatest + 1) level) andOffset (count - i) (take i seen) s (next .at)))
 
 abbrev μ-loop : tie.MeasureT-loop
 μ-loop s layout level greatest count seen₀ top₀ next₀ i₀ seen top next i = count - i
@@ -36,7 +36,7 @@ slice-aggregate-read-leaf : tie.Need-slice-aggregate-read-leaf Inv-loop μ-loop
 slice-aggregate-read-leaf c = sym (length-take-le _ _ (omega arith))
 
 read-leaf-requires : tie.Need-read-leaf-requires Inv-loop μ-loop
-read-leaf-requires c κs = c .before .before .loop .inv .2
+read-leaf-requires c κs = (c .before .before .before .before .pre .0, c .before .before .loop .inv .2)
 
 enum-known-field : tie.Need-enum-known-field Inv-loop μ-loop
 enum-known-field c = search needs
@@ -44,13 +44,13 @@ enum-known-field c = search needs
 enum-told : tie.Need-enum-told Inv-loop μ-loop
 enum-told c = search needs
 
-refusal-requires : tie.Need-refusal-requires Inv-loop μ-loop
-refusal-requires c κs = search needs
-
 returns : tie.Need-returns Inv-loop μ-loop
 returns c =
-    rw (c .refusal .ensures, c .before .enum-told .given .1)
-    (sym (c .before .before .before .before .before .before .loop .inv .3 ∙ count-refused _ _ _ _ _ _ _ (omega arith) (answered leafOf (c .before .before .before .read-leaf .ensures) (c .before .enum-told .given .1))))
+    rw (c .enum-told .given .1) (sym (c .before .before .before .before .before .loop .inv .3 ∙ leaves-refused _ _ _ _ _ _ _ _ (omega arith) (answered numberOf (c .before .before .read-leaf .ensures) (c .enum-told .given .1))))
+
+cast-seen : tie.Need-cast-seen Inv-loop μ-loop
+cast-seen c =
+    let b = leaf-below _ _ _ _ _ _ (answered numberOf (c .before .before .before .read-leaf .ensures) (c .before .field .given .1)) in omega arith
 
 mul-seen : tie.Need-mul-seen Inv-loop μ-loop
 mul-seen c = search needs
@@ -69,14 +69,13 @@ loop-less c = search needs
 
 loop-again : tie.Need-loop-again Inv-loop μ-loop
 loop-again c =
-    let i = c .before .before .before .before .before .before .before .loop .i in
-    let seen = c .before .before .before .before .before .before .before .loop .seen in
-    let o = c .before .before .field .given .0 .0 .offset in
-    let grown : take (i + 1) (set seen i o) ≡ take i seen ++ (o ∷ []) = rw add-one (take-suc-set seen i o (omega arith)) in (
+    let l = c .before .before .before .before .before .before .before .loop in
+    let o = c .before .before .field .given .0 .0 in
+    let grown : take (l .i + 1) (set (l .seen) (l .i) o) ≡ take (l .i) (l .seen) ++ (o ∷ []) = rw add-one (take-suc-set (l .seen) (l .i) o (omega arith)) in (
       omega arith,
       simp length-set (omega arith),
-      rw grown (none-above _ _ _ _ (c .before .before .before .before .before .before .before .loop .inv .2) (c .larger .ensures .0) (c .larger .ensures .1)),
-      c .before .before .before .before .before .before .before .loop .inv .3 ∙ rw grown (count-step _ _ _ _ i _ _ (omega arith) (answered leafOf (c .before .before .before .before .read-leaf .ensures) (c .before .before .field .given .1))),
+      rw grown (none-above _ _ _ _ (l .inv .2) (c .larger .ensures .0) (c .larger .ensures .1)),
+      l .inv .3 ∙ rw grown (leaves-step _ _ _ _ _ (l .i) _ _ (omega arith) (answered numberOf (c .before .before .before .before .read-leaf .ensures) (c .before .before .field .given .1))),
     )
 
 returns-2 : tie.Need-returns-2 Inv-loop μ-loop
@@ -94,8 +93,8 @@ read-leaves-spec =
     read-leaf-requires
     enum-known-field
     enum-told
-    refusal-requires
     returns
+    cast-seen
     mul-seen
     array-write-seen
     larger-requires

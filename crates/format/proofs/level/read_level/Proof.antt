@@ -25,12 +25,12 @@ returns-2 : tie.Need-returns-2
 unfolding each levelField
 returns-2 c = simp (answered numberOf (c .before .before .before .before .read-varint .ensures) (c .before .before .field .given .1), lt-leb _ _ (c .if1 .taken))
 
-read-leaves-requires : tie.Need-read-leaves-requires
-read-leaves-requires c κs = search needs
+read-rising-requires : tie.Need-read-rising-requires
+read-rising-requires c κs = search needs
 
 returns-3 : tie.Need-returns-3
 unfolding each levelField
-returns-3 c = c .read-leaves .ensures ∙ simp (answered numberOf (c .before .before .before .before .before .read-varint .ensures) (c .before .before .before .field .given .1), le-leb _ _ (c .before .if1 .left))
+returns-3 c = c .read-rising .ensures ∙ simp (answered numberOf (c .before .before .before .before .before .read-varint .ensures) (c .before .before .before .field .given .1), le-leb _ _ (c .before .if1 .left))
 
 pub read-level-spec : {M : Type 1} → statement M
 read-level-spec =
@@ -41,5 +41,5 @@ read-level-spec =
     enum-told
     returns
     returns-2
-    read-leaves-requires
+    read-rising-requires
     returns-3)

@@ -1,0 +1,38 @@
+use borrow.Author.Needs.{needs}
+use mathlib.Core.Path.{sym, _∙_}
+use Rattle.format.specs.FieldAnswer.{numberOf}
+use Rattle.format.specs.ParseLaws.{answered}
+use Rattle.format.specs.StepLaws.{leaf-refused, leaf-carried}
+use Rattle.format.proofs.level.read_first.Statement.{statement}
+use Rattle.format.proofs.level.read_first.Tie as tie
+use Rattle.format.proofs.level.read_bounded.Reads as read-bounded-reads
+use Rattle.format.proofs.level.read_carried.Reads as read-carried-reads
+
+read-bounded-requires : tie.Need-read-bounded-requires
+read-bounded-requires c κs = search needs
+
+enum-known-first : tie.Need-enum-known-first
+enum-known-first c = search needs
+
+enum-told : tie.Need-enum-told
+enum-told c = search needs
+
+returns : tie.Need-returns
+returns c = rw (c .enum-told .given .1) (sym (leaf-refused _ _ _ _ _ _ (answered numberOf (c .before .before .read-bounded .ensures) (c .enum-told .given .1))))
+
+read-carried-requires : tie.Need-read-carried-requires
+read-carried-requires c κs = search needs
+
+returns-2 : tie.Need-returns-2
+returns-2 c = c .read-carried .ensures ∙ sym (leaf-carried _ _ _ _ _ _ (answered numberOf (c .before .before .before .before .read-bounded .ensures) (c .before .before .first .given .1)))
+
+pub read-first-spec : {M : Type 1} → statement M
+read-first-spec =
+    tie.close
+    (tie.spec
+    read-bounded-requires
+    enum-known-first
+    enum-told
+    returns
+    read-carried-requires
+    returns-2)
