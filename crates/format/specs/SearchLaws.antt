@@ -82,6 +82,11 @@ nowhere-lesser : (a : Start) → lesser Nowhere a ≡ a
 unfolding lesser
 nowhere-lesser a = refl
 
+pub lesser-nowhere : (a : Start) → lesser a Nowhere ≡ a
+unfolding lesser
+lesser-nowhere Nowhere = refl
+lesser-nowhere (At x) = refl
+
 -- a search for the least offset that carries an id
 module _ (layout : Layout) (id : List ℕ) (s : List ℕ) where
   pub least-end : (r at : ℕ) (best : Start) → r ≡ 0 → seekId layout id r s at best ≡ best
@@ -105,11 +110,6 @@ module _ (layout : Layout) (id : List ℕ) (s : List ℕ) where
   lesser-assoc (At x) Nowhere c = refl
   lesser-assoc (At x) (At y) Nowhere = refl
   lesser-assoc (At x) (At y) (At z) = ap At (omega arith)
-
-  lesser-nowhere : (a : Start) → lesser a Nowhere ≡ a
-  unfolding lesser
-  lesser-nowhere Nowhere = refl
-  lesser-nowhere (At x) = refl
 
   pub least-found : (n : ℕ) (at : ℕ) (best : Start) {l : List Leaf} {q : ℕ} → times (looseLeaf layout) n s at ≡ got l q → seekId layout id n s at best ≡ lesser best (leastOffset s id l)
   unfolding seekId leastOffset many

@@ -1,5 +1,5 @@
--- Laws of leaves that are passed: only their offsets are kept.
-use mathlib.Core.Path.{_≡_, refl, ap, sym, _∙_}
+-- Laws of leaves that are passed: what is kept of them, in reading and in searches.
+use mathlib.Core.Path.{_≡_, refl, ap, sym, subst, _∙_}
 use mathlib.Core.List.{List, [], _∷_, _++_}
 use mathlib.Core.Bool.{Bool, true, false, not, _||_, or-false}
 use Prim.Native.Nat.{ℕ, _+_, _-_, _≤_, _<_}
@@ -7,18 +7,29 @@ use lib.ListN.{length, getD, drop}
 use lib.Dec.{ltb, eqb}
 use native.Mathlib.Omega.{arith}
 use borrow.Author.Tests.{ne-eqb, ltb-true}
+use Rattle.format.specs.declared.field.Cursor.{Cursor}
+use Rattle.format.specs.declared.field.Number.{Number}
 use Rattle.format.specs.declared.level.Layout.{Layout}
 use Rattle.format.specs.declared.level.Leaf.{Leaf}
+use Rattle.format.specs.declared.level.LeafAnswer.{LeafAnswer}
 use Rattle.format.specs.declared.level.Kind.{Kind}
 use Rattle.format.specs.declared.level.Kind.the-variants.{Plain, Client}
+use Rattle.format.specs.declared.level.Step.{Step}
+use Rattle.format.specs.declared.path.Start.{Start}
+use Rattle.format.specs.declared.path.Start.the-variants.{At}
 use Rattle.format.specs.Basics.{or-true}
 use Rattle.format.specs.Parse.{Parse, pick, given, onward, each, many, _passing_else_, got, bad}
-use Rattle.format.specs.ParseLaws.{each-got, each-bad, passing-told, onward-told, count-start, count-step, count-refused, count-done}
-use Rattle.format.specs.Field.{bytes, varint}
+use Rattle.format.specs.ParseLaws.{each-got, each-bad, passing-told, count-start, count-step, count-refused, count-done}
+use Rattle.format.specs.Bytes.{same}
+use Rattle.format.specs.Field.{bytes, byte, varint}
+use Rattle.format.specs.FieldAnswer.{numberOf}
 use Rattle.format.specs.Level.{holds, offsetField, kindField, carriedField, leafField, leafFields, andOffset}
+use Rattle.format.specs.LevelAnswer.{leafOf, refusalOfLeaf}
 use Rattle.format.specs.LevelLaws.{holds-here, holds-on, holds-end, holds-snoc, offset-fresh, kind-refused}
 use Rattle.format.specs.Refusals.{BAD-OFFSET, REPEATED}
-use Rattle.format.specs.Steps.{offsetOf, besides}
+use Rattle.format.specs.Search.{hashAt, carries, lesser, looseCarried, looseLeaf, seekId}
+use Rattle.format.specs.SearchLaws.{least-on, lesser-nowhere}
+use Rattle.format.specs.Steps.{offsetOf, besides, Above, leafWith, Tells, refusalAt}
 
 -- a scan to the end of a list that keeps what it found
 module _ (x : ℕ) (l : List ℕ) (i : ℕ) (found : Bool) where
@@ -147,3 +158,72 @@ module _ (layout : Layout) (limit level n : ℕ) (s : List ℕ) where
   pub risen-done : (total : Parse ℕ) (i least at : ℕ) → n ≤ i → Risen layout limit level n s total i least at → total ≡ got i at
   unfolding Risen
   risen-done total i least at h r = r .2 ∙ count-done (leafField layout limit level) andOffset n s i (r .0) at h
+
+-- a leaf of an offset that is at least `least`
+pub above-carried : (least o : ℕ) (r : Number) (k : Parse Kind) {p : Parse ℕ} → numberOf r ≡ each (besides o) k → p ≡ each (besides o) k → least ≤ o → Above least r p
+above-carried least o (Number.Value x c) k {p} e f h =
+    let g = each-got (besides o) k (sym e) .2 in
+    (f ∙ sym e, low x g)
+  where
+    low : (x : ℕ) → o ≡ x → least ≤ x
+    low x g = omega arith
+above-carried least o (Number.Refused r) k e f h = tt
+
+pub above-told : (least : ℕ) (p : Parse ℕ) {r t : Number} → Above least r p → r ≡ t → Above least t p
+above-told least p h e = subst (λ (x : Number). Above least x p) e h
+
+-- what the parts of a step tell
+module _ (flags offset : ℕ) (s : List ℕ) (at : ℕ) where
+  pub step-copy : flags ≡ 1 → leafWith offset (kindField flags s at) ≡ got (record { offset = offset; kind = Kind.Copy }) at
+  unfolding kindField
+  step-copy e = rw e
+
+  pub step-short : {n q : ℕ} → (flags ≡ 1 → ⊥) → bytes 32 s at ≡ bad n q → leafWith offset (kindField flags s at) ≡ bad n q
+  step-short h e = rw (kind-refused flags s at h e)
+
+  pub step-hash : {p : ℕ} {c : Cursor} → (flags ≡ 1 → ⊥) → bytes 32 s at ≡ got p (c .at) → Tells (Step.Hash offset p c) (leafWith offset (kindField flags s at))
+  unfolding each kindField carries
+  step-hash {p} {c} h e = rw (ne-eqb _ _ h) (either (eqb flags 0))
+    where
+      either : (b : Bool) → Tells (Step.Hash offset p c) (leafWith offset (pick b (given Plain (bytes 32)) (given Client (bytes 32)) s at))
+      either true = (Plain p, rw e, λ t id. refl)
+      either false = (Client p, rw e, λ t id. refl)
+
+module _ (offset : ℕ) (s : List ℕ) (at : ℕ) where
+  pub flagged-stuck : {n q : ℕ} → byte s at ≡ bad n q → leafWith offset (looseCarried Layout.Bump s at) ≡ bad n q
+  unfolding looseCarried
+  flagged-stuck e = rw e
+
+  pub flagged-on : {f q : ℕ} → byte s at ≡ got f q → looseCarried Layout.Bump s at ≡ kindField f s q
+  unfolding looseCarried
+  flagged-on e = rw e
+
+module _ (layout : Layout) (s : List ℕ) (at : ℕ) where
+  pub loose-stuck : {n q : ℕ} → varint s at ≡ bad n q → looseLeaf layout s at ≡ bad n q
+  unfolding looseLeaf
+  loose-stuck e = rw e
+
+  pub loose-on : {o q : ℕ} → varint s at ≡ got o q → looseLeaf layout s at ≡ leafWith o (looseCarried layout s q)
+  unfolding looseLeaf
+  loose-on e = rw e
+
+pub tells-as : (x : Parse Leaf) {r t : Step} → Tells r x → r ≡ t → Tells t x
+tells-as x h e = subst (λ (y : Step). Tells y x) e h
+
+pub refusal-read : (r : LeafAnswer) {p : Parse Leaf} → leafOf r ≡ p → refusalOfLeaf r ≡ refusalAt p
+refusal-read (LeafAnswer.Value v c) e = rw (← e)
+refusal-read (LeafAnswer.Refused r) e = rw (← e)
+
+-- a search for the least offset that carries an id passes a leaf
+module _ (layout : Layout) (id : List ℕ) (s : List ℕ) (r r′ at : ℕ) (best : Start) (h : r ≡ r′ + 1) where
+  pub least-hash : (after : Start) (p : ℕ) {o : ℕ} {c : Cursor} → Tells (Step.Hash o p c) (looseLeaf layout s at) → same (hashAt s p) id ≡ true → after ≡ lesser best (At o)
+      → seekId layout id r s at best ≡ seekId layout id r′ s (c .at) after
+  least-hash after p t e f = least-on layout id s r r′ at best after h (t .1) (rw (t .2 s id ∙ e) f)
+
+  pub least-other : (p : ℕ) {o : ℕ} {c : Cursor} → Tells (Step.Hash o p c) (looseLeaf layout s at) → same (hashAt s p) id ≡ false
+      → seekId layout id r s at best ≡ seekId layout id r′ s (c .at) best
+  least-other p t e = least-on layout id s r r′ at best best h (t .1) (rw (t .2 s id ∙ e) (sym (lesser-nowhere best)))
+
+  pub least-copy : {o : ℕ} {c : Cursor} → Tells (Step.Copy o c) (looseLeaf layout s at) → seekId layout id r s at best ≡ seekId layout id r′ s (c .at) best
+  unfolding carries
+  least-copy t = least-on layout id s r r′ at best best h t (sym (lesser-nowhere best))

@@ -3,18 +3,19 @@ ghost use mathlib.Core.Path.{_≡_};
 ghost use Rattle.format.specs.Bytes.{same, setHash};
 ghost use Rattle.format.specs.Search.{hashAt};
 
-// Whether two hashes are the same 32 bytes.
+// Whether two hashes are the same 32 bytes. All are compared, whatever the first ones are, so that many are at once.
 pub fn same_bytes(a: [u8; 32], b: [u8; 32]) -> bool
     ensures { λ r. ⌜ r ≡ same a b ⌝ }
 {
+    let mut same = true;
     let mut i = 0;
     while i < 32 {
         if a[i] != b[i] {
-            return false;
+            same = false;
         }
         i += 1;
     }
-    true
+    same
 }
 
 // The 32 bytes of s from a place; zeros where they aren't all there.

@@ -19,7 +19,7 @@ ghost use Rattle.format.specs.Parse.{each, times};
 ghost use Rattle.format.specs.FieldAnswer.{numberOf, runOf};
 ghost use Rattle.format.specs.Refusals.{MAX-LEAVES};
 ghost use Rattle.format.specs.Level.{holds, offsetField, flagField, flagAllowed, kindField, carriedField, leafField, leafFields, levelField, written, levelInTurn, levelFields, total};
-ghost use Rattle.format.specs.Steps.{offsetOf, besides};
+ghost use Rattle.format.specs.Steps.{offsetOf, besides, Above, leafWith, Tells, refusalAt};
 ghost use Rattle.format.specs.LevelAnswer.{kindOf, leafOf, refusalOfKind, refusalOfLeaf};
 ghost use Rattle.format.specs.Search.{looseCarried, looseLeaf, looseLevel};
 
@@ -275,14 +275,21 @@ fn read_leaves(
     Number::Value(i as u64, next)
 }
 
-// A leaf, by its offset, where none was seen.
-fn read_first(s: &[u8], c: Cursor, layout: Layout, level: u64, greatest: u64) -> Number
-    ensures { λ r. ⌜ numberOf r ≡ each offsetOf (leafField layout (greatest + 1) level [] (now (s .entry)) (c .at)) ⌝ }
+// A leaf, by its offset, which is to be `least` or above; a refusal says only that it isn't such a leaf.
+fn read_above(s: &[u8], c: Cursor, layout: Layout, level: u64, greatest: u64, least: u64) -> Number
+    ensures { λ r. ⌜ Above least r (each offsetOf (leafField layout (greatest + 1) level [] (now (s .entry)) (c .at))) ⌝ }
 {
+    let at = c.at;
     let first = read_bounded(s, c, greatest);
     let Number::Value(offset, second_at) = first else {
         return first;
     };
+    if offset < least {
+        return Number::Refused(Refusal {
+            number: REPEATED,
+            place: at,
+        });
+    }
     read_carried(s, second_at, layout, level, offset)
 }
 
@@ -302,13 +309,10 @@ fn read_rising(
     let mut next = c;
     let mut i: usize = 0;
     while i < count {
-        let field = read_first(s, next, layout, level, greatest);
+        let field = read_above(s, next, layout, level, greatest, least);
         let Number::Value(offset, after) = field else {
             return read_leaves(s, c, layout, level, greatest, count);
         };
-        if offset < least {
-            return read_leaves(s, c, layout, level, greatest, count);
-        }
         least = offset + 1;
         next = after;
         i += 1;
@@ -424,18 +428,77 @@ pub fn leaf_at(s: &[u8], c: Cursor, layout: Layout) -> LeafAnswer
     LeafAnswer::Value(Leaf { offset, kind }, next)
 }
 
+// What a search looks at in a leaf: its offset, the place of its 32 bytes if it isn't a copy, and the cursor after it.
+pub(crate) enum Step {
+    Hash(u64, usize, Cursor),
+    Copy(u64, Cursor),
+    Stuck,
+}
+
+fn step_kind(s: &[u8], c: Cursor, flags: u64, offset: u64) -> Step
+    ensures { λ r. ⌜ Tells r (leafWith offset (kindField flags (now (s .entry)) (c .at))) ⌝ }
+{
+    if flags == 1 {
+        return Step::Copy(offset, c);
+    }
+    let field = read_run(s, c, 32);
+    let Run::Value(place, next) = field else {
+        return Step::Stuck;
+    };
+    Step::Hash(offset, place, next)
+}
+
+fn step_flagged(s: &[u8], c: Cursor, offset: u64) -> Step
+    ensures { λ r. ⌜ Tells r (leafWith offset (looseCarried Layout.Bump (now (s .entry)) (c .at))) ⌝ }
+{
+    let first = one_byte(s, c);
+    let Number::Value(flags, next) = first else {
+        return Step::Stuck;
+    };
+    step_kind(s, next, flags, offset)
+}
+
+fn step_carried(s: &[u8], c: Cursor, layout: Layout, offset: u64) -> Step
+    ensures { λ r. ⌜ Tells r (leafWith offset (looseCarried layout (now (s .entry)) (c .at))) ⌝ }
+{
+    match layout {
+        Layout::Bump => step_flagged(s, c, offset),
+        Layout::Cmp => step_kind(s, c, 0, offset),
+    }
+}
+
+// A leaf of a level that was read before, as a search passes it.
+pub(crate) fn pass_leaf(s: &[u8], c: Cursor, layout: Layout) -> Step
+    ensures { λ r. ⌜ Tells r (looseLeaf layout (now (s .entry)) (c .at)) ⌝ }
+{
+    let first = read_varint(s, c);
+    let Number::Value(offset, next) = first else {
+        return Step::Stuck;
+    };
+    step_carried(s, next, layout, offset)
+}
+
+// The refusal of a leaf that can't be read.
+fn unread_leaf(s: &[u8], c: Cursor, layout: Layout) -> Number
+    ensures { λ r. ⌜ r ≡ Number.Refused (refusalAt (looseLeaf layout (now (s .entry)) (c .at))) ⌝ }
+{
+    let field = leaf_at(s, c, layout);
+    Number::Refused(field.refusal())
+}
+
 fn skip_leaves(s: &[u8], c: Cursor, layout: Layout, count: u64) -> Number
     ensures { λ r. ⌜ numberOf r ≡ each length (times (looseLeaf layout) count (now (s .entry)) (c .at)) ⌝ }
 {
     let mut next = c;
     let mut i: u64 = 0;
     while i < count {
-        let field = leaf_at(s, next, layout);
-        let LeafAnswer::Value(_, after) = field else {
-            return Number::Refused(field.refusal());
-        };
-        next = after;
+        let step = pass_leaf(s, next, layout);
         i += 1;
+        match step {
+            Step::Hash(_, _, after) => next = after,
+            Step::Copy(_, after) => next = after,
+            Step::Stuck => return unread_leaf(s, next, layout),
+        }
     }
     Number::Value(i, next)
 }

@@ -10,16 +10,18 @@ use super::field::read_varint;
 use super::level::Kind;
 use super::level::KindAnswer;
 use super::level::Layout;
-use super::level::Leaf;
 use super::level::LeafAnswer;
+use super::level::Step;
 use super::level::leaf_at;
 use super::level::level_in_turn;
+use super::level::pass_leaf;
 use super::level::skip_level;
 use super::node::read_node;
 use super::tsc::TscHead;
 ghost use mathlib.Core.Path.{_≡_};
 ghost use Prim.Native.Nat.{_≤_};
-ghost use Rattle.format.specs.Search.{carries, carrying, lesser, seek, leafOfLevel, seekId, startOfLevel};
+ghost use Rattle.format.specs.Search.{lesser, looseLeaf, seek, leafOfLevel, seekId, startOfLevel};
+ghost use Rattle.format.specs.Steps.{kindThere};
 ghost use Rattle.format.specs.FieldAnswer.{runOf};
 ghost use Rattle.format.specs.Path.{nodeAt, leafIn, startIn, LAYERS, places, layersOf, bumpPathOf, cmpPathOf};
 ghost use Rattle.format.specs.TscPath.{nodePlaceField, nodePlaces, tscPathOf};
@@ -52,23 +54,40 @@ pub enum Start {
     Nowhere,
 }
 
+fn kind_at(s: &[u8], c: Cursor, layout: Layout) -> Found
+    ensures { λ r. ⌜ r ≡ kindThere (looseLeaf layout (now (s .entry)) (c .at)) ⌝ }
+{
+    let field = leaf_at(s, c, layout);
+    let LeafAnswer::Value(leaf, _) = field else {
+        return Found::Missing;
+    };
+    let kind = leaf.kind;
+    Found::Here(kind)
+}
+
 fn seek_leaf(s: &[u8], c: Cursor, layout: Layout, count: u64, position: u64) -> Found
     ensures { λ r. ⌜ r ≡ seek layout position count (now (s .entry)) (c .at) ⌝ }
 {
     let mut next = c;
     let mut i: u64 = 0;
     while i < count {
-        let field = leaf_at(s, next, layout);
-        let LeafAnswer::Value(leaf, after) = field else {
-            return Found::Missing;
-        };
-        let offset = leaf.offset;
-        if offset == position {
-            let kind = leaf.kind;
-            return Found::Here(kind);
-        }
-        next = after;
+        let step = pass_leaf(s, next, layout);
         i += 1;
+        match step {
+            Step::Hash(offset, _, after) => {
+                if offset == position {
+                    return kind_at(s, next, layout);
+                }
+                next = after;
+            }
+            Step::Copy(offset, after) => {
+                if offset == position {
+                    return Found::Here(Kind::Copy);
+                }
+                next = after;
+            }
+            Step::Stuck => return Found::Missing,
+        }
     }
     Found::Missing
 }
@@ -114,16 +133,6 @@ pub fn find(s: &[u8], path: Path, layer: usize, position: u64) -> Found
     }
 }
 
-fn carries_id(s: &[u8], kind: Kind, id: [u8; 32]) -> bool
-    ensures { λ r. ⌜ r ≡ carries (now (s .entry)) id kind ⌝ }
-{
-    match kind {
-        Kind::Plain(place) => same_bytes(hash_at(s, place), id),
-        Kind::Copy => false,
-        Kind::Client(place) => same_bytes(hash_at(s, place), id),
-    }
-}
-
 fn lesser_of(a: Start, b: Start) -> Start
     ensures { λ r. ⌜ r ≡ lesser a b ⌝ }
 {
@@ -136,17 +145,6 @@ fn lesser_of(a: Start, b: Start) -> Start
     if x < y { a } else { b }
 }
 
-fn start_of(s: &[u8], leaf: Leaf, id: [u8; 32]) -> Start
-    ensures { λ r. ⌜ r ≡ carrying (now (s .entry)) id leaf ⌝ }
-{
-    let kind = leaf.kind;
-    if carries_id(s, kind, id) {
-        Start::At(leaf.offset)
-    } else {
-        Start::Nowhere
-    }
-}
-
 fn seek_id(s: &[u8], c: Cursor, layout: Layout, count: u64, id: [u8; 32]) -> Start
     ensures { λ r. ⌜ r ≡ seekId layout id count (now (s .entry)) (c .at) Start.Nowhere ⌝ }
 {
@@ -154,13 +152,18 @@ fn seek_id(s: &[u8], c: Cursor, layout: Layout, count: u64, id: [u8; 32]) -> Sta
     let mut next = c;
     let mut i: u64 = 0;
     while i < count {
-        let field = leaf_at(s, next, layout);
-        let LeafAnswer::Value(leaf, after) = field else {
-            return Start::Nowhere;
-        };
-        best = lesser_of(best, start_of(s, leaf, id));
-        next = after;
+        let step = pass_leaf(s, next, layout);
         i += 1;
+        match step {
+            Step::Hash(offset, place, after) => {
+                next = after;
+                if same_bytes(hash_at(s, place), id) {
+                    best = lesser_of(best, Start::At(offset));
+                }
+            }
+            Step::Copy(_, after) => next = after,
+            Step::Stuck => return Start::Nowhere,
+        }
     }
     best
 }

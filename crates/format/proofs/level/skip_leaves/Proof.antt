@@ -3,12 +3,14 @@ use native.Mathlib.Omega.{arith}
 use mathlib.Core.Path.{_≡_, sym, _∙_}
 use Prim.Native.Nat.{_≤_, _-_, _+_}
 use lib.ListN.{length}
-use Rattle.format.specs.LevelAnswer.{leafOf}
 use Rattle.format.specs.Parse.{each, times}
-use Rattle.format.specs.ParseLaws.{answered, count-start, count-step, count-refused, count-done}
+use Rattle.format.specs.ParseLaws.{count-start, count-step, count-refused, count-done}
 use Rattle.format.specs.Search.{looseLeaf}
+use Rattle.format.specs.StepLaws.{tells-as}
 use Rattle.format.proofs.level.skip_leaves.Statement.{statement}
 use Rattle.format.proofs.level.skip_leaves.Tie as tie
+use Rattle.format.proofs.level.pass_leaf.Reads as pass-leaf-reads
+use Rattle.format.proofs.level.unread_leaf.Reads as unread-leaf-reads
 
 abbrev Inv-loop : tie.InvT-loop
 Inv-loop s layout count next₀ i₀ next i =
@@ -20,32 +22,41 @@ abbrev μ-loop : tie.MeasureT-loop
 loop-holds : tie.Need-loop-holds Inv-loop μ-loop
 loop-holds c = (omega arith, count-start _ _ _ _ _ _)
 
-leaf-at-requires : tie.Need-leaf-at-requires Inv-loop μ-loop
-leaf-at-requires c κs = search needs
-
-enum-known-field : tie.Need-enum-known-field Inv-loop μ-loop
-enum-known-field c = search needs
-
-enum-told : tie.Need-enum-told Inv-loop μ-loop
-enum-told c = search needs
-
-refusal-requires : tie.Need-refusal-requires Inv-loop μ-loop
-refusal-requires c κs = search needs
-
-returns : tie.Need-returns Inv-loop μ-loop
-returns c =
-    rw (c .refusal .ensures, c .before .enum-told .given .1)
-    (sym (c .before .before .before .before .before .loop .inv .1 ∙ count-refused _ _ _ _ _ _ _ (c .before .before .before .before .loop-test .taken) (answered leafOf (c .before .before .before .leaf-at .ensures) (c .before .enum-told .given .1))))
+pass-leaf-requires : tie.Need-pass-leaf-requires Inv-loop μ-loop
+pass-leaf-requires c κs = search needs
 
 add-i : tie.Need-add-i Inv-loop μ-loop
 add-i c = search needs
+
+enum-known-step : tie.Need-enum-known-step Inv-loop μ-loop
+enum-known-step c = search needs
 
 loop-less : tie.Need-loop-less Inv-loop μ-loop
 loop-less c = search needs
 
 loop-again : tie.Need-loop-again Inv-loop μ-loop
 loop-again c =
-    (omega arith, c .before .before .before .before .before .loop .inv .1 ∙ count-step _ _ _ _ _ _ _ (c .before .before .before .before .loop-test .taken) (answered leafOf (c .before .before .before .leaf-at .ensures) (c .before .field .given .1)))
+    let t = tells-as _ (c .before .before .before .pass-leaf .ensures) (c .before .step .given .1) in (omega arith, c .before .before .before .before .before .loop .inv .1 ∙ count-step _ _ _ _ _ _ _ (c .before .before .before .before .loop-test .taken) (t .1))
+
+enum-known-step-2 : tie.Need-enum-known-step-2 Inv-loop μ-loop
+enum-known-step-2 c = search needs
+
+loop-less-2 : tie.Need-loop-less-2 Inv-loop μ-loop
+loop-less-2 c = search needs
+
+loop-again-2 : tie.Need-loop-again-2 Inv-loop μ-loop
+loop-again-2 c =
+    let t = tells-as _ (c .before .before .before .pass-leaf .ensures) (c .before .step2 .given .1) in (omega arith, c .before .before .before .before .before .loop .inv .1 ∙ count-step _ _ _ _ _ _ _ (c .before .before .before .before .loop-test .taken) t)
+
+enum-told : tie.Need-enum-told Inv-loop μ-loop
+enum-told c = search needs
+
+unread-leaf-requires : tie.Need-unread-leaf-requires Inv-loop μ-loop
+unread-leaf-requires c κs = search needs
+
+returns : tie.Need-returns Inv-loop μ-loop
+returns c =
+    let t = tells-as _ (c .before .before .before .pass-leaf .ensures) (c .before .enum-told .given .1) in rw (c .unread-leaf .ensures, t .2) (sym (c .before .before .before .before .before .loop .inv .1 ∙ count-refused _ _ _ _ _ _ _ (c .before .before .before .before .loop-test .taken) (t .2)))
 
 returns-2 : tie.Need-returns-2 Inv-loop μ-loop
 returns-2 c = sym (c .before .loop .inv .1 ∙ count-done _ _ _ _ _ _ _ (c .loop-test .left))
@@ -57,12 +68,15 @@ skip-leaves-spec =
     Inv-loop
     μ-loop
     loop-holds
-    leaf-at-requires
-    enum-known-field
-    enum-told
-    refusal-requires
-    returns
+    pass-leaf-requires
     add-i
+    enum-known-step
     loop-less
     loop-again
+    enum-known-step-2
+    loop-less-2
+    loop-again-2
+    enum-told
+    unread-leaf-requires
+    returns
     returns-2)

@@ -1,10 +1,10 @@
 use borrow.Author.Needs.{needs}
-use mathlib.Core.Path.{sym, _∙_}
+use mathlib.Core.Path.{sym}
 use Rattle.format.specs.FieldAnswer.{numberOf}
 use Rattle.format.specs.ParseLaws.{answered}
-use Rattle.format.specs.StepLaws.{leaf-refused, leaf-carried}
-use Rattle.format.proofs.level.read_first.Statement.{statement}
-use Rattle.format.proofs.level.read_first.Tie as tie
+use Rattle.format.specs.StepLaws.{leaf-carried, above-carried}
+use Rattle.format.proofs.level.read_above.Statement.{statement}
+use Rattle.format.proofs.level.read_above.Tie as tie
 use Rattle.format.proofs.level.read_bounded.Reads as read-bounded-reads
 use Rattle.format.proofs.level.read_carried.Reads as read-carried-reads
 
@@ -18,21 +18,26 @@ enum-told : tie.Need-enum-told
 enum-told c = search needs
 
 returns : tie.Need-returns
-returns c = rw (c .enum-told .given .1) (sym (leaf-refused _ _ _ _ _ _ (answered numberOf (c .before .before .read-bounded .ensures) (c .enum-told .given .1))))
+returns c = rw (c .enum-told .given .1) tt
+
+returns-2 : tie.Need-returns-2
+returns-2 c = search needs
 
 read-carried-requires : tie.Need-read-carried-requires
 read-carried-requires c κs = search needs
 
-returns-2 : tie.Need-returns-2
-returns-2 c = c .read-carried .ensures ∙ sym (leaf-carried _ _ _ _ _ _ (answered numberOf (c .before .before .before .before .read-bounded .ensures) (c .before .before .first .given .1)))
+returns-3 : tie.Need-returns-3
+returns-3 c =
+    above-carried _ _ (c .read-carried .result) _ (c .read-carried .ensures) (leaf-carried _ _ _ _ _ _ (answered numberOf (c .before .before .before .before .before .read-bounded .ensures) (c .before .before .before .first .given .1))) (c .before .if1 .left)
 
-pub read-first-spec : {M : Type 1} → statement M
-read-first-spec =
+pub read-above-spec : {M : Type 1} → statement M
+read-above-spec =
     tie.close
     (tie.spec
     read-bounded-requires
     enum-known-first
     enum-told
     returns
+    returns-2
     read-carried-requires
-    returns-2)
+    returns-3)
