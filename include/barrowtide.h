@@ -6,9 +6,10 @@
  *
  * Bytes. Ids, nodes and roots are 32 bytes in stored order; printed hex is the reverse.
  *
- * Answers. A call returns 0 if it accepts the input, and else the number of a refusal, which
- * carries one value: the place of a byte, counted from 0 at the input's first; the number of a
- * transaction, counted from 0; or 0.
+ * Answers. A call returns 0 if it accepts the input, and else the number of a refusal. What that
+ * blames goes to *blame: the value that it carries, which is the place of a byte, counted from 0 at
+ * the input's first, the number of a transaction, counted from 0, or 0; and for 14 and 15 the
+ * sibling, by its layer and its position there, both counted from 0.
  *
  * Order. Of several refusals the first in this order is given:
  *   - for a page 5, then 22;
@@ -27,9 +28,9 @@
  * Memory. A pointer that comes with a length may be null if the length is 0: it is then not
  * followed. All other pointers must be to memory of the size said, not null. What is lent by a
  * pointer to const is only read; what is lent by another must not overlap with anything else lent
- * to the same call. On a refusal *carried receives what the refusal carries and everything else
- * stays as it was, but for a lent table or row, which is zeroed. On acceptance the values are
- * written and *carried stays as it was, and so does the room past what is written.
+ * to the same call. On a refusal all three numbers of *blame are written and everything else stays
+ * as it was, but for a lent table or row, which is zeroed. On acceptance the values are written and
+ * *blame stays as it was, and so does the room past what is written.
  *
  * Stack. As built by the kit a call needs at most
  *   - 64 KiB  barrowtide_judge_beef
@@ -37,8 +38,8 @@
  *   - 32 KiB  barrowtide_compare
  *   - 24 KiB  barrowtide_prove_bump, barrowtide_prove_cmp, barrowtide_prove_page,
  *             barrowtide_check_clients
- *   - 16 KiB  barrowtide_read_bump, barrowtide_read_cmp, barrowtide_read_beef
- *   -  8 KiB  barrowtide_prove_tsc
+ *   -  8 KiB  barrowtide_read_bump, barrowtide_read_cmp, barrowtide_read_beef,
+ *             barrowtide_prove_tsc
  *   -  1 KiB  barrowtide_sha256d, barrowtide_join
  *   -  4 KiB  every other call
  * with the C library's memcpy and memset, which are all that it calls. Only the working out of a
@@ -47,15 +48,15 @@
  * Cost. Working out a sibling takes fewer joins than leaves lie under it, so one climb makes fewer
  * joins than its path has layers and leaves: fewer than 32 + n / 2 by a path of n bytes, and fewer
  * than 24,606 by any. Each node that is asked for is searched for among the leaves of its level;
- * where offsets rise this takes about as long as the joins, and else up to 17 times as long.
+ * where offsets rise this takes about as long as the joins, and else up to seven times as long.
  * Nothing is kept from one climb to the next: a page climbs once for each id, all clients once for
  * each client leaf, and a bundle once for each transaction that names a BUMP. The worst inputs
  * known, offsets in no order, on a machine where a join takes a microsecond:
- *   - one climb, by a BUMP of 150 KB that is mostly copies: 21,484 joins, 0.2 s;
+ *   - one climb, by a BUMP of 150 KB that is mostly copies: 21,484 joins, 0.1 s;
  *   - a page of 256 ids by such a BUMP, or a bundle of 170 KB with 256 transactions in it: 5.5
- *     million joins, 40 s;
- *   - all clients of a BUMP of 880 KB: 22 million joins, 3 minutes; of one of 36 KB that has 1,024
- *     clients and nothing else: 1 million joins, 3 s.
+ *     million joins, 25 s;
+ *   - all clients of a BUMP of 880 KB: 22 million joins, 90 s; of one of 36 KB that has 1,024
+ *     clients and nothing else: 1 million joins, 2 s.
  * A caller who has less time bounds the bytes that it takes, or the transactions that name a BUMP.
  */
 #ifndef BARROWTIDE_H
@@ -65,7 +66,7 @@
 #include <stdint.h>
 
 #define BARROWTIDE_VERSION_MAJOR 0
-#define BARROWTIDE_VERSION_MINOR 1
+#define BARROWTIDE_VERSION_MINOR 2
 #define BARROWTIDE_VERSION_PATCH 0
 
 /* ---- Sizes ---- */
@@ -109,8 +110,10 @@ enum barrowtide_refusal {
     BARROWTIDE_EMPTY = 12,        /* a BEEF has no transaction | count field */
     BARROWTIDE_NOT_LISTED = 13,   /* the id is not at level 0, no leaf is a client's, or no position
                                      is chosen | tx */
-    BARROWTIDE_MISSING = 14,      /* a sibling is not written and can't be worked out | tx */
-    BARROWTIDE_TWIN = 15,         /* a sibling equals the working hash at an odd position | tx */
+    BARROWTIDE_MISSING = 14,      /* a sibling is not written and can't be worked out | tx, and the
+                                     sibling that the climb needs, even if the gap is lower down */
+    BARROWTIDE_TWIN = 15,         /* a sibling equals the working hash at an odd position | tx, and
+                                     that sibling */
     BARROWTIDE_ROOTS_DIFFER = 16, /* roots of clients differ, or a TSC target is another | 0 */
     BARROWTIDE_UNTRUSTED = 17,    /* the root is not in the list | tx */
     BARROWTIDE_BAD_INDEX = 18,    /* a BUMP number is not below the count | field start */
@@ -124,6 +127,13 @@ enum barrowtide_refusal {
 };
 /* "tx": the number of the transaction where a BEEF is judged, and 0 from all other calls. Where a
    BUMP is written every refusal carries 0. */
+
+/* What a refusal blames. */
+typedef struct {
+    uint64_t carried; /* a place, the number of a transaction, or 0: see the refusals */
+    uint64_t layer;   /* of 14 and 15 the layer of the sibling that is missing or a twin; else 0 */
+    uint64_t sibling; /* of 14 and 15 that sibling's position in its layer; else 0 */
+} barrowtide_blame;
 
 /* The name of a refusal, as "SHORT" of 2; "ACCEPTED" of 0, and "UNKNOWN" of numbers above 24. */
 static inline const char *barrowtide_refusal_name(uint32_t number)
@@ -141,7 +151,7 @@ static inline const char *barrowtide_refusal_name(uint32_t number)
 /* ---- The hash ---- */
 
 /* The double SHA-256 of a message. Refused: 1. */
-uint32_t barrowtide_sha256d(const uint8_t *data, size_t len, uint64_t *carried,
+uint32_t barrowtide_sha256d(const uint8_t *data, size_t len, barrowtide_blame *blame,
                             uint8_t digest[32]);
 
 /* The parent of two nodes: the double SHA-256 of the left one's bytes, then the right one's. */
@@ -151,33 +161,33 @@ void barrowtide_join(const uint8_t left[32], const uint8_t right[32], uint8_t pa
 
 /* The VarInt at the input's start, and how many bytes it takes; what follows is not looked at.
    Refused: 1, 2, 3. */
-uint32_t barrowtide_read_varint(const uint8_t *data, size_t len, uint64_t *carried,
+uint32_t barrowtide_read_varint(const uint8_t *data, size_t len, barrowtide_blame *blame,
                                 uint64_t *value, uint64_t *width);
 
 /* A BUMP: its block height, its tree height, and the number of leaves of all its levels.
    Refused: 1; 2 to 8 in the fields; 9. */
-uint32_t barrowtide_read_bump(const uint8_t *data, size_t len, uint64_t *carried,
+uint32_t barrowtide_read_bump(const uint8_t *data, size_t len, barrowtide_blame *blame,
                               uint64_t *block_height, uint64_t *tree_height, uint64_t *leaves);
 
 /* A compound path (CMP): its tree height, one more than its first byte, and the number of leaves.
    Refused: 1; 2 to 6 and 8 in the fields; 9. */
-uint32_t barrowtide_read_cmp(const uint8_t *data, size_t len, uint64_t *carried,
+uint32_t barrowtide_read_cmp(const uint8_t *data, size_t len, barrowtide_blame *blame,
                              uint64_t *tree_height, uint64_t *leaves);
 
 /* A raw transaction: how many inputs and outputs it has, and its id.
    Refused: 1; 2, 3, 11 in the fields; 9. */
-uint32_t barrowtide_read_transaction(const uint8_t *data, size_t len, uint64_t *carried,
+uint32_t barrowtide_read_transaction(const uint8_t *data, size_t len, barrowtide_blame *blame,
                                      uint64_t *inputs, uint64_t *outputs, uint8_t id[32]);
 
 /* A TSC binary proof: its flags byte, its index, and the number of its nodes. The target is not
    compared with anything. Refused: 1; 2, 3, 5, 6, 7, 11 in the fields; 9. */
-uint32_t barrowtide_read_tsc(const uint8_t *data, size_t len, uint64_t *carried, uint64_t *flags,
-                             uint64_t *index, uint64_t *nodes);
+uint32_t barrowtide_read_tsc(const uint8_t *data, size_t len, barrowtide_blame *blame,
+                             uint64_t *flags, uint64_t *index, uint64_t *nodes);
 
 /* A BEEF bundle: how many BUMPs and transactions it has.
    Refused: 1; 2 to 8, 10 to 12 and 18 in the fields; 9. */
-uint32_t barrowtide_read_beef(const uint8_t *data, size_t len, uint64_t *carried, uint64_t *bumps,
-                              uint64_t *transactions);
+uint32_t barrowtide_read_beef(const uint8_t *data, size_t len, barrowtide_blame *blame,
+                              uint64_t *bumps, uint64_t *transactions);
 
 /* ---- Proving. The input is read as above first, with the refusals of reading. ---- */
 
@@ -188,29 +198,32 @@ uint32_t barrowtide_read_beef(const uint8_t *data, size_t len, uint64_t *carried
    repeats the working hash; below one it has the value of the node on its left.
    Refused after reading: 13, then 14 or 15. */
 uint32_t barrowtide_prove_bump(const uint8_t *data, size_t len, const uint8_t id[32],
-                               uint64_t *carried, uint64_t *position, uint64_t *layers,
+                               barrowtide_blame *blame, uint64_t *position, uint64_t *layers,
                                uint8_t root[32]);
 
 /* The same by a compound path, which has no copies. */
 uint32_t barrowtide_prove_cmp(const uint8_t *data, size_t len, const uint8_t id[32],
-                              uint64_t *carried, uint64_t *position, uint64_t *layers,
+                              barrowtide_blame *blame, uint64_t *position, uint64_t *layers,
                               uint8_t root[32]);
 
 /* Proves a TSC proof's own id, the one written or its transaction's, and gives it, too. A header or
    a root as target must hold the root. Refused after reading: 15, then 16. */
-uint32_t barrowtide_prove_tsc(const uint8_t *data, size_t len, uint64_t *carried, uint8_t id[32],
-                              uint64_t *position, uint64_t *layers, uint8_t root[32]);
+uint32_t barrowtide_prove_tsc(const uint8_t *data, size_t len, barrowtide_blame *blame,
+                              uint8_t id[32], uint64_t *position, uint64_t *layers,
+                              uint8_t root[32]);
 
 /* Climbs from every client leaf (flags 02) of a BUMP in written order, each climb as for
    barrowtide_prove_bump; all must lead to one root. This is the call that can take the longest: see
    "Cost" above. Refused after reading: 13 if there is none; leaf by leaf 14 or 15, then 16. */
-uint32_t barrowtide_check_clients(const uint8_t *data, size_t len, uint64_t *carried,
+uint32_t barrowtide_check_clients(const uint8_t *data, size_t len, barrowtide_blame *blame,
                                   uint8_t root[32]);
 
-/* What a page says of one id: a proof, or a refusal with all but the first two fields 0. */
+/* What a page says of one id: a proof, or a refusal with the last three fields 0. */
 typedef struct {
     uint64_t refusal;  /* 0 if the id is proved, else the number of its refusal */
-    uint64_t carried;  /* what that refusal carries */
+    uint64_t carried;  /* what that refusal carries; 0 if the id is proved */
+    uint64_t layer;    /* of 14 and 15 the sibling's layer; else 0 */
+    uint64_t sibling;  /* of 14 and 15 its position in that layer; else 0 */
     uint64_t position; /* the id's position in the block */
     uint64_t layers;   /* the number of layers above it */
     uint8_t root[32];  /* the Merkle root */
@@ -224,7 +237,7 @@ typedef struct {
    barrowtide_read_bump. */
 uint32_t barrowtide_prove_page(const uint8_t *data, size_t len, const uint8_t *ids,
                                size_t ids_len, barrowtide_answer *row, size_t row_len,
-                               uint64_t *carried);
+                               barrowtide_blame *blame);
 
 /* The form of a proof. Any other number is taken as BARROWTIDE_TSC. */
 enum barrowtide_form { BARROWTIDE_BUMP = 0, BARROWTIDE_CMP = 1, BARROWTIDE_TSC = 2 };
@@ -236,7 +249,7 @@ enum barrowtide_form { BARROWTIDE_BUMP = 0, BARROWTIDE_CMP = 1, BARROWTIDE_TSC =
 uint32_t barrowtide_compare(uint32_t first_form, const uint8_t *first, size_t first_len,
                             const uint8_t first_id[32], uint32_t second_form,
                             const uint8_t *second, size_t second_len, const uint8_t second_id[32],
-                            uint64_t *carried, uint8_t first_string[64],
+                            barrowtide_blame *blame, uint8_t first_string[64],
                             uint8_t second_string[64]);
 
 /* ---- Judging ---- */
@@ -251,16 +264,19 @@ typedef struct {
     uint32_t position; /* its position in the block; 0 if not anchored */
 } barrowtide_record;
 
-/* Records and answers have no padding. */
+/* Blames, records and answers have no padding. */
 #if defined(__cplusplus) && __cplusplus >= 201103L
+static_assert(sizeof(barrowtide_blame) == 24, "a blame takes 24 bytes");
 static_assert(sizeof(barrowtide_record) == 64, "a record takes 64 bytes");
-static_assert(sizeof(barrowtide_answer) == 64, "an answer takes 64 bytes");
+static_assert(sizeof(barrowtide_answer) == 80, "an answer takes 80 bytes");
 #elif defined(__STDC_VERSION__) && __STDC_VERSION__ >= 201112L
+_Static_assert(sizeof(barrowtide_blame) == 24, "a blame takes 24 bytes");
 _Static_assert(sizeof(barrowtide_record) == 64, "a record takes 64 bytes");
-_Static_assert(sizeof(barrowtide_answer) == 64, "an answer takes 64 bytes");
+_Static_assert(sizeof(barrowtide_answer) == 80, "an answer takes 80 bytes");
 #else
+typedef char barrowtide_blame_takes_24_bytes[sizeof(barrowtide_blame) == 24 ? 1 : -1];
 typedef char barrowtide_record_takes_64_bytes[sizeof(barrowtide_record) == 64 ? 1 : -1];
-typedef char barrowtide_answer_takes_64_bytes[sizeof(barrowtide_answer) == 64 ? 1 : -1];
+typedef char barrowtide_answer_takes_80_bytes[sizeof(barrowtide_answer) == 80 ? 1 : -1];
 #endif
 
 /* Judges a BEEF bundle against trusted roots, which stand end to end in roots_len bytes, possibly
@@ -272,7 +288,7 @@ typedef char barrowtide_answer_takes_64_bytes[sizeof(barrowtide_answer) == 64 ? 
    and 13, 14 or 15, 17 if it names a BUMP, or else 20. */
 uint32_t barrowtide_judge_beef(const uint8_t *data, size_t len, const uint8_t *roots,
                                size_t roots_len, barrowtide_record *table, size_t table_len,
-                               uint64_t *carried, uint64_t *transactions);
+                               barrowtide_blame *blame, uint64_t *transactions);
 
 /* ---- Writing ---- */
 
@@ -285,11 +301,12 @@ uint32_t barrowtide_judge_beef(const uint8_t *data, size_t len, const uint8_t *r
    always enough. On acceptance *written is the number of bytes, which are the first ones of out;
    the room past them stays as it was, and all of out on a refusal.
    Refused: 5 for a block height over 32 bits, for fewer or more ids or a part of one; 13 for no
-   position; 6 for one outside the list; 19 for equal ids; 15 if a climb meets a twin; 22 if the
-   bytes needed are more than out_len. */
+   position; 6 for one outside the list; 19 for equal ids; 15 if a climb meets a twin, with the
+   sibling at the lowest such layer of the least position whose climb does; 22 if the bytes needed
+   are more than out_len. */
 uint32_t barrowtide_write_bump(uint64_t block_height, const uint8_t *ids, size_t ids_len,
                                const uint64_t *positions, size_t positions_count, uint8_t *out,
-                               size_t out_len, uint64_t *carried, uint64_t *written);
+                               size_t out_len, barrowtide_blame *blame, uint64_t *written);
 
 #ifdef __cplusplus
 }

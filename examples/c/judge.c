@@ -73,6 +73,17 @@ static void print_record(uint64_t number, const barrowtide_record *record)
     printf("\n");
 }
 
+/* 14 and 15 have a sibling to blame. */
+static void print_refusal(uint32_t refusal, const barrowtide_blame *blame)
+{
+    printf("refused %u %s at %llu", (unsigned)refusal, barrowtide_refusal_name(refusal),
+           (unsigned long long)blame->carried);
+    if (refusal == BARROWTIDE_MISSING || refusal == BARROWTIDE_TWIN)
+        printf(", sibling %llu of layer %llu", (unsigned long long)blame->sibling,
+               (unsigned long long)blame->layer);
+    printf("\n");
+}
+
 static int judge(FILE *file, const uint8_t root[32])
 {
     static uint8_t bundle[BARROWTIDE_MAX_INPUT + 1];
@@ -82,13 +93,13 @@ static int judge(FILE *file, const uint8_t root[32])
         fprintf(stderr, "the bundle is not hex\n");
         return 2;
     }
-    uint64_t carried = 0, transactions = 0;
+    barrowtide_blame blame;
+    uint64_t transactions = 0;
     uint32_t refusal =
-        barrowtide_judge_beef(bundle, len, root, 32, table, BARROWTIDE_MAX_TRANSACTIONS, &carried,
+        barrowtide_judge_beef(bundle, len, root, 32, table, BARROWTIDE_MAX_TRANSACTIONS, &blame,
                               &transactions);
     if (refusal != BARROWTIDE_ACCEPTED) {
-        printf("refused %u %s at %llu\n", (unsigned)refusal, barrowtide_refusal_name(refusal),
-               (unsigned long long)carried);
+        print_refusal(refusal, &blame);
         return 1;
     }
     printf("accepted, transactions: %llu\n", (unsigned long long)transactions);

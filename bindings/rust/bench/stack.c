@@ -13,7 +13,8 @@ static const uint8_t *data, *more;
 static size_t len, more_len;
 static barrowtide_record table[BARROWTIDE_MAX_TRANSACTIONS];
 static barrowtide_answer answers[BARROWTIDE_MAX_PAGE];
-static uint64_t carried, a, b, c;
+static barrowtide_blame blame;
+static uint64_t a, b, c;
 static uint8_t id[32], root[32], first[64], second[64];
 static uint64_t positions[BARROWTIDE_MAX_IDS];
 static uint8_t out[BARROWTIDE_WRITE_ROOM];
@@ -22,51 +23,51 @@ static uint8_t out[BARROWTIDE_WRITE_ROOM];
 static volatile uint32_t refusal;
 
 static void none(void) { refusal = 0; }
-static void sha256d(void) { refusal = barrowtide_sha256d(data, len, &carried, root); }
+static void sha256d(void) { refusal = barrowtide_sha256d(data, len, &blame, root); }
 static void join(void) { barrowtide_join(data, more, root), refusal = 0; }
-static void read_varint(void) { refusal = barrowtide_read_varint(data, len, &carried, &a, &b); }
-static void read_bump(void) { refusal = barrowtide_read_bump(data, len, &carried, &a, &b, &c); }
-static void read_cmp(void) { refusal = barrowtide_read_cmp(data, len, &carried, &a, &b); }
+static void read_varint(void) { refusal = barrowtide_read_varint(data, len, &blame, &a, &b); }
+static void read_bump(void) { refusal = barrowtide_read_bump(data, len, &blame, &a, &b, &c); }
+static void read_cmp(void) { refusal = barrowtide_read_cmp(data, len, &blame, &a, &b); }
 static void read_transaction(void)
 {
-    refusal = barrowtide_read_transaction(data, len, &carried, &a, &b, id);
+    refusal = barrowtide_read_transaction(data, len, &blame, &a, &b, id);
 }
-static void read_tsc(void) { refusal = barrowtide_read_tsc(data, len, &carried, &a, &b, &c); }
-static void read_beef(void) { refusal = barrowtide_read_beef(data, len, &carried, &a, &b); }
+static void read_tsc(void) { refusal = barrowtide_read_tsc(data, len, &blame, &a, &b, &c); }
+static void read_beef(void) { refusal = barrowtide_read_beef(data, len, &blame, &a, &b); }
 static void prove_bump(void)
 {
-    refusal = barrowtide_prove_bump(data, len, more, &carried, &a, &b, root);
+    refusal = barrowtide_prove_bump(data, len, more, &blame, &a, &b, root);
 }
 static void prove_cmp(void)
 {
-    refusal = barrowtide_prove_cmp(data, len, more, &carried, &a, &b, root);
+    refusal = barrowtide_prove_cmp(data, len, more, &blame, &a, &b, root);
 }
 static void prove_tsc(void)
 {
-    refusal = barrowtide_prove_tsc(data, len, &carried, id, &a, &b, root);
+    refusal = barrowtide_prove_tsc(data, len, &blame, id, &a, &b, root);
 }
-static void check_clients(void) { refusal = barrowtide_check_clients(data, len, &carried, root); }
+static void check_clients(void) { refusal = barrowtide_check_clients(data, len, &blame, root); }
 static void prove_page(void)
 {
     refusal = barrowtide_prove_page(data, len, more, more_len, answers, BARROWTIDE_MAX_PAGE,
-                                    &carried);
+                                    &blame);
 }
 static void compare(void)
 {
     refusal = barrowtide_compare(BARROWTIDE_BUMP, data, len, more, BARROWTIDE_BUMP, data, len, more,
-                                 &carried, first, second);
+                                 &blame, first, second);
 }
 static void judge_beef(void)
 {
     refusal = barrowtide_judge_beef(data, len, more, more_len, table, BARROWTIDE_MAX_TRANSACTIONS,
-                                    &carried, &a);
+                                    &blame, &a);
 }
 static void write_bump(void)
 {
     size_t count = len / 32;
     for (size_t i = 0; i < count; i++)
         positions[i] = i;
-    refusal = barrowtide_write_bump(1, data, len, positions, count, out, sizeof out, &carried, &a);
+    refusal = barrowtide_write_bump(1, data, len, positions, count, out, sizeof out, &blame, &a);
 }
 
 #define CALL(name) {#name, name}

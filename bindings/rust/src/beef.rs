@@ -1,6 +1,6 @@
 //! BEEF, version 0100BEEF (BRC-62).
 
-use crate::ffi;
+use crate::ffi::{self, Blame};
 use crate::refusal::{answer, Refusal};
 
 /// What a well-formed BEEF bundle says.
@@ -21,7 +21,7 @@ pub struct Beef {
 /// # Ok::<(), std::io::Error>(())
 /// ```
 pub fn read_beef(data: &[u8]) -> Result<Beef, Refusal> {
-    let (mut carried, mut bumps, mut transactions) = (0, 0, 0);
-    let number = ffi::read_beef(data, &mut carried, &mut bumps, &mut transactions);
-    answer(number, carried, Beef { bumps, transactions })
+    let (mut blame, mut bumps, mut transactions) = (Blame::default(), 0, 0);
+    let number = ffi::read_beef(data, &mut blame, &mut bumps, &mut transactions);
+    answer(number, blame, Beef { bumps, transactions })
 }

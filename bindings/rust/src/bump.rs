@@ -1,6 +1,6 @@
 //! BUMP, the BSV unified Merkle path (BRC-74).
 
-use crate::ffi;
+use crate::ffi::{self, Blame};
 use crate::refusal::{answer, Refusal};
 
 /// What a well-formed BUMP says.
@@ -26,8 +26,8 @@ pub struct Bump {
 /// assert_eq!((refusal.reason, refusal.carried), (Reason::BadFlag, 4));
 /// ```
 pub fn read_bump(data: &[u8]) -> Result<Bump, Refusal> {
-    let (mut carried, mut block_height, mut tree_height, mut leaves) = (0, 0, 0, 0);
-    let number =
-        ffi::read_bump(data, &mut carried, &mut block_height, &mut tree_height, &mut leaves);
-    answer(number, carried, Bump { block_height, tree_height, leaves })
+    let (mut block_height, mut tree_height, mut leaves) = (0, 0, 0);
+    let mut blame = Blame::default();
+    let number = ffi::read_bump(data, &mut blame, &mut block_height, &mut tree_height, &mut leaves);
+    answer(number, blame, Bump { block_height, tree_height, leaves })
 }

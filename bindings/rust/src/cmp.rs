@@ -1,6 +1,6 @@
 //! CMP, the compound Merkle path (BRC-61).
 
-use crate::ffi;
+use crate::ffi::{self, Blame};
 use crate::refusal::{answer, Refusal};
 
 /// What a well-formed compound path says.
@@ -19,7 +19,7 @@ pub struct Cmp {
 /// assert_eq!(read_cmp(&[0x00, 0x00]), Ok(Cmp { tree_height: 1, leaves: 0 }));
 /// ```
 pub fn read_cmp(data: &[u8]) -> Result<Cmp, Refusal> {
-    let (mut carried, mut tree_height, mut leaves) = (0, 0, 0);
-    let number = ffi::read_cmp(data, &mut carried, &mut tree_height, &mut leaves);
-    answer(number, carried, Cmp { tree_height, leaves })
+    let (mut blame, mut tree_height, mut leaves) = (Blame::default(), 0, 0);
+    let number = ffi::read_cmp(data, &mut blame, &mut tree_height, &mut leaves);
+    answer(number, blame, Cmp { tree_height, leaves })
 }

@@ -1,6 +1,6 @@
 //! Comparing two proofs.
 
-use crate::ffi::{self, Lent};
+use crate::ffi::{self, Blame, Lent};
 use crate::refusal::{answer, Refusal};
 use crate::Hash;
 
@@ -66,14 +66,14 @@ pub struct Collision {
 /// assert_eq!(compare(first, beside).unwrap_err().reason, Reason::Unlike);
 /// ```
 pub fn compare(first: Claim, second: Claim) -> Result<Collision, Refusal> {
-    let mut carried = 0;
+    let mut blame = Blame::default();
     let mut strings = Collision { first: [0; 64], second: [0; 64] };
     let number = ffi::compare(
         first.lent(),
         second.lent(),
-        &mut carried,
+        &mut blame,
         &mut strings.first,
         &mut strings.second,
     );
-    answer(number, carried, strings)
+    answer(number, blame, strings)
 }

@@ -1,6 +1,6 @@
 //! Double SHA-256.
 
-use crate::ffi;
+use crate::ffi::{self, Blame};
 use crate::refusal::{answer, Refusal};
 
 /// 32 bytes in stored order: an id, a node or a root.
@@ -17,10 +17,10 @@ pub const MAX_INPUT: usize = 16_777_216;
 /// # Ok::<(), barrowtide::Refusal>(())
 /// ```
 pub fn sha256d(data: &[u8]) -> Result<Hash, Refusal> {
-    let mut carried = 0;
+    let mut blame = Blame::default();
     let mut digest = [0; 32];
-    let number = ffi::sha256d(data, &mut carried, &mut digest);
-    answer(number, carried, digest)
+    let number = ffi::sha256d(data, &mut blame, &mut digest);
+    answer(number, blame, digest)
 }
 
 /// The parent of two nodes: the double SHA-256 of the left one's bytes, then the right one's.

@@ -1,6 +1,6 @@
 //! Judging a BEEF bundle.
 
-use crate::ffi;
+use crate::ffi::{self, Blame};
 use crate::refusal::{answer, Refusal};
 use crate::Hash;
 
@@ -49,9 +49,9 @@ impl Record {
 /// assert_eq!(table, [Record::default()]);
 /// ```
 pub fn judge_beef(data: &[u8], roots: &[u8], table: &mut [Record]) -> Result<u64, Refusal> {
-    let (mut carried, mut transactions) = (0, 0);
-    let number = ffi::judge_beef(data, roots, table, &mut carried, &mut transactions);
-    answer(number, carried, transactions)
+    let (mut blame, mut transactions) = (Blame::default(), 0);
+    let number = ffi::judge_beef(data, roots, table, &mut blame, &mut transactions);
+    answer(number, blame, transactions)
 }
 
 /// A bundle that was accepted.

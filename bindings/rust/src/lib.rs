@@ -12,7 +12,8 @@
 //! - [`judge`], [`judge_beef`]: does every payment of a BEEF bundle rest on a trusted root?
 //! - [`write_bump`], [`write_bump_into`]: the BUMP that proves some of a block's ids
 //!
-//! Every call answers a value or a [`Refusal`] with 01's number and the place that it blames.
+//! Every call answers a value or a [`Refusal`] with 01's number and the place that it blames; if a
+//! sibling is missing or a twin, it says which.
 //!
 //! # Cost
 //!

@@ -1,6 +1,6 @@
 //! Proving a page of ids by one BUMP.
 
-use crate::ffi;
+use crate::ffi::{self, Blame};
 use crate::refusal::{answer, Refusal};
 use crate::{Hash, Proof};
 
@@ -13,8 +13,12 @@ pub const MAX_PAGE: usize = 256;
 pub struct Answer {
     /// 0 if the id is proved, else the number of its refusal.
     pub refusal: u64,
-    /// What the refusal carries.
+    /// What the refusal carries; 0 if the id is proved.
     pub carried: u64,
+    /// Of 14 and 15 the layer of the sibling that is missing or a twin; else 0.
+    pub layer: u64,
+    /// Of 14 and 15 that sibling's position in its layer; else 0.
+    pub sibling: u64,
     /// The id's position in the block; 0 if refused.
     pub position: u64,
     /// The number of layers between it and the root; 0 if refused.
@@ -30,9 +34,10 @@ impl Answer {
     ///
     /// If its number is none of 01's: then it is no row's answer.
     pub fn proof(&self, id: &Hash) -> Result<Proof, Refusal> {
-        let Self { refusal, carried, position, layers, root } = *self;
+        let Self { refusal, carried, layer, sibling, position, layers, root } = *self;
         let number = u32::try_from(refusal).unwrap_or(u32::MAX);
-        answer(number, carried, Proof { id: *id, position, layers, root })
+        let blame = Blame { carried, layer, sibling };
+        answer(number, blame, Proof { id: *id, position, layers, root })
     }
 }
 
@@ -57,9 +62,9 @@ impl Answer {
 /// # Ok::<(), barrowtide::Refusal>(())
 /// ```
 pub fn prove_page_into(data: &[u8], ids: &[u8], row: &mut [Answer]) -> Result<(), Refusal> {
-    let mut carried = 0;
-    let number = ffi::prove_page(data, ids, row, &mut carried);
-    answer(number, carried, ())
+    let mut blame = Blame::default();
+    let number = ffi::prove_page(data, ids, row, &mut blame);
+    answer(number, blame, ())
 }
 
 /// Asks one BUMP about a page of ids, up to [`MAX_PAGE`]; the answers are those that

@@ -1,6 +1,6 @@
 //! Proving that an id is in a block.
 
-use crate::ffi;
+use crate::ffi::{self, Blame};
 use crate::refusal::{answer, Refusal};
 use crate::Hash;
 
@@ -60,12 +60,12 @@ pub fn prove_cmp(data: &[u8], id: &Hash) -> Result<Proof, Refusal> {
 }
 
 /// A call that proves a lent id.
-type ProvePath = fn(&[u8], &Hash, &mut u64, &mut u64, &mut u64, &mut Hash) -> u32;
+type ProvePath = fn(&[u8], &Hash, &mut Blame, &mut u64, &mut u64, &mut Hash) -> u32;
 
 fn prove_path(call: ProvePath, data: &[u8], id: &Hash) -> Result<Proof, Refusal> {
-    let (mut carried, mut position, mut layers, mut root) = (0, 0, 0, [0; 32]);
-    let number = call(data, id, &mut carried, &mut position, &mut layers, &mut root);
-    answer(number, carried, Proof { id: *id, position, layers, root })
+    let (mut blame, mut position, mut layers, mut root) = (Blame::default(), 0, 0, [0; 32]);
+    let number = call(data, id, &mut blame, &mut position, &mut layers, &mut root);
+    answer(number, blame, Proof { id: *id, position, layers, root })
 }
 
 /// Proves a TSC proof's own id, the one written or its transaction's.
@@ -82,10 +82,10 @@ fn prove_path(call: ProvePath, data: &[u8], id: &Hash) -> Result<Proof, Refusal>
 /// # Ok::<(), barrowtide::Refusal>(())
 /// ```
 pub fn prove_tsc(data: &[u8]) -> Result<Proof, Refusal> {
-    let (mut carried, mut position, mut layers) = (0, 0, 0);
+    let (mut blame, mut position, mut layers) = (Blame::default(), 0, 0);
     let (mut id, mut root) = ([0; 32], [0; 32]);
-    let number = ffi::prove_tsc(data, &mut carried, &mut id, &mut position, &mut layers, &mut root);
-    answer(number, carried, Proof { id, position, layers, root })
+    let number = ffi::prove_tsc(data, &mut blame, &mut id, &mut position, &mut layers, &mut root);
+    answer(number, blame, Proof { id, position, layers, root })
 }
 
 /// Climbs from every client leaf of a BUMP and gives the one root that all of them lead to.
@@ -100,7 +100,7 @@ pub fn prove_tsc(data: &[u8]) -> Result<Proof, Refusal> {
 /// assert_eq!(check_clients(&bump), Ok(join(&left, &right)));
 /// ```
 pub fn check_clients(data: &[u8]) -> Result<Hash, Refusal> {
-    let (mut carried, mut root) = (0, [0; 32]);
-    let number = ffi::check_clients(data, &mut carried, &mut root);
-    answer(number, carried, root)
+    let (mut blame, mut root) = (Blame::default(), [0; 32]);
+    let number = ffi::check_clients(data, &mut blame, &mut root);
+    answer(number, blame, root)
 }

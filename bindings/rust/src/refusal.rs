@@ -3,6 +3,8 @@
 use std::error::Error;
 use std::fmt;
 
+use crate::ffi::Blame;
+
 /// Why an input was refused; the numbers are 01's.
 #[derive(Debug, Clone, Copy, PartialEq, Eq, Hash)]
 #[repr(u32)]
@@ -140,7 +142,7 @@ impl fmt::Display for Reason {
     }
 }
 
-/// A refusal: why, and what it carries.
+/// A refusal: why, and what it blames.
 #[derive(Debug, Clone, Copy, PartialEq, Eq, Hash)]
 pub struct Refusal {
     /// Why.
@@ -148,6 +150,29 @@ pub struct Refusal {
     /// The place that is blamed, counted from 0 at the input's first byte; or the number of the
     /// transaction that is blamed, counted from 0; or 0. The reason and the call tell which.
     pub carried: u64,
+    /// The layer of the sibling that is missing or a twin, counted from 0 at the ids; 0 unless the
+    /// reason is [`Reason::Missing`] or [`Reason::Twin`].
+    pub layer: u64,
+    /// That sibling's position in its layer; 0 unless the reason is one of these two. Of 14 it is
+    /// the sibling that the climb needs, even if what it can't be worked out without is further
+    /// down.
+    pub sibling: u64,
+}
+
+impl Refusal {
+    /// What is wrong, in a few words, and 01's name for it; of a sibling that is missing or a twin,
+    /// which one.
+    pub fn fault(&self) -> String {
+        let Self { reason, layer, sibling, .. } = self;
+        let name = reason.name();
+        match reason {
+            Reason::Missing => format!("sibling {sibling} of layer {layer} is missing ({name})"),
+            Reason::Twin => {
+                format!("sibling {sibling} of layer {layer} equals the working hash ({name})")
+            }
+            _ => reason.to_string(),
+        }
+    }
 }
 
 /// The answer of a call: the value if the number is 0, else the refusal.
@@ -155,25 +180,37 @@ pub struct Refusal {
 /// # Panics
 ///
 /// If the number is none of 01's: then the library linked is not the one that this crate is for.
-pub(crate) fn answer<T>(number: u32, carried: u64, value: T) -> Result<T, Refusal> {
+pub(crate) fn answer<T>(number: u32, blame: Blame, value: T) -> Result<T, Refusal> {
     if number == 0 {
         return Ok(value);
     }
     match Reason::from_number(number) {
-        Some(reason) => Err(Refusal { reason, carried }),
+        Some(reason) => {
+            let Blame { carried, layer, sibling } = blame;
+            Err(Refusal { reason, carried, layer, sibling })
+        }
         None => panic!("libbarrowtide.a gave the unknown refusal {number}"),
     }
 }
 
-/// As the listing program writes it, then the meaning.
+/// As the listing program writes it, then what is wrong.
 ///
 /// ```
-/// let refusal = barrowtide::sha256d(&vec![0; barrowtide::MAX_INPUT + 1]).unwrap_err();
+/// use barrowtide::{prove_bump, sha256d, MAX_INPUT};
+/// let refusal = sha256d(&vec![0; MAX_INPUT + 1]).unwrap_err();
 /// assert_eq!(refusal.to_string(), "refused 1 at 0: input over its size (TOO_LONG)");
+///
+/// // An id at position 21 and nothing else.
+/// let id = [0xaa; 32];
+/// let bump = [&[0x00, 0x05, 0x01, 0x15, 0x02][..], &id, &[0x00; 4]].concat();
+/// let refusal = prove_bump(&bump, &id).unwrap_err();
+/// assert_eq!((refusal.layer, refusal.sibling), (0, 20));
+/// let text = "refused 14 at 0: sibling 20 of layer 0 is missing (MISSING)";
+/// assert_eq!(refusal.to_string(), text);
 /// ```
 impl fmt::Display for Refusal {
     fn fmt(&self, f: &mut fmt::Formatter<'_>) -> fmt::Result {
-        write!(f, "refused {} at {}: {}", self.reason.number(), self.carried, self.reason)
+        write!(f, "refused {} at {}: {}", self.reason.number(), self.carried, self.fault())
     }
 }
 
@@ -191,5 +228,24 @@ mod tests {
             let plain: String = name.split('_').map(str::to_lowercase).collect();
             assert_eq!(format!("{reason:?}").to_lowercase(), plain);
         }
+    }
+
+    #[test]
+    fn texts() {
+        let text = |reason, carried, layer, sibling| {
+            Refusal { reason, carried, layer, sibling }.to_string()
+        };
+        assert_eq!(
+            text(Reason::Missing, 0, 0, 20),
+            "refused 14 at 0: sibling 20 of layer 0 is missing (MISSING)"
+        );
+        assert_eq!(
+            text(Reason::Twin, 0, 1, 4),
+            "refused 15 at 0: sibling 4 of layer 1 equals the working hash (TWIN)"
+        );
+        assert_eq!(
+            text(Reason::Short, 5, 0, 0),
+            "refused 2 at 5: bytes end inside a field (SHORT)"
+        );
     }
 }

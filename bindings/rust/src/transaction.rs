@@ -1,6 +1,6 @@
 //! Raw transactions (BRC-12).
 
-use crate::ffi;
+use crate::ffi::{self, Blame};
 use crate::refusal::{answer, Refusal};
 use crate::Hash;
 
@@ -24,7 +24,7 @@ pub struct Transaction {
 /// assert_eq!((refusal.reason, refusal.carried), (Reason::BadTx, 4));
 /// ```
 pub fn read_transaction(data: &[u8]) -> Result<Transaction, Refusal> {
-    let (mut carried, mut inputs, mut outputs, mut id) = (0, 0, 0, [0; 32]);
-    let number = ffi::read_transaction(data, &mut carried, &mut inputs, &mut outputs, &mut id);
-    answer(number, carried, Transaction { inputs, outputs, id })
+    let (mut blame, mut inputs, mut outputs, mut id) = (Blame::default(), 0, 0, [0; 32]);
+    let number = ffi::read_transaction(data, &mut blame, &mut inputs, &mut outputs, &mut id);
+    answer(number, blame, Transaction { inputs, outputs, id })
 }

@@ -1,6 +1,6 @@
 //! TSC, the Merkle proof standardised format (TS 2020.010-31), in its binary form.
 
-use crate::ffi;
+use crate::ffi::{self, Blame};
 use crate::refusal::{answer, Refusal};
 
 /// What a well-formed TSC proof says.
@@ -23,7 +23,7 @@ pub struct Tsc {
 /// assert_eq!(read_tsc(&proof), Ok(Tsc { flags: 0, index: 0, nodes: 0 }));
 /// ```
 pub fn read_tsc(data: &[u8]) -> Result<Tsc, Refusal> {
-    let (mut carried, mut flags, mut index, mut nodes) = (0, 0, 0, 0);
-    let number = ffi::read_tsc(data, &mut carried, &mut flags, &mut index, &mut nodes);
-    answer(number, carried, Tsc { flags, index, nodes })
+    let (mut blame, mut flags, mut index, mut nodes) = (Blame::default(), 0, 0, 0);
+    let number = ffi::read_tsc(data, &mut blame, &mut flags, &mut index, &mut nodes);
+    answer(number, blame, Tsc { flags, index, nodes })
 }

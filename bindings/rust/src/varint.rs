@@ -1,6 +1,6 @@
 //! VarInts.
 
-use crate::ffi;
+use crate::ffi::{self, Blame};
 use crate::refusal::{answer, Refusal};
 
 /// A VarInt that was read.
@@ -22,7 +22,7 @@ pub struct VarInt {
 /// assert_eq!(read_varint(&[0xfd, 0xfc, 0x00]).unwrap_err().reason, Reason::LongVarint);
 /// ```
 pub fn read_varint(data: &[u8]) -> Result<VarInt, Refusal> {
-    let (mut carried, mut value, mut width) = (0, 0, 0);
-    let number = ffi::read_varint(data, &mut carried, &mut value, &mut width);
-    answer(number, carried, VarInt { value, width })
+    let (mut blame, mut value, mut width) = (Blame::default(), 0, 0);
+    let number = ffi::read_varint(data, &mut blame, &mut value, &mut width);
+    answer(number, blame, VarInt { value, width })
 }

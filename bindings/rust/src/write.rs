@@ -1,6 +1,6 @@
 //! Writing BUMPs.
 
-use crate::ffi;
+use crate::ffi::{self, Blame};
 use crate::refusal::{answer, Refusal};
 
 /// The greatest number of ids in the list that a BUMP is written of.
@@ -33,9 +33,9 @@ pub fn write_bump_into(
     positions: &[u64],
     out: &mut [u8],
 ) -> Result<usize, Refusal> {
-    let (mut carried, mut written) = (0, 0);
-    let number = ffi::write_bump(block_height, ids, positions, out, &mut carried, &mut written);
-    answer(number, carried, written as usize)
+    let (mut blame, mut written) = (Blame::default(), 0);
+    let number = ffi::write_bump(block_height, ids, positions, out, &mut blame, &mut written);
+    answer(number, blame, written as usize)
 }
 
 /// The BUMP that proves the ids at the chosen positions of a block.
@@ -47,7 +47,8 @@ pub fn write_bump_into(
 ///
 /// Refused, in this order and carrying 0: 5 for a block height over 32 bits, for too few or too many
 /// ids or a part of one, 13 for no position, 6 for one outside the list, 19 for equal ids, 15 if a
-/// climb meets a twin.
+/// climb meets a twin, with the sibling at the lowest such layer of the least position whose climb
+/// does.
 ///
 /// ```
 /// use barrowtide::{join, prove_bump, write_bump, Reason};

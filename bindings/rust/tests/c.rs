@@ -1,19 +1,26 @@
 //! The C header and example, as a C compiler takes them.
 
+#[path = "common/published.rs"]
+mod published;
+
 use std::env;
+use std::fs;
 use std::path::{Path, PathBuf};
 use std::process::Command;
 
+use barrowtide::ffi::Blame;
 use barrowtide::{Answer, Reason, Record};
 use barrowtide::{MAX_IDS, MAX_INPUT, MAX_PAGE, MAX_TRANSACTIONS, WRITE_ROOM};
+use published::without_sibling;
+use reference::hex::encode;
 
 /// A file of the repository.
 fn file(path: &str) -> PathBuf {
     Path::new(env!("CARGO_MANIFEST_DIR")).join("../..").join(path)
 }
 
-/// Builds a C program with the header and the library, every warning an error, and runs it.
-fn run(standard: &str, source: &str, arguments: &[&str]) -> String {
+/// Builds a C program with the header and the library, every warning an error.
+fn build(standard: &str, source: &str) -> PathBuf {
     let library = env::var_os("BARROWTIDE_LIB_DIR")
         .map_or_else(|| file("target/staticlib"), PathBuf::from)
         .join("libbarrowtide.a");
@@ -26,9 +33,13 @@ fn run(standard: &str, source: &str, arguments: &[&str]) -> String {
         .status()
         .expect("gcc starts");
     assert!(built.success(), "{source} under {standard}");
+    program
+}
+
+/// Runs a program: its exit status, and what it prints.
+fn run(program: &Path, arguments: &[&str]) -> (Option<i32>, String) {
     let output = Command::new(program).args(arguments).output().expect("the program starts");
-    assert!(output.status.success(), "{source} under {standard}");
-    String::from_utf8(output.stdout).expect("text")
+    (output.status.code(), String::from_utf8(output.stdout).expect("text"))
 }
 
 #[test]
@@ -44,9 +55,12 @@ fn header() {
     expected += &format!("input {MAX_INPUT}\ntransactions {MAX_TRANSACTIONS}\n");
     expected += &format!("page {MAX_PAGE}\nids {MAX_IDS}\nwrite room {WRITE_ROOM}\n");
     expected += &format!("record {}\nanswer {}\n", size_of::<Record>(), size_of::<Answer>());
-    expected += "hash of nothing 0\nno bundle 2\nno path 2\nno list 5\ncarried 0\n";
+    expected += &format!("blame {}\n", size_of::<Blame>());
+    expected += "hash of nothing 0, blame 7 8 9\nno bundle 2, blame 0 0 0\n";
+    expected += "no path 2, blame 0 0 0\nno list 5, blame 0 0 0\nmissing 14, blame 0 0 20\n";
     for standard in ["c99", "c11", "c17"] {
-        assert_eq!(run(standard, "bindings/rust/tests/c/header.c", &[]), expected);
+        let program = build(standard, "bindings/rust/tests/c/header.c");
+        assert_eq!(run(&program, &[]), (Some(0), expected.clone()));
     }
 }
 
@@ -54,7 +68,15 @@ fn header() {
 fn example() {
     let root = "bb6f640cc4ee56bf38eb5a1969ac0c16caa2d3d202b22bf3735d10eec0ca6e00";
     let bundle = file("bindings/rust/tests/data/004-bundle.hex");
-    let text = run("c11", "examples/c/judge.c", &[bundle.to_str().expect("a plain path"), root]);
+    let program = build("c11", "examples/c/judge.c");
+    let judge = |bundle: &Path| run(&program, &[bundle.to_str().expect("a plain path"), root]);
+    let (status, text) = judge(&bundle);
+    assert_eq!(status, Some(0), "{text}");
     assert!(text.starts_with("accepted, transactions: 2\n"), "{text}");
     assert!(text.contains("anchored by BUMP 0 at position 21"), "{text}");
+
+    let other = PathBuf::from(env!("CARGO_TARGET_TMPDIR")).join("missing.hex");
+    fs::write(&other, encode(&without_sibling())).expect("a file for the test");
+    let refused = "refused 14 MISSING at 0, sibling 20 of layer 0\n";
+    assert_eq!(judge(&other), (Some(1), refused.to_string()));
 }

@@ -6,7 +6,7 @@ mod common;
 
 use barrowtide::ffi::{self, Lent};
 use barrowtide::MAX_INPUT;
-use common::{expected, plain, FILL};
+use common::{expected, plain, GUARDED};
 use reference::compare::{compare, Claim};
 use reference::generate::damage::random_edit;
 use reference::generate::path::Plan;
@@ -51,15 +51,15 @@ fn check(first: &Claim, second: &Claim) -> Result<Strings, Refusal> {
     let told = compare(first, second);
     let fill = ([0xa5; 64], [0x5a; 64]);
     for tsc in [2, 3, u32::MAX] {
-        let (mut carried, mut strings) = (FILL, fill);
+        let (mut guarded, mut strings) = (GUARDED, fill);
         let number = ffi::compare(
             lent(first, tsc),
             lent(second, tsc),
-            &mut carried,
+            &mut guarded.blame,
             &mut strings.0,
             &mut strings.1,
         );
-        let after = (number, carried, strings);
+        let after = (number, guarded, strings);
         assert_eq!(after, expected(told, fill), "{}", describe(first, second));
     }
     let safe = barrowtide::compare(wrapped(first), wrapped(second));
@@ -93,6 +93,15 @@ fn examples() {
     assert_eq!(number(check(&bump(pair, 0xaa), &tsc("00 00 [aa] [cc] 01 00 [bb]"))), 24);
     assert_eq!(number(check(&bump(pair, 0xaa), &bump("05 01 02 00 00 [aa] 01 00 [bb]", 0xaa))), 24);
     assert_eq!(number(check(&bump(pair, 0xaa), &bump(pair, 0xcc))), 13);
+    // The sibling of the proof that is refused, the first of two.
+    let blamed = |number, layer, sibling| Err(Refusal::of_sibling(number, layer, sibling));
+    let twin = tsc("00 03 [aa] [bb] 02 00 [cc] 01");
+    let missing = bump("00 03 02 04 02 [aa] 05 00 [ab] 00 00", 0xaa);
+    assert_eq!(check(&twin, &missing), blamed(15, 1, 0));
+    assert_eq!(check(&missing, &twin), blamed(14, 1, 3));
+    assert_eq!(check(&alone, &twin), blamed(15, 1, 0));
+    assert_eq!(check(&twin, &tsc("06")), blamed(15, 1, 0));
+    assert_eq!(check(&tsc("06"), &twin), Err(Refusal::new(7, 0)));
 }
 
 /// A proof of an id in a form of choice.

@@ -3,7 +3,7 @@
 mod common;
 
 use barrowtide::{ffi, hex, Hash, MAX_INPUT};
-use common::{expected, plain, FILL};
+use common::{expected, plain, GUARDED};
 use reference::generate::random::{rounds, Random};
 use reference::hex::show;
 use reference::sha256;
@@ -11,9 +11,9 @@ use reference::sha256;
 /// Compares the hash of `data` and lent memory after the call.
 fn check_hash(data: &[u8]) {
     let told = sha256::hash(data);
-    let (mut carried, mut digest) = (FILL, [0xa5; 32]);
-    let number = ffi::sha256d(data, &mut carried, &mut digest);
-    assert_eq!((number, carried, digest), expected(told, [0xa5; 32]), "{}", show(data));
+    let (mut guarded, mut digest) = (GUARDED, [0xa5; 32]);
+    let number = ffi::sha256d(data, &mut guarded.blame, &mut digest);
+    assert_eq!((number, guarded, digest), expected(told, [0xa5; 32]), "{}", show(data));
     assert_eq!(barrowtide::sha256d(data).map_err(plain), told, "{}", show(data));
 }
 

@@ -3,7 +3,7 @@
 mod common;
 
 use barrowtide::{ffi, Record, MAX_INPUT, MAX_TRANSACTIONS};
-use common::{expected, plain, FILL};
+use common::{expected, plain, FILL, GUARDED};
 use reference::generate::bundle::Plan;
 use reference::generate::damage::{field_edits, random_edit, truncations};
 use reference::generate::random::{rounds, Random};
@@ -40,10 +40,10 @@ fn check(data: &[u8], roots: &[u8], room: usize) -> Result<Vec<Record>, Refusal>
     let left: Vec<Record> = left.into_iter().map(record).collect();
     let describe = || format!("{}; roots {}; room {room}", show(data), show(roots));
 
-    let (mut carried, mut transactions) = (FILL, FILL);
+    let (mut guarded, mut transactions) = (GUARDED, FILL);
     let mut table = vec![FILLED; room];
-    let number = ffi::judge_beef(data, roots, &mut table, &mut carried, &mut transactions);
-    assert_eq!((number, carried, transactions), expected(told, FILL), "{}", describe());
+    let number = ffi::judge_beef(data, roots, &mut table, &mut guarded.blame, &mut transactions);
+    assert_eq!((number, guarded, transactions), expected(told, FILL), "{}", describe());
     assert_eq!(table, left, "{}", describe());
     assert_eq!(bytes(&table), bytes(&left), "{}", describe());
 
@@ -65,7 +65,11 @@ fn check_plan(plan: &Plan) -> Result<Vec<Record>, Refusal> {
 }
 
 fn refused(number: u32, carried: u64) -> Result<Vec<Record>, Refusal> {
-    Err(Refusal { number, carried })
+    Err(Refusal::new(number, carried))
+}
+
+fn blamed(number: u32, carried: u64, layer: u64, sibling: u64) -> Result<Vec<Record>, Refusal> {
+    Err(Refusal { number, carried, layer, sibling })
 }
 
 #[test]
@@ -207,10 +211,10 @@ fn slips() {
     // A sibling that is not written, and one that equals the working hash at an odd position.
     let mut missing = sound.clone();
     missing.bumps[0].levels[2].clear();
-    assert_eq!(check_plan(&missing), refused(14, 0));
+    assert_eq!(check_plan(&missing), blamed(14, 0, 2, 3));
     let mut twin = sound.clone();
     twin.bumps[0].levels[3][0].hash = tree.hash(3, 1);
-    assert_eq!(check_plan(&twin), refused(15, 0));
+    assert_eq!(check_plan(&twin), blamed(15, 0, 3, 0));
 
     // A BUMP that no transaction names is only read.
     let mut unused = sound.clone();
@@ -222,6 +226,38 @@ fn slips() {
     let stranger = (random.hash(), 0, Vec::new(), 0);
     orphan.entries[1].0.inputs.push(stranger);
     assert_eq!(check_plan(&orphan), refused(20, 1));
+}
+
+/// 14 and 15 tell the transaction and, in its BUMP, the sibling.
+#[test]
+fn blamed_siblings() {
+    let mut random = Random::of("blamed_siblings");
+    let mut plan = Plan { bumps: Vec::new(), entries: Vec::new(), roots: Vec::new() };
+    let mut trees = Vec::new();
+    for number in 0..3 {
+        let own = transaction::Plan::random(&mut random);
+        let mut ids: Vec<Hash> = (0..8).map(|_| random.hash()).collect();
+        ids[6] = own.id();
+        let tree = Tree::new(ids);
+        plan.bumps.push(path::Plan::of(&tree, &[6]));
+        plan.entries.push((own, Some(number)));
+        plan.roots.push(tree.root());
+        trees.push(tree);
+    }
+    assert!(check_plan(&plan).is_ok());
+    for number in [2, 1, 0] {
+        let mut twin = plan.clone();
+        twin.bumps[number].levels[1][0].hash = trees[number].hash(1, 3);
+        assert_eq!(check_plan(&twin), blamed(15, number as u64, 1, 2));
+        for (layer, sibling) in [(2, 0), (1, 2), (0, 7)] {
+            plan.bumps[number].levels[layer].retain(|leaf| leaf.offset != sibling);
+            let told = blamed(14, number as u64, layer as u64, sibling);
+            assert_eq!(check_plan(&plan), told);
+        }
+    }
+    // 13 of an earlier transaction, and no sibling.
+    plan.bumps[0].levels[0].clear();
+    assert_eq!(check_plan(&plan), refused(13, 0));
 }
 
 /// Every change of one field and every truncation of some bundles.

@@ -1,8 +1,13 @@
 //! The program `judge` as a person runs it.
 
+#[path = "common/published.rs"]
+mod published;
+
 use std::fs;
 use std::path::PathBuf;
 use std::process::{Command, Output};
+
+use published::without_sibling;
 
 /// Runs the program on files of the test data, or on given paths.
 fn judge(arguments: &[&str]) -> (Option<i32>, String, String) {
@@ -52,6 +57,10 @@ fn tells_a_refusal() {
     let (status, text, _) = judge(&["004-roots.txt", "004-roots.txt"]);
     let version = "refused 10 as a whole: first four bytes not BEEF's (BAD_VERSION)\n";
     assert_eq!((status, text.as_str()), (Some(1), version));
+    let missing = file("missing.beef", &without_sibling());
+    let (status, text, _) = judge(&[&missing, "004-roots.txt"]);
+    let sibling = "refused 14 at transaction 0: sibling 20 of layer 0 is missing (MISSING)\n";
+    assert_eq!((status, text.as_str()), (Some(1), sibling));
 }
 
 #[test]

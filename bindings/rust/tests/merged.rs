@@ -10,6 +10,7 @@ mod proofs;
 use barrowtide::{prove_bump, prove_page, Hash, Proof};
 use met::Seen;
 use proofs::{check_bump, check_clients, check_cmp, number};
+use reference::climb::beside;
 use reference::generate::damage::random_edit;
 use reference::generate::path::{Leaf, Plan};
 use reference::generate::random::{rounds, Random};
@@ -17,6 +18,7 @@ use reference::generate::tally::Tally;
 use reference::generate::tree::Tree;
 use reference::hex::{expand, show};
 use reference::prove;
+use reference::refusal::Refusal;
 use reference::sha256::join;
 
 #[test]
@@ -61,6 +63,59 @@ fn written_first() {
     // On the climb a copy repeats the working hash, whatever is written on its left.
     let climbed = "00 02 02 00 02 [aa] 01 00 [ab] 02 00 00 [07] 01 01";
     assert_eq!(root(climbed), Ok(join(&own, &own)));
+}
+
+/// 14 blames the sibling that the climb needs, wherever the gap below it is, and no sibling of a
+/// higher layer.
+#[test]
+fn blamed_siblings() {
+    let blamed = |number, layer, sibling| Some(Refusal::of_sibling(number, layer, sibling));
+    let bump = |example: &str| check_bump(&expand(example), &[0xaa; 32]).err();
+    let clients = |example: &str| check_clients(&expand(example)).err();
+    // The top sibling is at (2, 0); it lacks (0, 3), then (0, 0), then all.
+    let own = "04 02 [aa] 05 00 [ab] 06 00 [0e] 07 00 [0f]";
+    assert_eq!(
+        bump(&format!("00 03 07 00 00 [0a] 01 00 [0b] 02 00 [0c] {own} 00 00")),
+        blamed(14, 2, 0)
+    );
+    assert_eq!(bump(&format!("00 03 05 01 00 [0b] {own} 01 01 00 [0d] 00")), blamed(14, 2, 0));
+    assert_eq!(bump(&format!("00 03 04 {own} 00 00")), blamed(14, 2, 0));
+    // The sibling at (1, 3) lacks (0, 6), and nothing stands for the one above it.
+    assert_eq!(bump("00 03 03 04 02 [aa] 05 00 [ab] 07 00 [0f] 00 00"), blamed(14, 1, 3));
+    // A worked-out twin.
+    let twin = "00 02 04 00 00 [aa] 01 00 [ab] 02 02 [aa] 03 00 [ab] 00";
+    assert_eq!(clients(twin), blamed(15, 1, 0));
+}
+
+/// Whoever sends the node that each refusal names, ends up with a proof, a layer higher each time.
+#[test]
+fn missing_nodes_sent() {
+    let mut random = Random::of("missing_nodes_sent");
+    let mut most = 0;
+    for _ in 0..rounds() / 5 {
+        let count = random.within(2..=60) as usize;
+        let tree = Tree::random(&mut random, count);
+        let position = random.index(count) as u64;
+        let id = tree.ids()[position as usize];
+        let written = random.pick(&[2, 4, 20]);
+        let mut plan = Plan::whole(&tree);
+        for (level, leaves) in plan.levels.iter_mut().enumerate() {
+            leaves.retain(|leaf| (level, leaf.offset) == (0, position) || random.one_in(written));
+        }
+        let (mut sent, mut next) = (0, 0);
+        while let Err(refusal) = check_bump(&plan.bump().bytes, &id) {
+            assert_eq!(check_cmp(&plan.cmp().bytes, &id), Err(refusal));
+            let Refusal { number, layer, sibling, .. } = refusal;
+            assert_eq!((number, sibling), (14, beside(position >> layer)));
+            assert!(layer >= next, "layer {layer} after {next}");
+            (sent, next) = (sent + 1, layer + 1);
+            let hash = tree.hash(layer as usize, sibling);
+            plan.levels[layer as usize].push(Leaf { offset: sibling, flags: 0, hash });
+        }
+        assert_eq!(check_bump(&plan.bump().bytes, &id).map(|p| p.root), Ok(tree.root()));
+        most = most.max(sent);
+    }
+    assert!(rounds() < 1_000 || most > 3);
 }
 
 /// Every path of two levels whose leaves are copies or one of three hashes, the third the join of
@@ -285,11 +340,12 @@ fn tall_paths() {
     assert_eq!(proof.root, join(&copied([0xbb; 32]), &copied(id)));
     assert_eq!(check_cmp(&plan.cmp().bytes, &id).map(|proof| proof.position), Ok(position));
     plan.levels[0].remove(0);
-    assert_eq!(number(check_bump(&plan.bump().bytes, &id)), 14);
-    assert_eq!(number(check_cmp(&plan.cmp().bytes, &id)), 14);
+    let missing = |layer, sibling| Err(Refusal::of_sibling(14, layer, sibling));
+    assert_eq!(check_bump(&plan.bump().bytes, &id), missing(31, 0));
+    assert_eq!(check_cmp(&plan.cmp().bytes, &id), missing(31, 0));
     // Every sibling but the lowest is far above what is written.
     plan.levels[1..].iter_mut().for_each(Vec::clear);
-    assert_eq!(number(check_bump(&plan.bump().bytes, &id)), 14);
+    assert_eq!(check_bump(&plan.bump().bytes, &id), missing(1, (position >> 1) + 1));
 }
 
 /// As many clients as a level holds, and nothing else.

@@ -4,7 +4,7 @@
 mod common;
 
 use barrowtide::{ffi, prove_bump, Answer, Hash, MAX_INPUT, MAX_PAGE};
-use common::{expected, plain, FILL};
+use common::{expected, plain, FILL, GUARDED};
 use reference::generate::damage::{field_edits, random_edit, truncations};
 use reference::generate::path::Plan;
 use reference::generate::random::{rounds, Random};
@@ -16,8 +16,15 @@ use reference::refusal::Refusal;
 use reference::sha256::join;
 
 /// What every answer of a lent row holds before the call.
-const FILLED: Answer =
-    Answer { refusal: FILL, carried: FILL, position: FILL, layers: FILL, root: [0xa5; 32] };
+const FILLED: Answer = Answer {
+    refusal: FILL,
+    carried: FILL,
+    layer: FILL,
+    sibling: FILL,
+    position: FILL,
+    layers: FILL,
+    root: [0xa5; 32],
+};
 
 /// Compares the call's answer and a whole row of `room` answers; gives the row.
 fn check(data: &[u8], ids: &[u8], room: usize) -> Result<Vec<Answer>, Refusal> {
@@ -25,12 +32,14 @@ fn check(data: &[u8], ids: &[u8], room: usize) -> Result<Vec<Answer>, Refusal> {
     let left: Vec<Answer> = left.into_iter().map(answer).collect();
     let describe = || format!("{}; ids {}; room {room}", show(data), show(ids));
 
-    let (mut carried, mut row) = (FILL, vec![FILLED; room]);
-    let number = ffi::prove_page(data, ids, &mut row, &mut carried);
-    assert_eq!((number, carried, ()), expected(told, ()), "{}", describe());
-    assert_eq!(row, left, "{}", describe());
+    // The row lent is the middle of a longer one.
+    let (mut guarded, mut row) = (GUARDED, vec![FILLED; room + 2]);
+    let number = ffi::prove_page(data, ids, &mut row[1..=room], &mut guarded.blame);
+    assert_eq!((number, guarded, ()), expected(told, ()), "{}", describe());
+    assert_eq!(row[1..=room], left, "{}", describe());
+    assert_eq!([row[0], row[room + 1]], [FILLED; 2], "{}", describe());
 
-    row.fill(FILLED);
+    let mut row = vec![FILLED; room];
     let safe = barrowtide::prove_page_into(data, ids, &mut row).map_err(plain);
     assert_eq!(safe, told, "{}", describe());
     assert_eq!(row, left, "{}", describe());
@@ -38,8 +47,8 @@ fn check(data: &[u8], ids: &[u8], room: usize) -> Result<Vec<Answer>, Refusal> {
 }
 
 fn answer(told: page::Answer) -> Answer {
-    let page::Answer { refusal, carried, position, layers, root } = told;
-    Answer { refusal, carried, position, layers, root }
+    let page::Answer { refusal, carried, layer, sibling, position, layers, root } = told;
+    Answer { refusal, carried, layer, sibling, position, layers, root }
 }
 
 /// Compares a page of whole ids with room enough, and each of its answers with asking singly.
@@ -60,7 +69,7 @@ fn check_ids(data: &[u8], ids: &[Hash]) -> Result<Vec<Answer>, Refusal> {
 }
 
 fn refused(number: u32, carried: u64) -> Result<Vec<Answer>, Refusal> {
-    Err(Refusal { number, carried })
+    Err(Refusal::new(number, carried))
 }
 
 #[test]
@@ -89,9 +98,15 @@ fn examples() {
     let parent = encode(&join(&[0xcc; 32], &[0xdd; 32]));
     let level = "04 00 02 [aa] 01 00 [bb] 02 02 [cc] 03 00 [dd]";
     let row = page(&format!("00 02 {level} 01 00 00 {parent}"), "[aa] [cc]", 2).expect("a page");
-    assert_eq!([row[0].refusal, row[1].refusal], [0, 15]);
+    let twin = Answer { refusal: 15, layer: 1, sibling: 0, ..Answer::default() };
+    assert_eq!((row[0].refusal, row[1]), (0, twin));
     let row = page("00 02 02 00 02 [aa] 01 00 [bb] 00", "[aa]", 1).expect("a page");
-    assert_eq!(row[0], Answer { refusal: 14, ..Answer::default() });
+    let missing = Answer { refusal: 14, layer: 1, sibling: 1, ..Answer::default() };
+    assert_eq!(row[0], missing);
+    // Each id's own sibling is blamed; the last id is not listed.
+    let row = page("00 03 02 01 02 [aa] 06 02 [bb] 00 00", "[bb] [aa] [cc]", 3).expect("a page");
+    let blamed: Vec<_> = row.iter().map(|a| (a.refusal, a.layer, a.sibling)).collect();
+    assert_eq!(blamed, [(14, 0, 7), (14, 0, 0), (13, 0, 0)]);
 }
 
 /// Pages and rows of every size about the greatest.

@@ -6,7 +6,7 @@ mod common;
 mod proofs;
 
 use barrowtide::{ffi, Hash, Proof, MAX_INPUT};
-use common::{expected, plain, FILL};
+use common::{expected, plain, GUARDED};
 use proofs::{check_bump, check_clients, check_cmp, fill, number, proof, Answer};
 use reference::generate::damage::{field_edits, random_edit, truncations};
 use reference::generate::path::{Leaf, Plan};
@@ -16,13 +16,14 @@ use reference::generate::tree::Tree;
 use reference::generate::tsc;
 use reference::hex::{decode, expand, printed, show};
 use reference::prove;
+use reference::refusal::Refusal;
 
 fn check_tsc(data: &[u8]) -> Answer {
     let told = prove::by_tsc(data).map(proof);
-    let (mut carried, mut lent) = (FILL, fill([0xa5; 32]));
+    let (mut guarded, mut lent) = (GUARDED, fill([0xa5; 32]));
     let Proof { id, position, layers, root } = &mut lent;
-    let number = ffi::prove_tsc(data, &mut carried, id, position, layers, root);
-    assert_eq!((number, carried, lent), expected(told, fill([0xa5; 32])), "{}", show(data));
+    let number = ffi::prove_tsc(data, &mut guarded.blame, id, position, layers, root);
+    assert_eq!((number, guarded, lent), expected(told, fill([0xa5; 32])), "{}", show(data));
     assert_eq!(barrowtide::prove_tsc(data).map_err(plain), told, "{}", show(data));
     told
 }
@@ -73,6 +74,39 @@ fn tsc_examples() {
     assert_eq!(answer("02 00 [aa] 11{36} [aa] 22{12} 00"), 0);
     assert_eq!(answer("02 00 [aa] 11{4} [aa] 22{44} 00"), 16);
     assert_eq!(answer("04 01 [aa] [bb] 01 01"), 15);
+}
+
+/// 14 and 15 name the sibling; 13 and 16 name none.
+#[test]
+fn blamed_siblings() {
+    let blamed = |number, layer, sibling| Some(Refusal::of_sibling(number, layer, sibling));
+    let bump = |example: &str| check_bump(&expand(example), &[0xaa; 32]).err();
+    let cmp = |example: &str| check_cmp(&expand(example), &[0xaa; 32]).err();
+    let tsc = |example: &str| check_tsc(&expand(example)).err();
+    let clients = |example: &str| check_clients(&expand(example)).err();
+    // A sibling on the right, one on the left, and one higher up.
+    assert_eq!(bump("00 02 02 00 02 [aa] 01 00 [ab] 00"), blamed(14, 1, 1));
+    assert_eq!(bump("00 02 02 02 02 [aa] 03 00 [ab] 00"), blamed(14, 1, 0));
+    assert_eq!(cmp("02 00 01 03 [01] 02 05 [aa] 04 [ab]"), blamed(14, 2, 0));
+    // Of two that are missing the lower one.
+    assert_eq!(bump("00 03 01 05 02 [aa] 01 03 00 [01] 00"), blamed(14, 0, 4));
+    assert_eq!(cmp("02 00 01 03 [01] 01 05 [aa]"), blamed(14, 0, 4));
+    // The gap is lower down: at (0, 0), as the copy beside it has no value either.
+    assert_eq!(bump("00 02 03 01 01 02 02 [aa] 03 00 [ab] 00"), blamed(14, 1, 0));
+    // Twins are on the left, and so are copies in a TSC proof at an odd position.
+    assert_eq!(tsc("00 01 [aa] [bb] 01 01"), blamed(15, 0, 0));
+    assert_eq!(tsc("00 03 [aa] [bb] 02 00 [cc] 01"), blamed(15, 1, 0));
+    assert_eq!(tsc("04 05 [aa] [bb] 03 00 [cc] 00 [dd] 01"), blamed(15, 2, 0));
+    assert_eq!(tsc("04 07 [aa] [bb] 03 00 [cc] 01 01"), blamed(15, 1, 2));
+    // The all-clients check blames a sibling of the first leaf, as written, that has a fault.
+    assert_eq!(clients("00 01 02 00 00 [bb] 01 02 [bb]"), blamed(15, 0, 0));
+    assert_eq!(clients("00 03 02 06 02 [aa] 01 02 [bb] 00 00"), blamed(14, 0, 7));
+    assert_eq!(clients("00 03 02 01 02 [bb] 06 02 [aa] 00 00"), blamed(14, 0, 0));
+    // 13 and 16.
+    assert_eq!(bump("00 01 00"), Some(Refusal::new(13, 0)));
+    assert_eq!(cmp("00 00"), Some(Refusal::new(13, 0)));
+    assert_eq!(clients("00 01 00"), Some(Refusal::new(13, 0)));
+    assert_eq!(tsc("04 00 [aa] [bb] 00"), Some(Refusal::new(16, 0)));
 }
 
 /// 004's BUMP, whose leaves are P13's siblings of 21 over 7 layers; 000's proof; and 001's path,

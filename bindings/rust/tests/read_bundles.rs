@@ -3,7 +3,7 @@
 mod common;
 
 use barrowtide::{ffi, Beef, Transaction, Tsc, MAX_INPUT};
-use common::{expected, plain, FILL};
+use common::{expected, plain, FILL, GUARDED};
 use reference::generate::damage::{all_strings, field_edits, random_edit, truncations};
 use reference::generate::draft::Draft;
 use reference::generate::random::{rounds, Random};
@@ -20,15 +20,15 @@ fn check_transaction(data: &[u8]) -> Result<Transaction, Refusal> {
         id: read.id,
     });
     let fill = Transaction { inputs: FILL, outputs: FILL, id: [0xa5; 32] };
-    let (mut carried, mut lent) = (FILL, fill);
+    let (mut guarded, mut lent) = (GUARDED, fill);
     let number = ffi::read_transaction(
         data,
-        &mut carried,
+        &mut guarded.blame,
         &mut lent.inputs,
         &mut lent.outputs,
         &mut lent.id,
     );
-    assert_eq!((number, carried, lent), expected(told, fill), "{}", show(data));
+    assert_eq!((number, guarded, lent), expected(told, fill), "{}", show(data));
     assert_eq!(barrowtide::read_transaction(data).map_err(plain), told, "{}", show(data));
     told
 }
@@ -40,10 +40,10 @@ fn check_tsc(data: &[u8]) -> Result<Tsc, Refusal> {
         nodes: read.nodes.len() as u64,
     });
     let fill = Tsc { flags: FILL, index: FILL, nodes: FILL };
-    let (mut carried, mut lent) = (FILL, fill);
+    let (mut guarded, mut lent) = (GUARDED, fill);
     let number =
-        ffi::read_tsc(data, &mut carried, &mut lent.flags, &mut lent.index, &mut lent.nodes);
-    assert_eq!((number, carried, lent), expected(told, fill), "{}", show(data));
+        ffi::read_tsc(data, &mut guarded.blame, &mut lent.flags, &mut lent.index, &mut lent.nodes);
+    assert_eq!((number, guarded, lent), expected(told, fill), "{}", show(data));
     assert_eq!(barrowtide::read_tsc(data).map_err(plain), told, "{}", show(data));
     told
 }
@@ -54,15 +54,15 @@ fn check_beef(data: &[u8]) -> Result<Beef, Refusal> {
         transactions: read.entries.len() as u64,
     });
     let fill = Beef { bumps: FILL, transactions: FILL };
-    let (mut carried, mut lent) = (FILL, fill);
-    let number = ffi::read_beef(data, &mut carried, &mut lent.bumps, &mut lent.transactions);
-    assert_eq!((number, carried, lent), expected(told, fill), "{}", show(data));
+    let (mut guarded, mut lent) = (GUARDED, fill);
+    let number = ffi::read_beef(data, &mut guarded.blame, &mut lent.bumps, &mut lent.transactions);
+    assert_eq!((number, guarded, lent), expected(told, fill), "{}", show(data));
     assert_eq!(barrowtide::read_beef(data).map_err(plain), told, "{}", show(data));
     told
 }
 
 fn refused<T>(number: u32, carried: u64) -> Result<T, Refusal> {
-    Err(Refusal { number, carried })
+    Err(Refusal::new(number, carried))
 }
 
 /// A transaction of 60 bytes: one input and one output without scripts.

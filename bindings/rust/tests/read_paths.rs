@@ -3,7 +3,7 @@
 mod common;
 
 use barrowtide::{ffi, Bump, Cmp, VarInt, MAX_INPUT};
-use common::{expected, plain, FILL};
+use common::{expected, plain, FILL, GUARDED};
 use reference::generate::damage::{all_strings, field_edits, random_edit, truncations};
 use reference::generate::draft::{varint, wide_varint, Draft};
 use reference::generate::path::{Leaf, Plan};
@@ -18,9 +18,9 @@ fn check_varint(data: &[u8]) -> Result<VarInt, Refusal> {
     let told =
         fields::read_varint(data).map(|read| VarInt { value: read.value, width: read.width });
     let fill = VarInt { value: FILL, width: FILL };
-    let (mut carried, mut lent) = (FILL, fill);
-    let number = ffi::read_varint(data, &mut carried, &mut lent.value, &mut lent.width);
-    assert_eq!((number, carried, lent), expected(told, fill), "{}", show(data));
+    let (mut guarded, mut lent) = (GUARDED, fill);
+    let number = ffi::read_varint(data, &mut guarded.blame, &mut lent.value, &mut lent.width);
+    assert_eq!((number, guarded, lent), expected(told, fill), "{}", show(data));
     assert_eq!(barrowtide::read_varint(data).map_err(plain), told, "{}", show(data));
     told
 }
@@ -32,15 +32,15 @@ fn check_bump(data: &[u8]) -> Result<Bump, Refusal> {
         leaves: read.path.leaves(),
     });
     let fill = Bump { block_height: FILL, tree_height: FILL, leaves: FILL };
-    let (mut carried, mut lent) = (FILL, fill);
+    let (mut guarded, mut lent) = (GUARDED, fill);
     let number = ffi::read_bump(
         data,
-        &mut carried,
+        &mut guarded.blame,
         &mut lent.block_height,
         &mut lent.tree_height,
         &mut lent.leaves,
     );
-    assert_eq!((number, carried, lent), expected(told, fill), "{}", show(data));
+    assert_eq!((number, guarded, lent), expected(told, fill), "{}", show(data));
     assert_eq!(barrowtide::read_bump(data).map_err(plain), told, "{}", show(data));
     told
 }
@@ -49,15 +49,15 @@ fn check_cmp(data: &[u8]) -> Result<Cmp, Refusal> {
     let told =
         cmp::read(data).map(|read| Cmp { tree_height: read.tree_height(), leaves: read.leaves() });
     let fill = Cmp { tree_height: FILL, leaves: FILL };
-    let (mut carried, mut lent) = (FILL, fill);
-    let number = ffi::read_cmp(data, &mut carried, &mut lent.tree_height, &mut lent.leaves);
-    assert_eq!((number, carried, lent), expected(told, fill), "{}", show(data));
+    let (mut guarded, mut lent) = (GUARDED, fill);
+    let number = ffi::read_cmp(data, &mut guarded.blame, &mut lent.tree_height, &mut lent.leaves);
+    assert_eq!((number, guarded, lent), expected(told, fill), "{}", show(data));
     assert_eq!(barrowtide::read_cmp(data).map_err(plain), told, "{}", show(data));
     told
 }
 
 fn refused<T>(number: u32, carried: u64) -> Result<T, Refusal> {
-    Err(Refusal { number, carried })
+    Err(Refusal::new(number, carried))
 }
 
 /// P1 to P6 and their like.

@@ -6,7 +6,7 @@ mod common;
 use std::collections::BTreeSet;
 
 use barrowtide::{check_clients, ffi, prove_bump, read_bump, Proof, WRITE_ROOM};
-use common::{expected, plain, FILL};
+use common::{expected, plain, FILL, GUARDED};
 use reference::generate::list::Plan;
 use reference::generate::random::{rounds, Random};
 use reference::generate::tally::Tally;
@@ -30,11 +30,11 @@ fn check_room(plan: &Plan, room: usize) -> Answer {
     let describe =
         || format!("block {block_height}; {}; positions {positions:?}; room {room}", show(ids));
 
-    let (mut carried, mut written, mut out) = (FILL, FILL, before.clone());
+    let (mut guarded, mut written, mut out) = (GUARDED, FILL, before.clone());
     let number =
-        ffi::write_bump(*block_height, ids, positions, &mut out, &mut carried, &mut written);
+        ffi::write_bump(*block_height, ids, positions, &mut out, &mut guarded.blame, &mut written);
     let length_told = length.map(|length| length as u64);
-    assert_eq!((number, carried, written), expected(length_told, FILL), "{}", describe());
+    assert_eq!((number, guarded, written), expected(length_told, FILL), "{}", describe());
     assert!(out == left, "{}; left {}", describe(), show(&out));
 
     let mut out = before;
@@ -81,7 +81,7 @@ fn read_back(plan: &Plan, bytes: &[u8]) {
 
 /// A refusal of the call carries 0.
 fn refusal(number: u32) -> Refusal {
-    Refusal { number, carried: 0 }
+    Refusal::new(number, 0)
 }
 
 fn refused(number: u32) -> Answer {

@@ -1,4 +1,6 @@
 pub mod Interface
+pub mod InterfaceLaws
 pub mod Forms
+pub mod FormsLaws
 pub mod Answers
-pub mod Pages
+pub mod AnswersLaws

@@ -1,4 +1,6 @@
-// The C interface. A call returns the number of its refusal, or 0; memory that it gives nothing for keeps its content.
+// The C interface. A call returns the number of its refusal, or 0; memory that it gives nothing for keeps its content. What a refusal blames is a C
+// struct of three 64-bit numbers, lent as an array of them.
+mod blame;
 pub mod judge;
 pub mod pages;
 pub mod prove;
@@ -11,16 +13,17 @@ ghost use Rattle.hash.specs.Sha256 as S;
 ghost use Rattle.barrowtide.specs.Interface as I;
 ghost use Rattle.barrowtide.specs.Answers.{ofHashed};
 
-// uint32_t barrowtide_sha256d(const uint8_t *message, size_t length, uint64_t *carried, uint8_t digest[32]);
+// uint32_t barrowtide_sha256d(const uint8_t *message, size_t length, barrowtide_blame *blame, uint8_t digest[32]);
 #[no_mangle]
 pub extern "C" fn barrowtide_sha256d(
     message: &[u8],
-    carried: &mut u64,
+    blame: &mut [u64; 3],
     digest: &mut [u8; 32],
 ) -> u32
-    ensures { λ r. ⌜ r ≡ I.refusal (ofHashed (S.hashed (now (message .entry)))) ⌝ }
-    ensures { λ _. ⌜ now (carried .exit) ≡ I.place (ofHashed (S.hashed (now (message .entry)))) (now (carried .entry)) ⌝ }
-    ensures { λ _. ⌜ now (digest .exit) ≡ I.taken (λ d. d) (ofHashed (S.hashed (now (message .entry)))) (now (digest .entry)) ⌝ }
+    ensures { λ r. ⌜ (let v = ofHashed (S.hashed (now (message .entry))) in
+        (r ≡ I.refusal v)
+        × (now (blame .exit) ≡ I.blame v (now (blame .entry)))
+        × (now (digest .exit) ≡ I.taken (λ d. d) v (now (digest .entry)))) ⌝ }
 {
     let hashed = hash::sha256d(message);
     let number = hashed.number as u32;
@@ -28,7 +31,7 @@ pub extern "C" fn barrowtide_sha256d(
         let bytes = hashed.digest;
         *digest = bytes;
     } else {
-        *carried = hashed.place as u64;
+        *blame = [hashed.place as u64, 0, 0];
     }
     number
 }

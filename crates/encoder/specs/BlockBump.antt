@@ -13,8 +13,9 @@ use Rattle.format.specs.Parse.{pick, got}
 use Rattle.format.specs.Level.{holds}
 use Rattle.format.specs.Search.{lookup}
 use Rattle.format.specs.Bump.{Bump, bumpWhole}
-use Rattle.format.specs.Refusals.{OVER-LIMIT, NOT-LISTED, BAD-OFFSET, SAME-TX, TWIN, NO-ROOM, MAX-BLOCK}
-use Rattle.spv.specs.Climb.{beside, Outcome, rooted, refused}
+use Rattle.format.specs.Refusals.{OVER-LIMIT, NOT-LISTED, BAD-OFFSET, SAME-TX, NO-ROOM, MAX-BLOCK}
+use Rattle.spv.specs.Climb.{siblingPosition}
+use Rattle.spv.specs.Result.{Result, accepted, refused, carrying, follow}
 use Rattle.spv.specs.Bundle.{hashesOf, among}
 use Rattle.format.specs.BumpBytes.{Carried, plain, copy, client, Entry, Content, bumpBytes, carriedOf}
 use Rattle.encoder.specs.declared.block.Written.{Written}
@@ -44,7 +45,7 @@ siblingAt ids k o = pick (ltb o (size ids k)) (plain (node ids k o)) copy
 unfoldable pub asked : List (List ℕ) → List ℕ → ℕ → ℕ → Option Carried
 asked ids chosen k o =
     pick (eqb k 0 && under chosen 0 o) (some (client (node ids 0 o)))
-    (pick (under chosen k (beside o) && not (leftOut chosen k o)) (some (siblingAt ids k o)) none)
+    (pick (under chosen k (siblingPosition o) && not (leftOut chosen k o)) (some (siblingAt ids k o)) none)
 
 -- "offsets rising": the leaves asked for at n offsets from o on
 unfoldable pub rising : (ℕ → Option Carried) → ℕ → ℕ → List Entry
@@ -84,44 +85,35 @@ unfoldable pub distinct : List (List ℕ) → Bool
 distinct [] = true
 distinct (x ∷ l) = not (among x l) && distinct l
 
--- a climb that meets no twin
-unfoldable pub reaches : Outcome → Bool
-reaches (rooted r) = true
-reaches (refused number k q) = false
-
--- .. of every chosen position
-unfoldable pub allReach : List (List ℕ) → List ℕ → Bool
-allReach ids [] = true
-allReach ids (i ∷ chosen) = reaches (treeClimb ids i) && allReach ids chosen
-
--- what a call comes to: the bytes of a BUMP, or a refusal
-pub data Writing : Type 0 where
-  writes : List ℕ → Writing
-  refuses : ℕ → Writing
+-- the climbs of the chosen ones of n positions from i on, least first: the first refusal stands, "the lowest such layer of the least chosen position whose climb meets a twin" (02, Item 5)
+unfoldable pub climbsFrom : List (List ℕ) → List ℕ → ℕ → ℕ → Result (Unit {0})
+climbsFrom ids chosen i zero = accepted tt
+climbsFrom ids chosen i (suc n) =
+    pick (under chosen 0 i) (follow (treeClimb ids i) (λ _. climbsFrom ids chosen (i + 1) n))
+    (climbsFrom ids chosen (i + 1) n)
 
 -- 22 exactly when the bytes needed exceed the room lent
-unfoldable pub roomFor : ℕ → List ℕ → Writing
-roomFor room bytes = pick (leb (length bytes) room) (writes bytes) (refuses NO-ROOM)
+unfoldable pub roomFor : ℕ → List ℕ → Result (List ℕ)
+roomFor room bytes = pick (leb (length bytes) room) (accepted bytes) (refused (carrying NO-ROOM 0))
 
--- a block height, a list, chosen positions and the room lent: the refusals in their order
-unfoldable pub writing : ℕ → List ℕ → List ℕ → ℕ → Writing
+-- a block height, a list, chosen positions and the room lent: the bytes of a BUMP, or the first of the refusals in their order
+unfoldable pub writing : ℕ → List ℕ → List ℕ → ℕ → Result (List ℕ)
 writing block list chosen room =
-    pick (not (sized block list)) (refuses OVER-LIMIT)
-    (pick (noneChosen chosen) (refuses NOT-LISTED)
-    (pick (not (allBelow (length list / 32) chosen)) (refuses BAD-OFFSET)
-    (pick (not (distinct (hashesOf list))) (refuses SAME-TX)
-    (pick (not (allReach (hashesOf list) chosen)) (refuses TWIN)
-    (roomFor room (bumpBytes (blockBump block (hashesOf list) chosen)))))))
+    pick (not (sized block list)) (refused (carrying OVER-LIMIT 0))
+    (pick (noneChosen chosen) (refused (carrying NOT-LISTED 0))
+    (pick (not (allBelow (length list / 32) chosen)) (refused (carrying BAD-OFFSET 0))
+    (pick (not (distinct (hashesOf list))) (refused (carrying SAME-TX 0))
+    (follow (climbsFrom (hashesOf list) chosen 0 (length list / 32)) (λ _. roomFor room (bumpBytes (blockBump block (hashesOf list) chosen)))))))
 
--- the answer: how many bytes were written, or the refusal, carrying 0
-unfoldable pub writtenOf : Writing → Written
-writtenOf (writes bytes) = Bytes (length bytes)
-writtenOf (refuses number) = Refused (record { number = number; place = 0 })
+-- the answer: how many bytes were written, or the refusal
+unfoldable pub writtenOf : Result (List ℕ) → Written
+writtenOf (accepted bytes) = Bytes (length bytes)
+writtenOf (refused why) = Refused why
 
 -- what the memory lent holds then: "each leaves the output as it was"; bytes past the written ones stay
-unfoldable pub outputAfter : Writing → List ℕ → List ℕ
-outputAfter (writes bytes) out = bytes ++ drop (length bytes) out
-outputAfter (refuses number) out = out
+unfoldable pub outputAfter : Result (List ℕ) → List ℕ → List ℕ
+outputAfter (accepted bytes) out = bytes ++ drop (length bytes) out
+outputAfter (refused why) out = out
 
 -- ---- the rules that bytes meet
 

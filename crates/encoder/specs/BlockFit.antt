@@ -14,8 +14,8 @@ use Rattle.format.specs.Parse.{pick}
 use Rattle.format.specs.Level.{holds}
 use Rattle.format.specs.LevelLaws.{holds-snoc}
 use Rattle.format.specs.Refusals.{MAX-BLOCK}
-use Rattle.spv.specs.Climb.{beside}
-use Rattle.spv.specs.ClimbLaws.{beside-even}
+use Rattle.spv.specs.Climb.{siblingPosition}
+use Rattle.spv.specs.ClimbLaws.{sibling-even}
 use Rattle.format.specs.Spelling.{Fits}
 use Rattle.format.specs.BumpBytes.{Carried, plain, copy, client, CarriedFit, EntryFit, andEntry, LevelFit, nextLevel, ContentFit}
 use Rattle.encoder.specs.Tree.{size, node, height}
@@ -68,18 +68,18 @@ below-told n (x ∷ chosen) e i h = go (ltb x n) refl (eqb i x) refl e h (λ f g
 -- the ways in which a leaf is asked for
 pub data Asking (ids : List (List ℕ)) (chosen : List ℕ) (k o : ℕ) (c : Carried) : Type 0 where
   as-client : k ≡ 0 → under chosen 0 o ≡ true → client (node ids 0 o) ≡ c → Asking ids chosen k o c
-  as-sibling : under chosen k (beside o) ≡ true → siblingAt ids k o ≡ c → Asking ids chosen k o c
+  as-sibling : under chosen k (siblingPosition o) ≡ true → siblingAt ids k o ≡ c → Asking ids chosen k o c
 
 pub asked-told : (ids : List (List ℕ)) (chosen : List ℕ) (k o : ℕ) (c : Carried) → asked ids chosen k o ≡ some c → Asking ids chosen k o c
 unfolding asked
-asked-told ids chosen k o c e = go (eqb k 0) refl (under chosen 0 o) refl (under chosen k (beside o)) refl (leftOut chosen k o) e
+asked-told ids chosen k o c e = go (eqb k 0) refl (under chosen 0 o) refl (under chosen k (siblingPosition o)) refl (leftOut chosen k o) e
   where
-    sib : (n : Bool) → under chosen k (beside o) ≡ n → (l : Bool) → pick (n && not l) (some (siblingAt ids k o)) none ≡ some c → Asking ids chosen k o c
+    sib : (n : Bool) → under chosen k (siblingPosition o) ≡ n → (l : Bool) → pick (n && not l) (some (siblingAt ids k o)) none ≡ some c → Asking ids chosen k o c
     sib true h true e = absurd (let z : _≡_ {A = ℕ} 0 1 = cc in omega arith)
     sib true h false e = as-sibling h cc
     sib false h l e = absurd (let z : _≡_ {A = ℕ} 0 1 = cc in omega arith)
 
-    go : (a : Bool) → eqb k 0 ≡ a → (b : Bool) → under chosen 0 o ≡ b → (n : Bool) → under chosen k (beside o) ≡ n → (l : Bool)
+    go : (a : Bool) → eqb k 0 ≡ a → (b : Bool) → under chosen 0 o ≡ b → (n : Bool) → under chosen k (siblingPosition o) ≡ n → (l : Bool)
         → pick (a && b) (some (client (node ids 0 o))) (pick (n && not l) (some (siblingAt ids k o)) none) ≡ some c → Asking ids chosen k o c
     go true ea true eb n en l e = as-client (eqb-true k 0 ea) eb cc
     go true ea false eb n en l e = sib n en l e
@@ -93,13 +93,13 @@ module _ {block : ℕ} {ids : List (List ℕ)} {chosen : List ℕ} (g : Sizes bl
   pub under-size : (k j : ℕ) → under chosen k j ≡ true → j < size ids k
   under-size = under-below ids chosen (g .below)
 
-  sibling-fits : (k o : ℕ) → under chosen k (beside o) ≡ true → CarriedFit k o (siblingAt ids k o)
+  sibling-fits : (k o : ℕ) → under chosen k (siblingPosition o) ≡ true → CarriedFit k o (siblingAt ids k o)
   unfolding siblingAt CarriedFit Hashes
   sibling-fits k o e = go (ltb o (size ids k)) refl
     where
       odd-one : (t : Bool) → eqb (o % 2) 1 ≡ t → size ids k ≤ o → o % 2 ≡ 1
       odd-one true h l = eqb-true _ _ h
-      odd-one false h l = absurd (let u = rw (beside-even o (eqb-false _ _ h)) at (under-size k (beside o) e) in omega arith)
+      odd-one false h l = absurd (let u = rw (sibling-even o (eqb-false _ _ h)) at (under-size k (siblingPosition o) e) in omega arith)
 
       go : (t : Bool) → ltb o (size ids k) ≡ t → CarriedFit k o (pick t (plain (node ids k o)) copy)
       go true h = layer-hashes ids (g .hashes) k o (ltb-true _ _ h)

@@ -17,34 +17,37 @@ use Rattle.format.specs.declared.level.Leaf.{Leaf}
 use Rattle.format.specs.declared.path.Start.{Start}
 use Rattle.format.specs.declared.path.Start.the-variants.{At, Nowhere}
 use Rattle.format.specs.Parse.{pick}
-use Rattle.format.specs.Bytes.{same, same-eq, same-refl, eq-same}
+use Rattle.format.specs.Bytes.{same}
+use Rattle.format.specs.BytesLaws.{same-eq, same-refl, eq-same}
 use Rattle.format.specs.Level.{holds}
 use Rattle.format.specs.Search.{carries, leastOffset}
 use Rattle.spv.specs.Bundle.{among}
-use Rattle.spv.specs.Climb.{Siblings, beside, besides}
+use Rattle.spv.specs.Climb.{Siblings, siblingPosition, siblingPositions}
 use Rattle.spv.specs.ClimbLaws.{ascend-agree}
-use Rattle.spv.specs.Compare.{any, read, hits, proved, proofOf, judge}
-use Rattle.spv.specs.CompareLaws.{judge-climb, judge-root}
+use Rattle.spv.specs.Result.{accepted}
+use Rattle.spv.specs.Compare.{any, read, hits, proofOf, prove}
+use Rattle.spv.specs.CompareLaws.{prove-climb, prove-root}
 use Rattle.spv.specs.Siblings.{levelSiblings}
-use Rattle.spv.specs.Readings.{starting, levelsReading, bumpReading, bump-read}
+use Rattle.spv.specs.Readings.{starting, levelsReading, bumpReading}
+use Rattle.spv.specs.ReadingsLaws.{bump-read}
 use Rattle.spv.specs.Surplus.{carriedAt, Least, least-is}
 use Rattle.format.specs.BumpBytes.{Carried, plain, copy, client, Entry, carriedOf, entryOf}
-use Rattle.encoder.specs.Tree.{layer, size, node, height, root, treeSiblings, treeClimb}
+use Rattle.encoder.specs.Tree.{layer, size, node, height, root, treeSiblings, treeClimb, reaches}
 use Rattle.encoder.specs.TreeLaws.{height-holds}
 use Rattle.encoder.specs.TreeClimb.{climb-roots}
-use Rattle.encoder.specs.BlockBump.{siblingAt, asked, rising, levelFor, distinct, reaches}
+use Rattle.encoder.specs.BlockBump.{siblingAt, asked, rising, levelFor, distinct}
 use Rattle.encoder.specs.RisingLaws.{rising-none, rising-some}
 use Rattle.encoder.specs.BlockFit.{Sizes, high, under-chosen, under-size, Asking, as-client, as-sibling, asked-told}
 use Rattle.encoder.specs.BlockMeets.{ReadBack, height-back, level-back}
-use Rattle.encoder.specs.BlockValues.{beside-beside, needed-value}
+use Rattle.encoder.specs.BlockValues.{sibling-twice, needed-value}
 
 -- ---- siblings
 
-pub besides-at : (h i m : ℕ) → m < h → getD (besides i h) m 0 ≡ beside (i / 2 ^ m)
-unfolding besides
-besides-at zero i m b = absurd (omega arith)
-besides-at (suc h) i zero b = ap beside (sym (div-one i))
-besides-at (suc h) i (suc m) b = besides-at h (i / 2) m (omega arith) ∙ ap beside (shr-shr i 1 m ∙ ap (λ (n : ℕ). i / 2 ^ n) (omega arith))
+pub sibling-positions-at : (h i m : ℕ) → m < h → getD (siblingPositions i h) m 0 ≡ siblingPosition (i / 2 ^ m)
+unfolding siblingPositions
+sibling-positions-at zero i m b = absurd (omega arith)
+sibling-positions-at (suc h) i zero b = ap siblingPosition (sym (div-one i))
+sibling-positions-at (suc h) i (suc m) b = sibling-positions-at h (i / 2) m (omega arith) ∙ ap siblingPosition (shr-shr i 1 m ∙ ap (λ (n : ℕ). i / 2 ^ n) (omega arith))
 
 -- ---- where an id is carried
 
@@ -155,8 +158,8 @@ carried-own {block} {ids} {chosen} g d i o b e = go (asked ids chosen 0 o) refl 
     go (some c) q f = way c (asked-told ids chosen 0 o c q) f
 
 module _ {block : ℕ} {ids : List (List ℕ)} {chosen s : List ℕ} (g : Sizes block ids chosen) (r : ReadBack block ids chosen s) (i : ℕ) (m : holds i chosen ≡ true) where
-  agrees : (k : ℕ) → k < height ids → levelSiblings s (r .bump .levels) k (beside (i / 2 ^ k)) ≡ treeSiblings ids k (beside (i / 2 ^ k))
-  agrees k b = needed-value g r k (beside (i / 2 ^ k)) b (rw (beside-beside (i / 2 ^ k)) (under-chosen chosen i k m))
+  agrees : (k : ℕ) → k < height ids → levelSiblings s (r .bump .levels) k (siblingPosition (i / 2 ^ k)) ≡ treeSiblings ids k (siblingPosition (i / 2 ^ k))
+  agrees k b = needed-value g r k (siblingPosition (i / 2 ^ k)) b (rw (sibling-twice (i / 2 ^ k)) (under-chosen chosen i k m))
 
   -- the id starts at its position
   starts : distinct ids ≡ true → leastOffset s (node ids 0 i) (getD (r .bump .levels) 0 []) ≡ At i
@@ -189,14 +192,14 @@ module _ {block : ℕ} {ids : List (List ℕ)} {chosen s : List ℕ} (g : Sizes 
 
   -- the bytes prove the id at its position, over the least height, to the list's root
   pub chosen-proved : distinct ids ≡ true → reaches (treeClimb ids i) ≡ true
-      → judge (bumpReading s (node ids 0 i)) ≡ proved (proofOf (treeSiblings ids) (height ids) i (node ids 0 i) (root ids))
+      → prove (bumpReading s (node ids 0 i)) ≡ accepted (proofOf (treeSiblings ids) (height ids) i (node ids 0 i) (root ids))
   unfolding levelsReading starting treeClimb hits
   chosen-proved d e =
       let id : List ℕ = node ids 0 i in
       let σ : Siblings = levelSiblings s (r .bump .levels) in
-      ap judge (bump-read s id (r .bump) (r .end) (r .read))
-      ∙ ap (λ (x : Start). judge (starting σ (r .bump .height) id x)) (starts d)
-      ∙ ap (λ (n : ℕ). judge (read σ n i id any)) (height-back r)
-      ∙ judge-climb σ (treeSiblings ids) (height ids) i id any
-      (ascend-agree σ (treeSiblings ids) 0 (height ids) i id (λ k b. rw (zero-add k, besides-at (height ids) i k b) (agrees k b)))
-      ∙ judge-root (treeSiblings ids) (height ids) i id any (root ids) (climb-roots ids i (g .below i m) e) refl
+      ap prove (bump-read s id (r .bump) (r .end) (r .read))
+      ∙ ap (λ (x : Start). prove (starting σ (r .bump .height) id x)) (starts d)
+      ∙ ap (λ (n : ℕ). prove (read σ n i id any)) (height-back r)
+      ∙ prove-climb σ (treeSiblings ids) (height ids) i id any
+      (ascend-agree σ (treeSiblings ids) 0 (height ids) i id (λ k b. rw (zero-add k, sibling-positions-at (height ids) i k b) (agrees k b)))
+      ∙ prove-root (treeSiblings ids) (height ids) i id any (root ids) (climb-roots ids i (g .below i m) e) refl

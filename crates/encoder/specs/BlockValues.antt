@@ -20,8 +20,8 @@ use Rattle.format.specs.declared.path.Found.the-variants.{Here, Missing}
 use Rattle.format.specs.Parse.{pick}
 use Rattle.format.specs.Level.{holds}
 use Rattle.format.specs.Search.{lookup}
-use Rattle.spv.specs.Climb.{Sibling, value, copied, absent, Siblings, beside}
-use Rattle.spv.specs.ClimbLaws.{beside-odd, beside-even}
+use Rattle.spv.specs.Climb.{Sibling, value, copied, absent, Siblings, siblingPosition}
+use Rattle.spv.specs.ClimbLaws.{sibling-odd, sibling-even}
 use Rattle.spv.specs.Values.{joinBoth, joinOf, valueOf, workedOut}
 use Rattle.spv.specs.ValuesLaws.{value-written, value-copied, value-absent}
 use Rattle.spv.specs.Siblings.{written, sibling, writtenBy, findIn, levelSiblings}
@@ -32,20 +32,20 @@ use Rattle.encoder.specs.BlockBump.{under, leftOut, siblingAt, asked, fo
 use Rattle.encoder.specs.BlockFit.{Sizes, under-told, under-chosen, under-size}
 use Rattle.encoder.specs.BlockMeets.{ReadBack, leaf-back}
 
-pub beside-beside : (j : ℕ) → beside (beside j) ≡ j
-beside-beside j = go (eqb (j % 2) 1) refl
+pub sibling-twice : (j : ℕ) → siblingPosition (siblingPosition j) ≡ j
+sibling-twice j = go (eqb (j % 2) 1) refl
   where
-    go : (t : Bool) → eqb (j % 2) 1 ≡ t → beside (beside j) ≡ j
-    go true e = let o = eqb-true (j % 2) 1 e in rw (beside-odd j o, beside-even (j - 1) (λ q. omega arith)) (omega arith)
-    go false e = let o = eqb-false (j % 2) 1 e in rw (beside-even j o, beside-odd (j + 1) (omega arith)) (omega arith)
+    go : (t : Bool) → eqb (j % 2) 1 ≡ t → siblingPosition (siblingPosition j) ≡ j
+    go true e = let o = eqb-true (j % 2) 1 e in rw (sibling-odd j o, sibling-even (j - 1) (λ q. omega arith)) (omega arith)
+    go false e = let o = eqb-false (j % 2) 1 e in rw (sibling-even j o, sibling-odd (j + 1) (omega arith)) (omega arith)
 
 -- a sibling lies in its level
-beside-below : (j n : ℕ) → j < 2 ^ suc n → beside j < 2 ^ suc n
-beside-below j n b = go (eqb (j % 2) 1) refl
+sibling-below : (j n : ℕ) → j < 2 ^ suc n → siblingPosition j < 2 ^ suc n
+sibling-below j n b = go (eqb (j % 2) 1) refl
   where
-    go : (t : Bool) → eqb (j % 2) 1 ≡ t → beside j < 2 ^ suc n
-    go true e = rw (beside-odd j (eqb-true (j % 2) 1 e)) (omega arith)
-    go false e = rw (beside-even j (eqb-false (j % 2) 1 e)) (let o = eqb-false (j % 2) 1 e in let p = pow-suc 2 n in omega arith)
+    go : (t : Bool) → eqb (j % 2) 1 ≡ t → siblingPosition j < 2 ^ suc n
+    go true e = rw (sibling-odd j (eqb-true (j % 2) 1 e)) (omega arith)
+    go false e = rw (sibling-even j (eqb-false (j % 2) 1 e)) (let o = eqb-false (j % 2) 1 e in let p = pow-suc 2 n in omega arith)
 
 -- what a leaf asked for gives a climb
 unfoldable asSibling : Option Carried → Sibling
@@ -63,7 +63,7 @@ found-sibling s Missing = refl
 
 -- a chosen climb passes the node or its sibling
 unfoldable near : List ℕ → ℕ → ℕ → Bool
-near chosen k o = under chosen k o || under chosen k (beside o)
+near chosen k o = under chosen k o || under chosen k (siblingPosition o)
 
 -- a climb that passes a node passes one of its children, so it is near both
 module _ (chosen : List ℕ) (k o : ℕ) (u : under chosen (suc k) o ≡ true) where
@@ -92,12 +92,12 @@ module _ (chosen : List ℕ) (k o : ℕ) (u : under chosen (suc k) o ≡ true) w
 
   near-left : near chosen k (2 * o) ≡ true
   unfolding near
-  near-left = rw (beside-even (2 * o) (λ q. omega arith)) child
+  near-left = rw (sibling-even (2 * o) (λ q. omega arith)) child
 
   near-right : near chosen k (2 * o + 1) ≡ true
   unfolding near
   near-right =
-      let e : beside (2 * o + 1) ≡ 2 * o = beside-odd (2 * o + 1) (omega arith) ∙ omega arith in
+      let e : siblingPosition (2 * o + 1) ≡ 2 * o = sibling-odd (2 * o + 1) (omega arith) ∙ omega arith in
       rw e (or-comm (under chosen k (2 * o + 1)) (under chosen k (2 * o)) ∙ child)
 
 -- ---- what is asked for near a chosen climb
@@ -110,21 +110,21 @@ module _ (ids : List (List ℕ)) (chosen : List ℕ) (o : ℕ) where
   -- over a chosen position it is left out
   asked-over : (k : ℕ) → under chosen (suc k) o ≡ true → asked ids chosen (suc k) o ≡ none
   unfolding asked leftOut
-  asked-over k u = rw (ne-eqb (suc k) 0 (λ q. omega arith), u, lt-ltb 0 (suc k) (zero-lt-suc k)) (go (under chosen (suc k) (beside o)))
+  asked-over k u = rw (ne-eqb (suc k) 0 (λ q. omega arith), u, lt-ltb 0 (suc k) (zero-lt-suc k)) (go (under chosen (suc k) (siblingPosition o)))
     where
       go : (b : Bool) → pick (b && false) (some (siblingAt ids (suc k) o)) none ≡ none
       go true = refl
       go false = refl
 
-  asked-beside : (k : ℕ) → under chosen k o ≡ false → under chosen k (beside o) ≡ true → asked ids chosen k o ≡ some (siblingAt ids k o)
+  asked-sibling : (k : ℕ) → under chosen k o ≡ false → under chosen k (siblingPosition o) ≡ true → asked ids chosen k o ≡ some (siblingAt ids k o)
   unfolding asked leftOut
-  asked-beside k u v = go (eqb k 0) refl (ltb 0 k)
+  asked-sibling k u v = go (eqb k 0) refl (ltb 0 k)
     where
       at : (b : Bool) → pick (true && not (b && false)) (some (siblingAt ids k o)) none ≡ some (siblingAt ids k o)
       at true = refl
       at false = refl
 
-      go : (a : Bool) → eqb k 0 ≡ a → (b : Bool) → pick (a && under chosen 0 o) (some (client (node ids 0 o))) (pick (under chosen k (beside o) && not (b && under chosen k o)) (some (siblingAt ids k o)) none) ≡ some (siblingAt ids k o)
+      go : (a : Bool) → eqb k 0 ≡ a → (b : Bool) → pick (a && under chosen 0 o) (some (client (node ids 0 o))) (pick (under chosen k (siblingPosition o) && not (b && under chosen k o)) (some (siblingAt ids k o)) none) ≡ some (siblingAt ids k o)
       go true e b = let z : under chosen 0 o ≡ false = rw (eqb-true k 0 e) at u in rw (z, u, v) (at b)
       go false e b = rw (u, v) (at b)
 
@@ -144,10 +144,10 @@ module _ {block : ℕ} {ids : List (List ℕ)} {chosen s : List ℕ} (g : Sizes 
       let below : t .0 < 2 ^ height ids = (let a = g .below (t .0) (t .1) in let l = height-holds (length ids) in omega arith) in
       rw (← (t .2)) (shr-lt (height ids - k) k (rw back below))
 
-  beside-in : (k o : ℕ) → k < height ids → under chosen k (beside o) ≡ true → o < 2 ^ (height ids - k)
-  beside-in k o b u =
+  sibling-in : (k o : ℕ) → k < height ids → under chosen k (siblingPosition o) ≡ true → o < 2 ^ (height ids - k)
+  sibling-in k o b u =
       let up : suc (height ids - k - 1) ≡ height ids - k = omega arith in
-      rw (← up) (rw (beside-beside o) at (beside-below (beside o) (height ids - k - 1) (rw up (under-in k (beside o) b u))))
+      rw (← up) (rw (sibling-twice o) at (sibling-below (siblingPosition o) (height ids - k - 1) (rw up (under-in k (siblingPosition o) b u))))
 
   -- a value of the tree's: its node, and past the end of a layer that of the copy
   abbrev InTree : ℕ → ℕ → Sibling → Type 0
@@ -158,9 +158,9 @@ module _ {block : ℕ} {ids : List (List ℕ)} {chosen s : List ℕ} (g : Sizes 
   in-tree k o c u e = rw (lt-ltb o (size ids k) (under-size g k o u)) e
 
   -- beside a chosen climb that doesn't pass it a node is written
-  value-beside : (k o : ℕ) (c : Sibling) → k < height ids → under chosen k o ≡ false → under chosen k (beside o) ≡ true → InTree k o c
+  value-sibling : (k o : ℕ) (c : Sibling) → k < height ids → under chosen k o ≡ false → under chosen k (siblingPosition o) ≡ true → InTree k o c
   unfolding asSibling siblingAt
-  value-beside k o c b u v = go (ltb o (size ids k)) (stated k o b (beside-in k o b v) ∙ ap asSibling (asked-beside ids chosen o k u v))
+  value-sibling k o c b u v = go (ltb o (size ids k)) (stated k o b (sibling-in k o b v) ∙ ap asSibling (asked-sibling ids chosen o k u v))
     where
       go : (t : Bool) → w k o ≡ asSibling (some (pick t (plain (node ids k o)) copy)) → valueOf w c k o ≡ pick t (value (node ids k o)) c
       go true e = value-written w c k o (node ids k o) e
@@ -190,19 +190,19 @@ module _ {block : ℕ} {ids : List (List ℕ)} {chosen s : List ℕ} (g : Sizes 
   unfolding near asSibling
   value-near zero o c b n = go (under chosen 0 o) refl n
     where
-      go : (t : Bool) → under chosen 0 o ≡ t → (t || under chosen 0 (beside o)) ≡ true → InTree 0 o c
+      go : (t : Bool) → under chosen 0 o ≡ t → (t || under chosen 0 (siblingPosition o)) ≡ true → InTree 0 o c
       go true u m = in-tree 0 o c u (value-written w c 0 o (node ids 0 o) (stated 0 o b (under-in 0 o b u) ∙ ap asSibling (asked-client ids chosen o u)))
-      go false u m = value-beside 0 o c b u m
+      go false u m = value-sibling 0 o c b u m
   value-near (suc k) o c b n = go (under chosen (suc k) o) refl n (λ q d e. value-near k q d (omega arith) e)
     where
-      go : (t : Bool) → under chosen (suc k) o ≡ t → (t || under chosen (suc k) (beside o)) ≡ true → ((q : ℕ) (d : Sibling) → near chosen k q ≡ true → InTree k q d) → InTree (suc k) o c
+      go : (t : Bool) → under chosen (suc k) o ≡ t → (t || under chosen (suc k) (siblingPosition o)) ≡ true → ((q : ℕ) (d : Sibling) → near chosen k q ≡ true → InTree k q d) → InTree (suc k) o c
       go true u m f =
           in-tree (suc k) o c u
           (value-absent w c (suc k) o (stated (suc k) o b (under-in (suc k) o b u) ∙ ap asSibling (asked-over ids chosen o k u))
           ∙ joins-up k o (under-size g (suc k) o u) (f (2 * o) absent (near-left chosen k o u)) (λ d. f (2 * o + 1) d (near-right chosen k o u)))
-      go false u m f = value-beside (suc k) o c b u m
+      go false u m f = value-sibling (suc k) o c b u m
 
   -- what the climb takes beside a chosen climb's node is the tree's
-  pub needed-value : (k q : ℕ) → k < height ids → under chosen k (beside q) ≡ true → levelSiblings s (r .bump .levels) k q ≡ treeSiblings ids k q
+  pub needed-value : (k q : ℕ) → k < height ids → under chosen k (siblingPosition q) ≡ true → levelSiblings s (r .bump .levels) k q ≡ treeSiblings ids k q
   unfolding levelSiblings workedOut treeSiblings near
   needed-value k q b u = value-near k q copied b (rw u (or-true (under chosen k q)))

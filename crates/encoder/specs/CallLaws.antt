@@ -2,25 +2,28 @@
 use mathlib.Core.Path.{_≡_, refl, sym, ap, _∙_}
 use mathlib.Core.Bool.{true, false}
 use mathlib.Core.List.{List, [], _∷_, _++_}
-use Prim.Native.Nat.{ℕ, _+_, _/_, _%_, _^_, _≤_, _<_, min}
+use Prim.Native.Nat.{ℕ, zero, suc, _+_, _/_, _%_, _^_, _≤_, _<_, min}
 use lib.ListN.{length, drop, length-append}
 use lib.Seq.{take-all}
 use lib.Dec.{leb, eqb}
 use native.Mathlib.Omega.{arith}
 use borrow.Author.Tests.{le-leb, lt-leb, leb-true, eq-eqb, ne-eqb}
 use Rattle.format.specs.Basics.{and-true}
-use Rattle.format.specs.Buffer.{Buffer, buffer, putOn, writeOn, filled, write-whole, write-cons, wrote-then}
+use Rattle.format.specs.Buffer.{Buffer, buffer, putOn, writeOn, filled}
+use Rattle.format.specs.BufferLaws.{write-whole, write-cons, wrote-then}
 use Rattle.format.specs.Digits.{varintBytes}
 use Rattle.format.specs.Spelling.{spells}
 use Rattle.format.specs.BumpBytes.{levelBytes, bumpBytes}
-use Rattle.format.specs.Refusals.{OVER-LIMIT, NOT-LISTED, BAD-OFFSET, SAME-TX, TWIN, NO-ROOM, MAX-BLOCK}
+use Rattle.format.specs.Refusals.{OVER-LIMIT, NOT-LISTED, BAD-OFFSET, SAME-TX, NO-ROOM, MAX-BLOCK}
+use Rattle.spv.specs.declared.rejection.Rejection.{Rejection}
+use Rattle.spv.specs.Result.{Result, accepted, refused, carrying}
 use Rattle.spv.specs.Bundle.{hashesOf}
 use Rattle.encoder.specs.declared.block.Written.{Written}
 use Rattle.encoder.specs.declared.block.Written.the-variants.{Bytes}
 use Rattle.encoder.specs.Tree.{heightFor}
 use Rattle.encoder.specs.TreeLaws.{height-holds, height-least}
 use Rattle.spv.specs.BundleHashes.{hashes-length}
-use Rattle.encoder.specs.BlockBump.{levelsFor, blockBump, sized, noneChosen, allBelow, distinct, allReach, Writing, writes, refuses, roomFor, writing, writtenOf, outputAfter}
+use Rattle.encoder.specs.BlockBump.{levelsFor, blockBump, sized, noneChosen, allBelow, distinct, climbsFrom, roomFor, writing, writtenOf, outputAfter}
 
 -- ---- the sizes
 
@@ -56,49 +59,49 @@ some-chosen [] d = absurd (d refl)
 some-chosen (x ∷ l) d = refl
 
 module _ (block : ℕ) (list chosen : List ℕ) (room : ℕ) where
-  pub refuses-size : sized block list ≡ false → writing block list chosen room ≡ refuses OVER-LIMIT
+  pub refuses-size : sized block list ≡ false → writing block list chosen room ≡ refused (carrying OVER-LIMIT 0)
   unfolding writing
   refuses-size e = rw e
 
   module _ (s : sized block list ≡ true) where
-    pub refuses-none : length chosen ≡ 0 → writing block list chosen room ≡ refuses NOT-LISTED
+    pub refuses-none : length chosen ≡ 0 → writing block list chosen room ≡ refused (carrying NOT-LISTED 0)
     unfolding writing
     refuses-none e = rw (s, none-chosen chosen e)
 
     module _ (c : length chosen ≡ 0 → ⊥) where
-      pub refuses-outside : allBelow (length list / 32) chosen ≡ false → writing block list chosen room ≡ refuses BAD-OFFSET
+      pub refuses-outside : allBelow (length list / 32) chosen ≡ false → writing block list chosen room ≡ refused (carrying BAD-OFFSET 0)
       unfolding writing
       refuses-outside e = rw (s, some-chosen chosen c, e)
 
       module _ (b : allBelow (length list / 32) chosen ≡ true) where
-        pub refuses-equal : distinct (hashesOf list) ≡ false → writing block list chosen room ≡ refuses SAME-TX
+        pub refuses-equal : distinct (hashesOf list) ≡ false → writing block list chosen room ≡ refused (carrying SAME-TX 0)
         unfolding writing
         refuses-equal e = rw (s, some-chosen chosen c, b, e)
 
         module _ (d : distinct (hashesOf list) ≡ true) where
-          pub refuses-twin : allReach (hashesOf list) chosen ≡ false → writing block list chosen room ≡ refuses TWIN
+          pub refuses-twin : (why : Rejection) → climbsFrom (hashesOf list) chosen 0 (length list / 32) ≡ refused why → writing block list chosen room ≡ refused why
           unfolding writing
-          refuses-twin e = rw (s, some-chosen chosen c, b, d, e)
+          refuses-twin why e = rw (s, some-chosen chosen c, b, d, e)
 
-          module _ (t : allReach (hashesOf list) chosen ≡ true) where
+          module _ (t : climbsFrom (hashesOf list) chosen 0 (length list / 32) ≡ accepted tt) where
             in-room : writing block list chosen room ≡ roomFor room (bumpBytes (blockBump block (hashesOf list) chosen))
             unfolding writing
             in-room = rw (s, some-chosen chosen c, b, d, t)
 
-            pub refuses-room : room < length (bumpBytes (blockBump block (hashesOf list) chosen)) → writing block list chosen room ≡ refuses NO-ROOM
+            pub refuses-room : room < length (bumpBytes (blockBump block (hashesOf list) chosen)) → writing block list chosen room ≡ refused (carrying NO-ROOM 0)
             unfolding roomFor
             refuses-room h = in-room ∙ rw (lt-leb (length (bumpBytes (blockBump block (hashesOf list) chosen))) room h)
 
-            pub writes-all : length (bumpBytes (blockBump block (hashesOf list) chosen)) ≤ room → writing block list chosen room ≡ writes (bumpBytes (blockBump block (hashesOf list) chosen))
+            pub writes-all : length (bumpBytes (blockBump block (hashesOf list) chosen)) ≤ room → writing block list chosen room ≡ accepted (bumpBytes (blockBump block (hashesOf list) chosen))
             unfolding roomFor
             writes-all h = in-room ∙ rw (le-leb (length (bumpBytes (blockBump block (hashesOf list) chosen))) room h)
 
 -- ---- the answer and the output
 
 -- nothing is written
-pub refused-so : (out : List ℕ) {w : Writing} {number : ℕ} {r : Written} → w ≡ refuses number → r ≡ writtenOf (refuses number) → (r ≡ writtenOf w) × (out ≡ outputAfter w out)
+pub refused-so : (out : List ℕ) {w : Result (List ℕ)} {why x : Rejection} {r : Written} → w ≡ refused why → x ≡ why → r ≡ writtenOf (refused x) → (r ≡ writtenOf w) × (out ≡ outputAfter w out)
 unfolding outputAfter
-refused-so out e f = rw e (f, refl)
+refused-so out e q f = rw e (f ∙ ap (λ (y : Rejection). writtenOf (refused y)) q, refl)
 
 -- the bytes of the BUMP, as the code counts and writes them
 module _ (block : ℕ) (list chosen : List ℕ) (h : ℕ) (least : h ≡ heightFor (length list / 32)) where
@@ -130,7 +133,7 @@ module _ (block : ℕ) (list chosen : List ℕ) (h : ℕ) (least : h ≡ heightF
         let end : buffer out′ next ≡ buffer (filled out text) (min (length out) (length text)) = all ∙ write-whole out text in
         (ap (λ (x : Buffer). x .room) end ∙ ap (λ (x : List ℕ). x ++ drop (length text) out) (take-all (length out) text fits), ap (λ (x : Buffer). x .at) end ∙ omega arith)
 
-    pub written-so : {w : Writing} {out′ : List ℕ} {next : ℕ} {r : Written} → w ≡ writes (bumpBytes (blockBump block (hashesOf list) chosen))
+    pub written-so : {w : Result (List ℕ)} {out′ : List ℕ} {next : ℕ} {r : Written} → w ≡ accepted (bumpBytes (blockBump block (hashesOf list) chosen))
         → (out′ ≡ bumpBytes (blockBump block (hashesOf list) chosen) ++ drop (length (bumpBytes (blockBump block (hashesOf list) chosen))) out) × (next ≡ length (bumpBytes (blockBump block (hashesOf list) chosen)))
         → r ≡ Bytes next → (r ≡ writtenOf w) × (out′ ≡ outputAfter w out)
     unfolding writtenOf outputAfter
@@ -147,11 +150,15 @@ sized-told block list s =
     (leb-true 2 (length list / 32) (z .0), leb-true (length list / 32) 1024 (z .1))
 
 -- the least tree is low, and holds the list
-pub shape-told : (n h w : ℕ) → h ≡ heightFor n → w ≡ 2 ^ heightFor n → n ≤ 1024 → (h ≤ 10) × (w ≡ 2 ^ h) × (n ≤ w)
-shape-told n h w e f l =
+pub shape-told : (n h w : ℕ) → h ≡ heightFor n → w ≡ 2 ^ heightFor n → 2 ≤ n → n ≤ 1024 → (1 ≤ h) × (h ≤ 10) × (w ≡ 2 ^ h) × (n ≤ w)
+shape-told n h w e f two l =
     let a = height-least n 10 l in
     let b = height-holds n in
-    (omega arith, f ∙ ap (λ (x : ℕ). 2 ^ x) (sym e), omega arith)
+    (rw e (high (heightFor n) b), omega arith, f ∙ ap (λ (x : ℕ). 2 ^ x) (sym e), omega arith)
+  where
+    high : (g : ℕ) → n ≤ 2 ^ g → 1 ≤ g
+    high zero b = absurd (omega arith)
+    high (suc g) b = omega arith
 
 pub fits-in : {m n k : ℕ} → m ≡ n → m ≤ k → n ≤ k
 fits-in e h = omega arith

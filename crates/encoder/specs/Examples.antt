@@ -5,13 +5,15 @@ use Prim.Native.Nat.{ℕ}
 use lib.ListN.{replicate}
 use Rattle.hash.specs.Sha256.{sha256d}
 use Rattle.format.specs.Bytes.{same}
-use Rattle.spv.specs.Climb.{beside, joined, step, ascendBy, outcomeBy}
+use Rattle.format.specs.BytesLaws.{same-refl}
+use Rattle.spv.specs.Result.{accepted, refused, carrying, atSibling}
+use Rattle.spv.specs.Climb.{siblingPosition, joined, step, ascendBy, endBy}
 use Rattle.spv.specs.Bundle.{hashes, hashesOf, among}
 use Rattle.format.specs.Spelling.{spells}
 use Rattle.format.specs.Digits.{little, varintBytes}
 use Rattle.format.specs.BumpBytes.{Carried, plain, copy, client, Entry, carriedBytes, entryBytes, levelBytes, bumpBytes}
 use Rattle.encoder.specs.Tree.{above, layer, leastFrom, heightFor, treeSiblings, treeClimb}
-use Rattle.encoder.specs.BlockBump.{under, leftOut, siblingAt, asked, rising, levelsFor, blockBump, sized, noneChosen, allBelow, distinct, reaches, allReach, writes, refuses, roomFor, writing}
+use Rattle.encoder.specs.BlockBump.{under, leftOut, siblingAt, asked, rising, levelsFor, blockBump, sized, noneChosen, allBelow, distinct, climbsFrom, roomFor, writing}
 
 abbrev aa : List ℕ
 aa = replicate 32 0xaa
@@ -22,36 +24,36 @@ bb = replicate 32 0xbb
 abbrev cd : List ℕ
 cd = replicate 32 0xcc
 
-ex1 : writing 4294967296 [] [] 0 ≡ refuses 5
+ex1 : writing 4294967296 [] [] 0 ≡ refused (carrying 5 0)
 unfolding writing sized
 ex1 = refl
 
-ex2 : writing 1 aa (0 ∷ []) 999 ≡ refuses 5
+ex2 : writing 1 aa (0 ∷ []) 999 ≡ refused (carrying 5 0)
 unfolding writing sized
 ex2 = refl
 
-ex3 : writing 1 (aa ++ aa ++ (0 ∷ [])) [] 0 ≡ refuses 5
+ex3 : writing 1 (aa ++ aa ++ (0 ∷ [])) [] 0 ≡ refused (carrying 5 0)
 unfolding writing sized
 ex3 = refl
 
-ex4 : writing 1 (aa ++ aa) [] 0 ≡ refuses 13
+ex4 : writing 1 (aa ++ aa) [] 0 ≡ refused (carrying 13 0)
 unfolding writing sized noneChosen
 ex4 = refl
 
-ex5 : writing 1 (aa ++ aa) (1 ∷ 2 ∷ []) 0 ≡ refuses 6
+ex5 : writing 1 (aa ++ aa) (1 ∷ 2 ∷ []) 0 ≡ refused (carrying 6 0)
 unfolding writing sized noneChosen allBelow
 ex5 = refl
 
-ex6 : writing 1 (aa ++ aa) (1 ∷ []) 0 ≡ refuses 19
+ex6 : writing 1 (aa ++ aa) (1 ∷ []) 0 ≡ refused (carrying 19 0)
 unfolding writing sized noneChosen allBelow distinct hashesOf hashes among same
 ex6 = refl
 
-ex7 : writing 1 (aa ++ bb) (1 ∷ []) 70 ≡ refuses 22
-unfolding writing sized noneChosen allBelow distinct hashesOf hashes among same allReach reaches treeClimb treeSiblings layer heightFor leastFrom ascendBy outcomeBy step joined beside blockBump levelsFor rising asked under leftOut siblingAt bumpBytes levelBytes entryBytes carriedBytes spells varintBytes little roomFor
+ex7 : writing 1 (aa ++ bb) (1 ∷ []) 70 ≡ refused (carrying 22 0)
+unfolding writing sized noneChosen allBelow distinct hashesOf hashes among same climbsFrom treeClimb treeSiblings layer heightFor leastFrom ascendBy endBy step joined siblingPosition blockBump levelsFor rising asked under leftOut siblingAt bumpBytes levelBytes entryBytes carriedBytes spells varintBytes little roomFor
 ex7 = refl
 
-ex8 : writing 1 (aa ++ bb) (1 ∷ 1 ∷ []) 71 ≡ writes (0x01 ∷ 0x01 ∷ 0x02 ∷ 0x00 ∷ 0x00 ∷ aa ++ (0x01 ∷ 0x02 ∷ bb))
-unfolding writing sized noneChosen allBelow distinct hashesOf hashes among same allReach reaches treeClimb treeSiblings layer heightFor leastFrom ascendBy outcomeBy step joined beside blockBump levelsFor rising asked under leftOut siblingAt bumpBytes levelBytes entryBytes carriedBytes spells varintBytes little roomFor
+ex8 : writing 1 (aa ++ bb) (1 ∷ 1 ∷ []) 71 ≡ accepted (0x01 ∷ 0x01 ∷ 0x02 ∷ 0x00 ∷ 0x00 ∷ aa ++ (0x01 ∷ 0x02 ∷ bb))
+unfolding writing sized noneChosen allBelow distinct hashesOf hashes among same climbsFrom treeClimb treeSiblings layer heightFor leastFrom ascendBy endBy step joined siblingPosition blockBump levelsFor rising asked under leftOut siblingAt bumpBytes levelBytes entryBytes carriedBytes spells varintBytes little roomFor
 ex8 = refl
 
 -- sha256d stays shut below: a node is what it is made of
@@ -59,11 +61,11 @@ abbrev three : List (List ℕ)
 three = aa ∷ bb ∷ cd ∷ []
 
 ex9 : bumpBytes (blockBump 0 three (2 ∷ [])) ≡ 0x00 ∷ 0x02 ∷ 0x02 ∷ 0x02 ∷ 0x02 ∷ cd ++ (0x03 ∷ 0x01 ∷ 0x01 ∷ 0x00 ∷ 0x00 ∷ sha256d (aa ++ bb))
-unfolding above layer heightFor leastFrom beside blockBump levelsFor rising asked under leftOut siblingAt bumpBytes levelBytes entryBytes carriedBytes spells varintBytes little
+unfolding above layer heightFor leastFrom siblingPosition blockBump levelsFor rising asked under leftOut siblingAt bumpBytes levelBytes entryBytes carriedBytes spells varintBytes little
 ex9 = simp append-nil
 
 ex10 : bumpBytes (blockBump 0 three (0 ∷ [])) ≡ 0x00 ∷ 0x02 ∷ 0x02 ∷ 0x00 ∷ 0x02 ∷ aa ++ (0x01 ∷ 0x00 ∷ bb) ++ (0x01 ∷ 0x01 ∷ 0x00 ∷ sha256d (cd ++ cd))
-unfolding above layer heightFor leastFrom beside blockBump levelsFor rising asked under leftOut siblingAt bumpBytes levelBytes entryBytes carriedBytes spells varintBytes little
+unfolding above layer heightFor leastFrom siblingPosition blockBump levelsFor rising asked under leftOut siblingAt bumpBytes levelBytes entryBytes carriedBytes spells varintBytes little
 ex10 = simp append-nil
 
 abbrev leaf : ℕ → Carried → Entry
@@ -77,5 +79,15 @@ ex11 : blockBump 0 three (0 ∷ 2 ∷ []) ≡ record {
       (leaf 0 (client aa) ∷ leaf 1 (plain bb) ∷ leaf 2 (client cd) ∷ leaf 3 copy ∷ [])
       ∷ [] ∷ [];
 }
-unfolding above layer heightFor leastFrom beside blockBump levelsFor rising asked under leftOut siblingAt
+unfolding above layer heightFor leastFrom siblingPosition blockBump levelsFor rising asked under leftOut siblingAt
 ex11 = refl
+
+-- a twin is refused with its layer and the sibling's position there
+ex12 : climbsFrom (aa ∷ bb ∷ cd ∷ cd ∷ []) (3 ∷ []) 0 4 ≡ refused (atSibling 15 0 2)
+unfolding climbsFrom under treeClimb treeSiblings layer heightFor leastFrom ascendBy endBy step joined siblingPosition same
+ex12 = refl
+
+-- .. of the least chosen position, though another that meets one at a lower layer is named first
+ex13 : climbsFrom (aa ∷ bb ∷ aa ∷ bb ∷ cd ∷ cd ∷ []) (5 ∷ 2 ∷ []) 0 6 ≡ refused (atSibling 15 1 0)
+unfolding climbsFrom under treeClimb treeSiblings above layer heightFor leastFrom ascendBy endBy step joined siblingPosition
+ex13 = rw (same-refl (sha256d (aa ++ bb)))

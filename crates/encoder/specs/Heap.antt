@@ -9,6 +9,9 @@ use Rattle.format.specs.Bytes.{same}
 use Rattle.format.specs.Parse.{pick}
 use Rattle.format.specs.Search.{hashAt}
 use Rattle.spv.specs.Bundle.{hashesOf}
+use Rattle.spv.specs.Result.{Result, accepted, refused}
+use Rattle.encoder.specs.declared.tree.Climb.{Climb}
+use Rattle.encoder.specs.declared.tree.Climb.the-variants.{Free, Twin}
 use Rattle.encoder.specs.Tree.{layer, heightFor}
 
 -- the node at position j of a level
@@ -40,3 +43,8 @@ twinIn list heap base width j = pick (eqb (j % 2) 1) (same (nodeIn list heap bas
 pub record Grown (list heap : List ℕ) (h : ℕ) : Type 0 where
   pub least : h ≡ heightFor (length list / 32)
   pub nodes : Heap list heap h h
+
+-- the answer of climbing: no twin, or the refusal of the first one
+unfoldable pub climbOf : {A : Type 0} → Result A → Climb
+climbOf (accepted a) = Free
+climbOf (refused why) = Twin why

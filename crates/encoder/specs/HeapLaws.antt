@@ -3,27 +3,31 @@ use mathlib.Core.Path.{_≡_, refl, sym, ap, ap₂, _∙_}
 use mathlib.Core.Bool.{Bool, true, false}
 use mathlib.Core.List.{List, [], _++_, append-assoc}
 use Prim.Native.Nat.{ℕ, zero, suc, _+_, _-_, _*_, _/_, _%_, _^_, _≤_, _<_}
-use lib.ListN.{length, getD, take, drop, length-drop, take-append-drop, drop-of-length-le}
-use lib.Seq.{paste, length-paste, drop-paste, length-take-le, take-all, take-append-le, drop-append-le, drop-at, take-at, drop-drop, drop-cons}
+use lib.ListN.{length, getD, take, drop, length-drop, take-append-drop}
+use lib.Seq.{paste, length-paste, drop-paste, length-take-le, take-all, take-append-le, drop-append-le, drop-at, take-at, drop-drop}
 use lib.Dec.{ltb, leb, eqb}
 use lib.Pow.{pow-mono}
 use native.Mathlib.Omega.{arith}
 use native.Mathlib.Nat.{pow-suc, sub-zero}
 use native.Mathlib.Numerals.{add-one}
 use borrow.Author.Tests.{lt-ltb, le-ltb, ltb-true, ltb-false, leb-true, leb-false, eq-eqb, ne-eqb}
-use Rattle.hash.specs.Sha256.{sha256d, sha256d-length}
+use Rattle.hash.specs.Sha256.{sha256d}
+use Rattle.hash.specs.Sha256Laws.{sha256d-length}
 use borrow.Author.Count.{below-more}
 use Rattle.format.specs.Bytes.{same}
 use Rattle.format.specs.Parse.{pick}
+use Rattle.format.specs.Refusals.{TWIN}
 use Rattle.format.specs.Search.{hashAt}
 use Rattle.format.specs.SearchLaws.{hash-there, hash-none, hash-at-length}
+use Rattle.spv.specs.Result.{atSibling}
+use Rattle.spv.specs.Climb.{siblingPosition}
 use Rattle.spv.specs.Bundle.{hashesOf}
 use Rattle.encoder.specs.Tree.{above, layer, size, node, heightFor, treeClimb}
 use Rattle.encoder.specs.TreeLaws.{above-length, above-pair, above-last, height-holds, height-least, size-suc}
 use Rattle.spv.specs.BundleHashes.{hashes-length, hashes-at}
-use Rattle.encoder.specs.BlockBump.{reaches, allReach}
-use Rattle.encoder.specs.TreeClimb.{twinAt, free, free-end, free-twin, free-on, free-all}
-use Rattle.encoder.specs.Heap.{nodeIn, rightIn, Stored, Heap, Level, twinIn, Grown}
+use Rattle.encoder.specs.TreeClimb.{twinAt, endFrom, from-end, from-twin, from-on, from-all}
+use Rattle.encoder.specs.declared.tree.Climb.the-variants.{Free, Twin}
+use Rattle.encoder.specs.Heap.{nodeIn, rightIn, Stored, Heap, Level, twinIn, Grown, climbOf}
 
 -- ---- a level and its places
 
@@ -299,7 +303,7 @@ grown list heap h e f = record { least = e; nodes = f }
 -- a climb from i that has come to position j of layer k
 pub record Climbing (list : List ℕ) (h i k j : ℕ) : Type 0 where
   pub inside : j < size (hashesOf list) k
-  pub same-end : free (hashesOf list) k (h - k) j ≡ reaches (treeClimb (hashesOf list) i)
+  pub same-end : endFrom (hashesOf list) k (h - k) j ≡ treeClimb (hashesOf list) i
 
 module _ {list heap : List ℕ} {h : ℕ} (g : Grown list heap h) where
   pub climb-start : (i : ℕ) → i < length list / 32 → Climbing list h i 0 i
@@ -308,7 +312,7 @@ module _ {list heap : List ℕ} {h : ℕ} (g : Grown list heap h) where
       let n = hashes-length (length list / 32) list in
       record {
         inside = omega arith;
-        same-end = ap (λ (x : ℕ). free (hashesOf list) 0 x i) (sub-zero h ∙ g .least ∙ ap heightFor (sym n)) ∙ free-all (hashesOf list) i;
+        same-end = ap (λ (x : ℕ). endFrom (hashesOf list) 0 x i) (sub-zero h ∙ g .least ∙ ap heightFor (sym n)) ∙ from-all (hashesOf list) i;
       }
 
   module _ (k width j : ℕ) (b : Level h k width) (more : k < h) (inside : j < size (hashesOf list) k) where
@@ -327,32 +331,27 @@ module _ {list heap : List ℕ} {h : ℕ} (g : Grown list heap h) where
     one : h - k ≡ suc (h - (k + 1))
     one = omega (arith, add-one (h - (k + 1)))
 
-    pub climb-twin : twinIn list heap (eqb k 0) width j ≡ true → free (hashesOf list) k (h - k) j ≡ false
-    climb-twin e = ap (λ (x : ℕ). free (hashesOf list) k x j) one ∙ free-twin (hashesOf list) k (h - (k + 1)) j inside (sym twin-is ∙ e)
+    pub climb-twin : (i : ℕ) → twinIn list heap (eqb k 0) width j ≡ true → Climbing list h i k j → {q : ℕ} → q ≡ siblingPosition j → Twin (atSibling TWIN k q) ≡ climbOf (treeClimb (hashesOf list) i)
+    unfolding climbOf
+    climb-twin i e c s =
+        rw s
+        (ap climbOf
+        (sym (from-twin (hashesOf list) k (h - (k + 1)) j inside (sym twin-is ∙ e))
+        ∙ ap (λ (x : ℕ). endFrom (hashesOf list) k x j) (sym one)
+        ∙ c .same-end))
 
     pub climb-on : (i : ℕ) → twinIn list heap (eqb k 0) width j ≡ false → Climbing list h i k j → Climbing list h i (k + 1) (j / 2)
     climb-on i e c = record {
       inside = let s = size-suc (hashesOf list) k in rw (add-one k) (omega arith);
       same-end =
-          ap (λ (x : ℕ). free (hashesOf list) x (h - (k + 1)) (j / 2)) (add-one k)
-          ∙ sym (free-on (hashesOf list) k (h - (k + 1)) j inside (sym twin-is ∙ e))
-          ∙ ap (λ (x : ℕ). free (hashesOf list) k x j) (sym one)
+          ap (λ (x : ℕ). endFrom (hashesOf list) x (h - (k + 1)) (j / 2)) (add-one k)
+          ∙ sym (from-on (hashesOf list) k (h - (k + 1)) j inside (sym twin-is ∙ e))
+          ∙ ap (λ (x : ℕ). endFrom (hashesOf list) k x j) (sym one)
           ∙ c .same-end;
     }
 
-pub climb-end : (list : List ℕ) (h i k j : ℕ) → h ≤ k → Climbing list h i k j → true ≡ reaches (treeClimb (hashesOf list) i)
-climb-end list h i k j l c = let z : h - k ≡ 0 = omega arith in sym (free-end (hashesOf list) k j) ∙ ap (λ (x : ℕ). free (hashesOf list) k x j) (sym z) ∙ c .same-end
-
--- every chosen climb
-module _ (ids : List (List ℕ)) (chosen : List ℕ) (i : ℕ) (more : i < length chosen) where
-  pub reach-stop : reaches (treeClimb ids (getD chosen i 0)) ≡ false → allReach ids (drop i chosen) ≡ false
-  unfolding allReach
-  reach-stop e = rw (drop-cons chosen i 0 more) (rw e)
-
-  pub reach-on : reaches (treeClimb ids (getD chosen i 0)) ≡ true → allReach ids (drop i chosen) ≡ allReach ids (drop (i + 1) chosen)
-  unfolding allReach
-  reach-on e = rw (add-one i, drop-cons chosen i 0 more) (rw e)
-
-pub reach-end : (ids : List (List ℕ)) (chosen : List ℕ) (i : ℕ) → length chosen ≤ i → allReach ids (drop i chosen) ≡ true
-unfolding allReach
-reach-end ids chosen i e = rw (drop-of-length-le chosen e)
+pub climb-end : (list : List ℕ) (h i k j : ℕ) → h ≤ k → Climbing list h i k j → Free ≡ climbOf (treeClimb (hashesOf list) i)
+unfolding climbOf
+climb-end list h i k j l c =
+    let z : h - k ≡ 0 = omega arith in
+    ap climbOf (sym (from-end (hashesOf list) k j) ∙ ap (λ (x : ℕ). endFrom (hashesOf list) k x j) (sym z) ∙ c .same-end)

@@ -11,7 +11,8 @@ use native.Mathlib.Nat.{sub-zero, mul-zero, add-zero}
 use native.Mathlib.Numerals.{add-one}
 use borrow.Author.Tests.{lt-ltb, le-ltb, ltb-true, eqb-true, eqb-false}
 use Rattle.format.specs.Basics.{and-false, one-less}
-use Rattle.format.specs.Bytes.{same, ne-same}
+use Rattle.format.specs.Bytes.{same}
+use Rattle.format.specs.BytesLaws.{ne-same}
 use Rattle.format.specs.Search.{hashAt}
 use Rattle.format.specs.SearchLaws.{hash-there}
 use Rattle.format.specs.Spelling.{AllBytes, part-bytes}

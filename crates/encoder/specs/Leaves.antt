@@ -6,7 +6,7 @@ use Prim.Native.Nat.{ℕ, zero, suc, _+_, _/_}
 use lib.ListN.{length}
 use lib.Dec.{ltb}
 use Rattle.format.specs.Parse.{pick}
-use Rattle.spv.specs.Climb.{beside}
+use Rattle.spv.specs.Climb.{siblingPosition}
 use Rattle.encoder.specs.declared.level.Asked.{Asked}
 use Rattle.encoder.specs.declared.level.Asked.the-variants.{Nothing, Plain, Copy, Client}
 use Rattle.format.specs.Digits.{varintBytes}
@@ -23,7 +23,7 @@ passedAt base = pick base Client Nothing
 unfoldable pub formAt : List ℕ → Bool → ℕ → ℕ → ℕ → Asked
 formAt marks base width count o =
     pick (marked marks (width + o)) (passedAt base)
-    (pick (marked marks (width + beside o)) (pick (ltb o count) Plain Copy) Nothing)
+    (pick (marked marks (width + siblingPosition o)) (pick (ltb o count) Plain Copy) Nothing)
 
 -- the leaf at an offset: its number, the number of its bytes, and its bytes
 unfoldable pub leafCount : Asked → ℕ

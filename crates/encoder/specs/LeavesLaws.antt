@@ -8,14 +8,15 @@ use lib.Dec.{eqb}
 use native.Mathlib.Omega.{arith}
 use native.Mathlib.Nat.{sub-zero, add-zero}
 use borrow.Author.Tests.{eqb-true, eqb-false, lt-ltb, le-ltb}
-use Rattle.spv.specs.Climb.{beside}
-use Rattle.spv.specs.ClimbLaws.{beside-odd, beside-even}
+use Rattle.spv.specs.Climb.{siblingPosition}
+use Rattle.spv.specs.ClimbLaws.{sibling-odd, sibling-even}
 use Rattle.encoder.specs.declared.level.Asked.{Asked}
 use Rattle.encoder.specs.declared.level.Asked.the-variants.{Nothing, Plain, Copy, Client}
 use Rattle.format.specs.Basics.{one-less}
 use Rattle.format.specs.Digits.{varintBytes}
 use Rattle.format.specs.VarintSpelling.{varint-length}
-use Rattle.format.specs.Buffer.{Buffer, putOn, writeOn, write-then, write-none, write-one, write-cons, wrote-then}
+use Rattle.format.specs.Buffer.{Buffer, putOn, writeOn}
+use Rattle.format.specs.BufferLaws.{write-then, write-none, write-one, write-cons, wrote-then}
 use Rattle.encoder.specs.Heap.{nodeIn}
 use Rattle.encoder.specs.HeapLaws.{node-length}
 use Rattle.encoder.specs.Marks.{marked}
@@ -59,15 +60,15 @@ module _ (marks : List ℕ) (base : Bool) (width count o : ℕ) where
   form-passed e = rw e
 
   module _ (e : marked marks (width + o) ≡ false) where
-    pub form-nothing : marked marks (width + beside o) ≡ false → Nothing ≡ formAt marks base width count o
+    pub form-nothing : marked marks (width + siblingPosition o) ≡ false → Nothing ≡ formAt marks base width count o
     unfolding formAt
     form-nothing f = rw (e, f)
 
-    pub form-plain : marked marks (width + beside o) ≡ true → o < count → Plain ≡ formAt marks base width count o
+    pub form-plain : marked marks (width + siblingPosition o) ≡ true → o < count → Plain ≡ formAt marks base width count o
     unfolding formAt
     form-plain f h = rw (e, f, lt-ltb o count h)
 
-    pub form-copy : marked marks (width + beside o) ≡ true → count ≤ o → Copy ≡ formAt marks base width count o
+    pub form-copy : marked marks (width + siblingPosition o) ≡ true → count ≤ o → Copy ≡ formAt marks base width count o
     unfolding formAt
     form-copy f h = rw (e, f, le-ltb o count h)
 
@@ -109,16 +110,16 @@ bytes-few o Plain = omega (arith, varint-length o)
 bytes-few o Copy = omega (arith, varint-length o)
 bytes-few o Client = omega (arith, varint-length o)
 
-pub beside-told : (marks : List ℕ) (width o : ℕ) {b : ℕ} {r t : Bool} → b ≡ beside o → r ≡ marked marks (width + b) → r ≡ t → marked marks (width + beside o) ≡ t
-beside-told marks width o e f g = ap (λ (x : ℕ). marked marks (width + x)) (sym e) ∙ sym f ∙ g
+pub sibling-told : (marks : List ℕ) (width o : ℕ) {b : ℕ} {r t : Bool} → b ≡ siblingPosition o → r ≡ marked marks (width + b) → r ≡ t → marked marks (width + siblingPosition o) ≡ t
+sibling-told marks width o e f g = ap (λ (x : ℕ). marked marks (width + x)) (sym e) ∙ sym f ∙ g
 
 -- a place beside one of a level lies in it
-pub beside-in : (width o : ℕ) → width % 2 ≡ 0 → o < width → beside o < width
-beside-in width o even h = go (eqb (o % 2) 1) refl
+pub sibling-in : (width o : ℕ) → width % 2 ≡ 0 → o < width → siblingPosition o < width
+sibling-in width o even h = go (eqb (o % 2) 1) refl
   where
-    go : (t : Bool) → eqb (o % 2) 1 ≡ t → beside o < width
-    go true e = rw (beside-odd o (eqb-true (o % 2) 1 e)) (omega arith)
-    go false e = rw (beside-even o (eqb-false (o % 2) 1 e)) (let q = eqb-false (o % 2) 1 e in omega arith)
+    go : (t : Bool) → eqb (o % 2) 1 ≡ t → siblingPosition o < width
+    go true e = rw (sibling-odd o (eqb-true (o % 2) 1 e)) (omega arith)
+    go false e = rw (sibling-even o (eqb-false (o % 2) 1 e)) (let q = eqb-false (o % 2) 1 e in omega arith)
 
 -- what is put for a leaf that was asked about
 pub asked-text : (list heap : List ℕ) (base : Bool) (width o : ℕ) (p : Buffer) {a f : Asked} → a ≡ f → writeOn p (leafText list heap base width o a) ≡ writeOn p (leafText list heap base width o f)

@@ -9,7 +9,7 @@ use lib.Dec.{ltb, eqb}
 use native.Mathlib.Omega.{arith}
 use borrow.Author.Tests.{ltb-true, lt-ltb, eqb-true, ne-eqb}
 use Rattle.format.specs.Parse.{pick}
-use Rattle.spv.specs.Climb.{beside}
+use Rattle.spv.specs.Climb.{siblingPosition}
 use Rattle.spv.specs.Bundle.{hashesOf}
 use Rattle.encoder.specs.declared.level.Asked.{Asked}
 use Rattle.encoder.specs.declared.level.Asked.the-variants.{Nothing, Plain, Copy, Client}
@@ -22,13 +22,14 @@ use Rattle.encoder.specs.RisingLaws.{rising-none, rising-some}
 use Rattle.encoder.specs.BlockFit.{under-below, below-told}
 use Rattle.encoder.specs.Heap.{Stored, Heap, Level}
 use Rattle.encoder.specs.Marks.{Marked}
-use Rattle.format.specs.Buffer.{Buffer, writeOn, write-then, write-none}
+use Rattle.format.specs.Buffer.{Buffer, writeOn}
+use Rattle.format.specs.BufferLaws.{write-then, write-none}
 use Rattle.spv.specs.BundleHashes.{hashes-length}
 use Rattle.encoder.specs.TreeLaws.{size-suc}
 use native.Mathlib.Nat.{pow-suc, sub-zero, zero-lt-suc}
 use native.Mathlib.Numerals.{add-one}
 use Rattle.encoder.specs.Leaves.{Ready, passedAt, formAt, leafCount, leafText, sumFrom, textFrom, levelLeaves, levelSize, leavesText, levelText}
-use Rattle.encoder.specs.LeavesLaws.{level-size, beside-in}
+use Rattle.encoder.specs.LeavesLaws.{level-size, sibling-in}
 
 -- the text of what is asked for at an offset
 unfoldable pub askedText : ℕ → Option Carried → List ℕ
@@ -76,7 +77,7 @@ module _ (list chosen : List ℕ) (g : Below (hashesOf list) chosen) (heap marks
   leaf-text : (o : ℕ) → o < 2 ^ (h - k) → leafText list heap (eqb k 0) (2 ^ (h - k)) o (form o) ≡ askedText o (asked (hashesOf list) chosen k o)
   unfolding formAt passedAt asked leftOut siblingAt leafText askedText carriedBytes
   leaf-text o low =
-      rw (mk k o more low, mk k (beside o) more (beside-in (2 ^ (h - k)) o even low), above-zero k) (go (eqb k 0) refl (under chosen k o) refl (under chosen k (beside o)) (ltb o (size (hashesOf list) k)) refl)
+      rw (mk k o more low, mk k (siblingPosition o) more (sibling-in (2 ^ (h - k)) o even low), above-zero k) (go (eqb k 0) refl (under chosen k o) refl (under chosen k (siblingPosition o)) (ltb o (size (hashesOf list) k)) refl)
     where
       sib : (n : Bool) → (s : Bool) → ltb o (size (hashesOf list) k) ≡ s
           → leafText list heap (eqb k 0) (2 ^ (h - k)) o (pick n (pick s Plain Copy) Nothing) ≡ askedText o (pick (n && not false) (some (pick s (plain (node (hashesOf list) k o)) copy)) none)
@@ -99,7 +100,7 @@ module _ (list chosen : List ℕ) (g : Below (hashesOf list) chosen) (heap marks
   leaf-counted : (o : ℕ) → o < 2 ^ (h - k) → leafCount (form o) ≡ askedCount (asked (hashesOf list) chosen k o)
   unfolding formAt passedAt asked leftOut leafCount askedCount
   leaf-counted o low =
-      rw (mk k o more low, mk k (beside o) more (beside-in (2 ^ (h - k)) o even low), above-zero k) (go (eqb k 0) refl (under chosen k o) refl (under chosen k (beside o)) (ltb o (size (hashesOf list) k)))
+      rw (mk k o more low, mk k (siblingPosition o) more (sibling-in (2 ^ (h - k)) o even low), above-zero k) (go (eqb k 0) refl (under chosen k o) refl (under chosen k (siblingPosition o)) (ltb o (size (hashesOf list) k)))
     where
       sib : (n s : Bool) → leafCount (pick n (pick s Plain Copy) Nothing) ≡ askedCount (pick (n && not false) (some (siblingAt (hashesOf list) k o)) none)
       sib true true = refl

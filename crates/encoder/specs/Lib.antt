@@ -15,6 +15,7 @@ pub mod Heap
 pub mod HeapLaws
 pub mod Marks
 pub mod MarksLaws
+pub mod ClimbsLaws
 pub mod Leaves
 pub mod LeavesLaws
 pub mod LevelLaws

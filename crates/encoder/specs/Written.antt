@@ -1,46 +1,38 @@
 -- What an accepted call has written: the one string that meets the rules, which proves every chosen id (02, Item 1).
 use mathlib.Core.Path.{_≡_, refl, _∙_}
-use mathlib.Core.Bool.{Bool, true, false, _||_, not}
-use mathlib.Core.List.{List, [], _∷_}
+use mathlib.Core.Bool.{Bool, true, false, not}
+use mathlib.Core.List.{List}
 use Prim.Native.Nat.{ℕ, _-_, _/_, _%_, _≤_}
 use lib.ListN.{length}
 use lib.Dec.{leb, eqb}
 use native.Mathlib.Omega.{arith}
-use borrow.Author.Tests.{leb-true, eqb-true}
+use native.Mathlib.Nat.{div-one}
+use borrow.Author.Tests.{leb-true}
 use Rattle.format.specs.Basics.{and-true}
 use Rattle.format.specs.Parse.{pick}
 use Rattle.format.specs.Level.{holds}
-use Rattle.format.specs.Refusals.{OVER-LIMIT, NOT-LISTED, BAD-OFFSET, SAME-TX, TWIN, NO-ROOM, MAX-BLOCK}
+use Rattle.format.specs.Refusals.{NOT-LISTED, NO-ROOM, MAX-BLOCK}
+use Rattle.spv.specs.declared.rejection.Rejection.{Rejection}
+use Rattle.spv.specs.Result.{Result, accepted, refused, carrying, follow}
 use Rattle.spv.specs.Bundle.{hashes, hashesOf}
-use Rattle.spv.specs.Compare.{proved, proofOf, judge}
+use Rattle.spv.specs.Compare.{proofOf, prove}
 use Rattle.spv.specs.Readings.{bumpReading}
 use Rattle.format.specs.Spelling.{AllBytes}
 use Rattle.format.specs.BumpBytes.{bumpBytes}
-use Rattle.encoder.specs.Tree.{node, height, root, treeSiblings, treeClimb}
-use Rattle.encoder.specs.BlockBump.{blockBump, sized, noneChosen, allBelow, distinct, reaches, allReach, Writing, writes, refuses, roomFor, writing, Meets}
+use Rattle.encoder.specs.Tree.{node, height, root, treeSiblings, treeClimb, reaches}
+use Rattle.encoder.specs.BlockBump.{blockBump, sized, noneChosen, allBelow, distinct, climbsFrom, roomFor, writing, Meets}
+use Rattle.encoder.specs.ClimbsLaws.{climbs-reach}
 use Rattle.spv.specs.BundleHashes.{hashes-length}
 use Rattle.encoder.specs.IdsLaws.{ids-hashes}
-use Rattle.encoder.specs.BlockFit.{Sizes, below-told}
+use Rattle.encoder.specs.BlockFit.{Sizes, below-told, under-chosen}
 use Rattle.encoder.specs.BlockMeets.{read-back, bump-meets}
 use Rattle.encoder.specs.BlockProved.{chosen-proved}
 use Rattle.encoder.specs.OnlyBytes.{only-bytes}
 
 -- a test that did not refuse
-passed : (t : Bool) (n : ℕ) (w : Writing) (bytes : List ℕ) → pick (not t) (refuses n) w ≡ writes bytes → (t ≡ true) × (w ≡ writes bytes)
-passed true n w bytes e = (refl, e)
-passed false n w bytes e = absurd (let z : _≡_ {A = ℕ} 0 1 = cc in omega arith)
-
-reach-told : (ids : List (List ℕ)) (chosen : List ℕ) → allReach ids chosen ≡ true → (i : ℕ) → holds i chosen ≡ true → reaches (treeClimb ids i) ≡ true
-unfolding allReach holds
-reach-told ids [] e i h = absurd (let z : _≡_ {A = ℕ} 0 1 = cc in omega arith)
-reach-told ids (x ∷ chosen) e i h = go (eqb i x) refl h (λ m. reach-told ids chosen (and-true (reaches (treeClimb ids x)) (allReach ids chosen) e .1) i m)
-  where
-    f : (reaches (treeClimb ids x) ≡ true) × (allReach ids chosen ≡ true)
-    f = and-true (reaches (treeClimb ids x)) (allReach ids chosen) e
-
-    go : (t : Bool) → eqb i x ≡ t → (t || holds i chosen) ≡ true → (holds i chosen ≡ true → reaches (treeClimb ids i) ≡ true) → reaches (treeClimb ids i) ≡ true
-    go true q m r = rw (eqb-true i x q) (f .0)
-    go false q m r = r m
+passed : (t : Bool) (why : Rejection) (w : Result (List ℕ)) (bytes : List ℕ) → pick (not t) (refused why) w ≡ accepted bytes → (t ≡ true) × (w ≡ accepted bytes)
+passed true why w bytes e = (refl, e)
+passed false why w bytes e = absurd (let z : _≡_ {A = ℕ} 0 1 = cc in omega arith)
 
 sizes-of : (block : ℕ) (list chosen : List ℕ) → AllBytes list → sized block list ≡ true → allBelow (length list / 32) chosen ≡ true → Sizes block (hashesOf list) chosen
 unfolding sized hashesOf
@@ -64,33 +56,38 @@ record Accepted (block : ℕ) (list chosen : List ℕ) (room : ℕ) (bytes : Lis
   pub sizes : sized block list ≡ true
   pub below : allBelow (length list / 32) chosen ≡ true
   pub different : distinct (hashesOf list) ≡ true
-  pub no-twin : allReach (hashesOf list) chosen ≡ true
+  pub no-twin : climbsFrom (hashesOf list) chosen 0 (length list / 32) ≡ accepted tt
 
-accepted : (block : ℕ) (list chosen : List ℕ) (room : ℕ) (bytes : List ℕ) → writing block list chosen room ≡ writes bytes → Accepted block list chosen room bytes
+found-by : (block : ℕ) (list chosen : List ℕ) (room : ℕ) (bytes : List ℕ) → writing block list chosen room ≡ accepted bytes → Accepted block list chosen room bytes
 unfolding writing roomFor
-accepted block list chosen room bytes e =
+found-by block list chosen room bytes e =
     let ids : List (List ℕ) = hashesOf list in
-    let a = passed (sized block list) OVER-LIMIT _ bytes e in
+    let a = passed (sized block list) _ _ bytes e in
     let b = some-chosen (noneChosen chosen) (a .1) in
-    let c = passed (allBelow (length list / 32) chosen) BAD-OFFSET _ bytes b in
-    let d = passed (distinct ids) SAME-TX _ bytes (c .1) in
-    let f = passed (allReach ids chosen) TWIN _ bytes (d .1) in
+    let c = passed (allBelow (length list / 32) chosen) _ _ bytes b in
+    let d = passed (distinct ids) _ _ bytes (c .1) in
+    let f = climbed (climbsFrom ids chosen 0 (length list / 32)) refl (d .1) in
     let r = room-for (leb (length (bumpBytes (blockBump block ids chosen))) room) refl (f .1) in
     record { is = r .0; fits = rw (← r .0) (r .1); sizes = a .0; below = c .0; different = d .0; no-twin = f .0 }
   where
-    some-chosen : (t : Bool) {w : Writing} → pick t (refuses NOT-LISTED) w ≡ writes bytes → w ≡ writes bytes
+    some-chosen : (t : Bool) {w : Result (List ℕ)} → pick t (refused (carrying NOT-LISTED 0)) w ≡ accepted bytes → w ≡ accepted bytes
     some-chosen true m = absurd (let z : _≡_ {A = ℕ} 0 1 = cc in omega arith)
     some-chosen false m = m
 
-    room-for : (t : Bool) → leb (length (bumpBytes (blockBump block (hashesOf list) chosen))) room ≡ t → pick t (writes (bumpBytes (blockBump block (hashesOf list) chosen))) (refuses NO-ROOM) ≡ writes bytes
+    climbed : (x : Result (Unit {0})) → climbsFrom (hashesOf list) chosen 0 (length list / 32) ≡ x → {w : Result (List ℕ)} → follow x (λ _. w) ≡ accepted bytes
+        → (climbsFrom (hashesOf list) chosen 0 (length list / 32) ≡ accepted tt) × (w ≡ accepted bytes)
+    climbed (accepted u) q m = (q, m)
+    climbed (refused why) q m = absurd (let z : _≡_ {A = ℕ} 0 1 = cc in omega arith)
+
+    room-for : (t : Bool) → leb (length (bumpBytes (blockBump block (hashesOf list) chosen))) room ≡ t → pick t (accepted (bumpBytes (blockBump block (hashesOf list) chosen))) (refused (carrying NO-ROOM 0)) ≡ accepted bytes
         → (bumpBytes (blockBump block (hashesOf list) chosen) ≡ bytes) × (length (bumpBytes (blockBump block (hashesOf list) chosen)) ≤ room)
     room-for true q m = (cc, leb-true _ _ q)
     room-for false q m = absurd (let z : _≡_ {A = ℕ} 0 1 = cc in omega arith)
 
 -- the bytes of an accepted call
-module _ (block : ℕ) (list chosen : List ℕ) (room : ℕ) (bytes : List ℕ) (call : writing block list chosen room ≡ writes bytes) where
+module _ (block : ℕ) (list chosen : List ℕ) (room : ℕ) (bytes : List ℕ) (call : writing block list chosen room ≡ accepted bytes) where
   found : Accepted block list chosen room bytes
-  found = accepted block list chosen room bytes call
+  found = found-by block list chosen room bytes call
 
   -- they fit the room lent
   pub written-fits : length bytes ≤ room
@@ -108,7 +105,12 @@ module _ (block : ℕ) (list chosen : List ℕ) (room : ℕ) (bytes : List ℕ) 
     pub written-meets : Meets block (hashesOf list) chosen bytes
     written-meets = rw (← found .is) (bump-meets good)
 
+    no-twin-told : (i : ℕ) → holds i chosen ≡ true → reaches (treeClimb (hashesOf list) i) ≡ true
+    no-twin-told i m =
+        climbs-reach (hashesOf list) chosen 0 (length list / 32) i (found .no-twin) (omega arith) (let b = below-told (length list / 32) chosen (found .below) i m in omega arith)
+        (rw (div-one i) at (under-chosen chosen i 0 m))
+
     -- read back, they prove each chosen id at its position, over the least height, to the list's root
     pub written-proves : (i : ℕ) → holds i chosen ≡ true
-        → judge (bumpReading bytes (node (hashesOf list) 0 i)) ≡ proved (proofOf (treeSiblings (hashesOf list)) (height (hashesOf list)) i (node (hashesOf list) 0 i) (root (hashesOf list)))
-    written-proves i m = rw (← found .is) (chosen-proved good (read-back good) i m (found .different) (reach-told (hashesOf list) chosen (found .no-twin) i m))
+        → prove (bumpReading bytes (node (hashesOf list) 0 i)) ≡ accepted (proofOf (treeSiblings (hashesOf list)) (height (hashesOf list)) i (node (hashesOf list) 0 i) (root (hashesOf list)))
+    written-proves i m = rw (← found .is) (chosen-proved good (read-back good) i m (found .different) (no-twin-told i m))

@@ -4,11 +4,11 @@ use super::ids::all_differ;
 use super::level::levels_size;
 use super::level::write_levels;
 use super::marks::marks_of;
-use super::tree::all_free;
+use super::tree::Climb;
 use super::tree::build;
+use super::tree::climb_chosen;
 use super::tree::shape_for;
 use format::Bump;
-use format::Refusal;
 use format::buffer::put;
 use format::buffer::varint_size;
 use format::buffer::write_varint;
@@ -17,24 +17,25 @@ use format::refusal::NO_ROOM;
 use format::refusal::NOT_LISTED;
 use format::refusal::OVER_LIMIT;
 use format::refusal::SAME_TX;
-use format::refusal::TWIN;
+use spv::Rejection;
 ghost use mathlib.Core.Path.{_≡_};
 ghost use mathlib.Core.Bool.{true};
 ghost use Prim.Native.Nat.{_/_};
 ghost use lib.ListN.{length};
+ghost use Rattle.spv.specs.Result.{refused};
 ghost use Rattle.spv.specs.Bundle.{hashesOf};
-ghost use Rattle.encoder.specs.BlockBump.{allBelow, distinct, outputAfter, refuses, sized, writing, writtenOf};
+ghost use Rattle.encoder.specs.BlockBump.{allBelow, distinct, outputAfter, sized, writing, writtenOf};
 
 // How many bytes were written, or a refusal.
 pub enum Written {
     Bytes(usize),
-    Refused(Refusal),
+    Refused(Rejection),
 }
 
-fn refused(number: u8) -> Written
-    ensures { λ r. ⌜ r ≡ writtenOf (refuses number) ⌝ }
+fn refuse(rejection: Rejection) -> Written
+    ensures { λ r. ⌜ r ≡ writtenOf (refused rejection) ⌝ }
 {
-    Written::Refused(Refusal { number, place: 0 })
+    Written::Refused(rejection)
 }
 
 // Whether the block height and the list are within the sizes, and the list is whole ids.
@@ -66,13 +67,14 @@ fn write_tree(block: u64, ids: &[u8], chosen: &[u64], out: &mut [u8]) -> Written
     let top = shape.width;
     let mut heap = [0u8; 32768];
     build(ids, &mut heap, height, n, top);
-    if !all_free(ids, &heap, chosen, height, top) {
-        return refused(TWIN);
-    }
     let marks = marks_of(chosen, height, top);
+    let end = climb_chosen(ids, &heap, &marks, height, n, top);
+    if let Climb::Twin(rejection) = end {
+        return refuse(rejection);
+    }
     let size = varint_size(block) + 1 + levels_size(&marks, height, n, top);
     if out.len() < size {
-        return refused(NO_ROOM);
+        return refuse(spv::reject(NO_ROOM));
     }
     let mut next = write_varint(out, 0, block);
     next = put(out, next, height as u8);
@@ -86,17 +88,17 @@ pub fn write_bump(block: u64, ids: &[u8], chosen: &[u64], out: &mut [u8]) -> Wri
         × (now (out .exit) ≡ outputAfter (writing block (now (ids .entry)) (now (chosen .entry)) (length (now (out .entry)))) (now (out .entry))) ⌝ }
 {
     if !within_sizes(block, ids) {
-        return refused(OVER_LIMIT);
+        return refuse(spv::reject(OVER_LIMIT));
     }
     if chosen.len() == 0 {
-        return refused(NOT_LISTED);
+        return refuse(spv::reject(NOT_LISTED));
     }
     let n = ids.len() / 32;
     if !all_below(n as u64, chosen) {
-        return refused(BAD_OFFSET);
+        return refuse(spv::reject(BAD_OFFSET));
     }
     if !all_differ(ids) {
-        return refused(SAME_TX);
+        return refuse(spv::reject(SAME_TX));
     }
     write_tree(block, ids, chosen, out)
 }

@@ -1,6 +1,6 @@
 // What is asked of a list of ids and of chosen positions before a tree is made of them.
 ghost use mathlib.Core.Path.{_≡_};
-ghost use mathlib.Core.Bool.{true, false};
+ghost use mathlib.Core.Bool.{false};
 ghost use Prim.Native.Nat.{_+_, _/_, _<_, _≤_};
 ghost use lib.ListN.{length};
 ghost use Rattle.spv.specs.Bundle.{hashesOf};

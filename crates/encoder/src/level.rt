@@ -1,5 +1,7 @@
 // The levels of a BUMP of chosen positions: what they ask for at each offset, how many bytes that takes, and the bytes.
+use super::marks::is_marked;
 use super::tree::node_at;
+use super::tree::sibling_position;
 use format::buffer::put;
 use format::buffer::varint_size;
 use format::buffer::write;
@@ -12,13 +14,10 @@ ghost use Rattle.format.specs.Buffer.{buffer, writeOn};
 ghost use Rattle.format.specs.Digits.{varintBytes};
 ghost use Rattle.format.specs.Spelling.{spells};
 ghost use Rattle.format.specs.BumpBytes.{levelBytes};
-ghost use Rattle.spv.specs.Climb.{beside as besideOf};
 ghost use Rattle.spv.specs.Bundle.{hashesOf};
 ghost use Rattle.encoder.specs.BlockBump.{levelsFor};
 ghost use Rattle.encoder.specs.Heap.{nodeIn};
-ghost use Rattle.encoder.specs.Marks.{marked};
-ghost use Rattle.encoder.specs.Leaves.{passedAt, formAt, leafCount, leafBytes, leafText, levelLeaves, levelSize, leavesText, levelText};
-ghost use Rattle.encoder.specs.Leaves.{Ready};
+ghost use Rattle.encoder.specs.Leaves.{passedAt, formAt, leafCount, leafBytes, leafText, levelLeaves, levelSize, leavesText, levelText, Ready};
 
 // What is asked for at an offset.
 pub enum Asked {
@@ -26,20 +25,6 @@ pub enum Asked {
     Plain,
     Copy,
     Client,
-}
-
-fn is_marked(marks: &[u8], index: usize) -> bool
-    requires { ⌜ index < length (now marks) ⌝ }
-    ensures { λ r. ⌜ r ≡ marked (now (marks .entry)) index ⌝ }
-{
-    marks[index] == 1
-}
-
-fn beside(o: usize) -> usize
-    requires { ⌜ o ≤ 1024 ⌝ }
-    ensures { λ r. ⌜ r ≡ besideOf o ⌝ }
-{
-    if o % 2 == 1 { o - 1 } else { o + 1 }
 }
 
 // A node that a chosen climb passes: a client's id at level 0, left out above it.
@@ -57,7 +42,7 @@ fn asked_at(marks: &[u8], base: bool, width: usize, count: usize, o: usize) -> A
     if is_marked(marks, width + o) {
         return passed_at(base);
     }
-    if !is_marked(marks, width + beside(o)) {
+    if !is_marked(marks, width + sibling_position(o)) {
         return Asked::Nothing;
     }
     if o < count { Asked::Plain } else { Asked::Copy }

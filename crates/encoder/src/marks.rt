@@ -2,7 +2,14 @@
 ghost use mathlib.Core.Path.{_≡_};
 ghost use Prim.Native.Nat.{ℕ, _^_, _<_, _≤_};
 ghost use lib.ListN.{length, getD};
-ghost use Rattle.encoder.specs.Marks.{Marks, Marked};
+ghost use Rattle.encoder.specs.Marks.{marked, Marks, Marked};
+
+pub(crate) fn is_marked(marks: &[u8], index: usize) -> bool
+    requires { ⌜ index < length (now marks) ⌝ }
+    ensures { λ r. ⌜ r ≡ marked (now (marks .entry)) index ⌝ }
+{
+    marks[index] == 1
+}
 
 // The nodes that the climb from a position passes.
 fn mark(marks: &mut [u8], height: usize, top: usize, i: usize)

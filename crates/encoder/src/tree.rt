@@ -1,15 +1,20 @@
 // The tree of a block's ids. The node at position j of a level of `width` places stands at index width + j of the heap, 32 bytes an
 // index; level 0 is the lent list itself.
+use super::marks::is_marked;
+use format::refusal::TWIN;
+use spv::Rejection;
 ghost use mathlib.Core.Path.{_≡_};
-ghost use mathlib.Core.Bool.{true, false};
+ghost use mathlib.Core.Bool.{false};
 ghost use mathlib.Core.List.{List};
-ghost use Prim.Native.Nat.{ℕ, _+_, _*_, _/_, _%_, _^_, _<_, _≤_};
+ghost use Prim.Native.Nat.{ℕ, _*_, _/_, _%_, _^_, _<_, _≤_};
 ghost use lib.ListN.{length};
 ghost use Rattle.format.specs.Search.{hashAt};
+ghost use Rattle.spv.specs.Climb.{siblingPosition};
 ghost use Rattle.spv.specs.Bundle.{hashesOf};
 ghost use Rattle.encoder.specs.Tree.{above, heightFor, treeClimb};
-ghost use Rattle.encoder.specs.BlockBump.{allBelow, reaches, allReach};
-ghost use Rattle.encoder.specs.Heap.{nodeIn, rightIn, Stored, Heap, Grown, twinIn};
+ghost use Rattle.encoder.specs.BlockBump.{climbsFrom};
+ghost use Rattle.encoder.specs.Heap.{nodeIn, rightIn, Stored, Heap, Grown, twinIn, climbOf};
+ghost use Rattle.encoder.specs.Marks.{Marked};
 
 // The least height of a tree that holds a list, and the places of its level 0.
 pub struct Shape {
@@ -85,6 +90,12 @@ pub(crate) fn build(ids: &[u8], heap: &mut [u8], height: usize, n: usize, top: u
     }
 }
 
+// Where a climb ends: at the root, or refused for a twin.
+pub enum Climb {
+    Free,
+    Twin(Rejection),
+}
+
 // Whether the climb meets a twin at position j: the node on its left is the same.
 fn has_twin(ids: &[u8], heap: &[u8], base: bool, width: usize, j: usize) -> bool
     requires { ⌜ (width ≤ 2048) × (j ≤ 2048) ⌝ }
@@ -99,37 +110,79 @@ fn has_twin(ids: &[u8], heap: &[u8], base: bool, width: usize, j: usize) -> bool
     )
 }
 
-// Whether the climb from a position meets no twin.
-fn climb_free(ids: &[u8], heap: &[u8], height: usize, top: usize, i: usize) -> bool
+pub(crate) fn sibling_position(o: usize) -> usize
+    requires { ⌜ o ≤ 1024 ⌝ }
+    ensures { λ r. ⌜ r ≡ siblingPosition o ⌝ }
+{
+    if o % 2 == 1 { o - 1 } else { o + 1 }
+}
+
+// The climb from a position, up to the root or to the first twin.
+fn climb_from(ids: &[u8], heap: &[u8], height: usize, top: usize, i: usize) -> Climb
     requires { ⌜ (height ≤ 10) × (top ≡ 2 ^ height) × (i ≤ 1024) ⌝ }
-    ensures { λ r. ⌜ (Grown (now (ids .entry)) (now (heap .entry)) height → i < length (now (ids .entry)) / 32 → r ≡ reaches (treeClimb (hashesOf (now (ids .entry))) i)) ⌝ }
+    ensures { λ r. ⌜ (Grown (now (ids .entry)) (now (heap .entry)) height → i < length (now (ids .entry)) / 32 → r ≡ climbOf (treeClimb (hashesOf (now (ids .entry))) i)) ⌝ }
 {
     let mut j = i;
     let mut width = top;
     let mut k: usize = 0;
     while k < height {
         if has_twin(ids, heap, k == 0, width, j) {
-            return false;
+            let sibling = sibling_position(j) as u64;
+            return Climb::Twin(Rejection {
+                number: TWIN,
+                carried: 0,
+                layer: k,
+                sibling,
+            });
         }
         j /= 2;
         width /= 2;
         k += 1;
     }
-    true
+    Climb::Free
 }
 
-// Whether no climb of a chosen position meets a twin.
-pub(crate) fn all_free(ids: &[u8], heap: &[u8], chosen: &[u64], height: usize, top: usize) -> bool
-    requires { ⌜ (height ≤ 10) × (top ≡ 2 ^ height) × (length (now ids) / 32 ≤ 1024) × (allBelow (length (now ids) / 32) (now chosen) ≡ true) ⌝ }
-    ensures { λ r. ⌜ (Grown (now (ids .entry)) (now (heap .entry)) height → r ≡ allReach (hashesOf (now (ids .entry))) (now (chosen .entry))) ⌝ }
+// The climb from a position if it is chosen.
+fn climb_if_chosen(
+    ids: &[u8],
+    heap: &[u8],
+    marks: &[u8],
+    height: usize,
+    top: usize,
+    i: usize,
+) -> Climb
+    requires { ⌜ (1 ≤ height) × (height ≤ 10) × (top ≡ 2 ^ height) × (i < top) × (i < length (now ids) / 32) × (length (now marks) ≡ 2048) ⌝ }
+    ensures { λ r. ⌜ ((chosen : List ℕ) → Grown (now (ids .entry)) (now (heap .entry)) height → Marked (now (marks .entry)) chosen height
+        → r ≡ climbOf (climbsFrom (hashesOf (now (ids .entry))) chosen i 1)) ⌝ }
+{
+    if !is_marked(marks, top + i) {
+        return Climb::Free;
+    }
+    climb_from(ids, heap, height, top, i)
+}
+
+// The climbs from the chosen positions, least first, up to the first twin.
+pub(crate) fn climb_chosen(
+    ids: &[u8],
+    heap: &[u8],
+    marks: &[u8],
+    height: usize,
+    n: usize,
+    top: usize,
+) -> Climb
+    requires { ⌜ (1 ≤ height) × (height ≤ 10) × (top ≡ 2 ^ height) × (n ≤ top) × (n ≡ length (now ids) / 32) × (length (now marks) ≡ 2048) ⌝ }
+    ensures { λ r. ⌜ ((chosen : List ℕ) → Grown (now (ids .entry)) (now (heap .entry)) height → Marked (now (marks .entry)) chosen height
+        → r ≡ climbOf (climbsFrom (hashesOf (now (ids .entry))) chosen 0 n)) ⌝ }
 {
     let mut i: usize = 0;
-    while i < chosen.len() {
-        let c = chosen[i];
-        if !climb_free(ids, heap, height, top, c as usize) {
-            return false;
+    while i < n {
+        let end = climb_if_chosen(ids, heap, marks, height, top, i);
+        match end {
+            Climb::Twin(rejection) => return Climb::Twin(rejection),
+            Climb::Free => {
+                i += 1;
+            }
         }
-        i += 1;
     }
-    true
+    Climb::Free
 }

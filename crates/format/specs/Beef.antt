@@ -1,12 +1,11 @@
 -- BEEF version 0100BEEF (document 004; 01, "Layouts").
-use mathlib.Core.Path.{_≡_, refl}
-use mathlib.Core.List.{List, [], _∷_}
+use mathlib.Core.List.{List}
 use Prim.Native.Nat.{ℕ}
 use lib.ListN.{length}
 use lib.Dec.{ltb, leb, eqb}
 use Rattle.format.specs.declared.beef.Anchor.{Anchor}
-use Rattle.format.specs.Parse.{Parse, Reader, pick, pure, _>>=_, given, _passing_else_, times, many, whole, bad}
-use Rattle.format.specs.Field.{bytes, byte, le4, number, varint}
+use Rattle.format.specs.Parse.{Parse, Reader, pick, pure, _>>=_, given, _passing_else_, times, whole}
+use Rattle.format.specs.Field.{byte, le4, number, varint}
 use Rattle.format.specs.Bump.{Bump, bumpField}
 use Rattle.format.specs.Transaction.{Transaction, txField}
 use Rattle.format.specs.Refusals.{OVER-LIMIT, BAD-FLAG, BAD-VERSION, EMPTY, BAD-INDEX, NO-ROOM, MAX-BUMPS, MAX-TXS}
@@ -14,9 +13,6 @@ use Rattle.format.specs.Refusals.{OVER-LIMIT, BAD-FLAG, BAD-VERSION, EMP
 -- bytes 01 00 be ef, as a number with the little end first
 abbrev pub VERSION : ℕ
 VERSION = 0xefbe0001
-
-version-bytes : le4 (0x01 ∷ 0x00 ∷ 0xbe ∷ 0xef ∷ []) 0 ≡ VERSION
-version-bytes = refl
 
 unfoldable pub versionField : Reader ℕ
 versionField = number le4 4 passing (λ v. eqb v VERSION) else BAD-VERSION
@@ -78,25 +74,3 @@ beefField room = do
 -- an input that is one whole bundle: nothing after it
 abbrev pub beefWhole : ℕ → List ℕ → Parse Beef
 beefWhole room s = whole (beefField room) s
-
--- fewer than four bytes are 2 whatever they are, four others than BEEF's 10
-version-short : beefField 0 (0x02 ∷ 0x00 ∷ 0xbe ∷ []) 0 ≡ bad 2 0
-unfolding beefField versionField bytes
-version-short = refl
-
-version-other : beefField 0 (0x02 ∷ 0x00 ∷ 0xbe ∷ 0xef ∷ []) 0 ≡ bad 10 0
-unfolding beefField versionField bytes
-version-other = refl
-
--- on the transaction count 5, then 12, then 22
-count-over : beefField 0 (0x01 ∷ 0x00 ∷ 0xbe ∷ 0xef ∷ 0x00 ∷ 0xfd ∷ 0x01 ∷ 0x01 ∷ []) 0 ≡ bad 5 5
-unfolding beefField versionField bumpsField bumpCountField entriesField txCountField varint bytes byte many
-count-over = refl
-
-count-empty : beefField 0 (0x01 ∷ 0x00 ∷ 0xbe ∷ 0xef ∷ 0x00 ∷ 0x00 ∷ []) 0 ≡ bad 12 5
-unfolding beefField versionField bumpsField bumpCountField entriesField txCountField varint bytes byte many
-count-empty = refl
-
-count-no-room : beefField 0 (0x01 ∷ 0x00 ∷ 0xbe ∷ 0xef ∷ 0x00 ∷ 0x01 ∷ 0xff ∷ []) 0 ≡ bad 22 5
-unfolding beefField versionField bumpsField bumpCountField entriesField txCountField varint bytes byte many
-count-no-room = refl

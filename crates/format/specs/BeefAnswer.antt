@@ -1,5 +1,4 @@
 -- What the answers of the BEEF readers say, and what is found again in a bundle that was read.
-use mathlib.Core.Path.{_≡_, refl}
 use mathlib.Core.List.{List, [], _∷_}
 use Prim.Native.Nat.{ℕ}
 use lib.ListN.{length, replicate}
@@ -13,8 +12,7 @@ use Rattle.format.specs.declared.beef.EntryAnswer.{EntryAnswer}
 use Rattle.format.specs.declared.beef.BeefHead.{BeefHead}
 use Rattle.format.specs.declared.beef.BeefAnswer.{BeefAnswer}
 use Rattle.format.specs.Parse.{Parse, otherwise, times, got, bad}
-use Rattle.format.specs.OneAnswer.{answerOf, one-reading}
-use Rattle.format.specs.Gather.{padded}
+use Rattle.format.specs.Padded.{padded}
 use Rattle.format.specs.Search.{looseBump}
 use Rattle.format.specs.Transaction.{txHeadOf}
 use Rattle.format.specs.Beef.{Entry, Beef, bumpCountField}
@@ -71,24 +69,3 @@ bumpHeadsAt n s at = otherwise (times looseBump n s at) (replicate MAX-BUMPS noB
 -- those of a bundle: its version takes four bytes
 unfoldable pub bumpHeads : List ℕ → List BumpHead
 bumpHeads s = otherwise (bumpCountField s 4) (replicate MAX-BUMPS noBump) (λ n next. bumpHeadsAt n s next)
-
-pub anchor-one : (a b : AnchorAnswer) → anchorAnswer a ≡ anchorAnswer b → a ≡ b
-anchor-one = one-reading anchorAnswer AnchorAnswer.Value AnchorAnswer.Refused undone
-  where
-    undone : (x : AnchorAnswer) → answerOf AnchorAnswer.Value AnchorAnswer.Refused (anchorAnswer x) ≡ x
-    undone (AnchorAnswer.Value v c) = refl
-    undone (AnchorAnswer.Refused r) = refl
-
-pub entry-one : (a b : EntryAnswer) → entryAnswer a ≡ entryAnswer b → a ≡ b
-entry-one = one-reading entryAnswer EntryAnswer.Value EntryAnswer.Refused undone
-  where
-    undone : (x : EntryAnswer) → answerOf EntryAnswer.Value EntryAnswer.Refused (entryAnswer x) ≡ x
-    undone (EntryAnswer.Value v c) = refl
-    undone (EntryAnswer.Refused r) = refl
-
-pub beef-one : (a b : BeefAnswer) → beefAnswer a ≡ beefAnswer b → a ≡ b
-beef-one = one-reading beefAnswer BeefAnswer.Value BeefAnswer.Refused undone
-  where
-    undone : (x : BeefAnswer) → answerOf BeefAnswer.Value BeefAnswer.Refused (beefAnswer x) ≡ x
-    undone (BeefAnswer.Value v c) = refl
-    undone (BeefAnswer.Refused r) = refl

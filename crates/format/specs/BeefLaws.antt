@@ -18,7 +18,8 @@ use Rattle.format.specs.ParseLaws.{passing-told, onward-told, each-got, 
 use Rattle.format.specs.Field.{bytes, byte, le4, number, varint}
 use Rattle.format.specs.Span.{ItemRead, times-told, bytes-told}
 use Rattle.format.specs.Whole.{whole-size}
-use Rattle.format.specs.Gather.{padded, each-sames}
+use Rattle.format.specs.Padded.{padded}
+use Rattle.format.specs.Gather.{each-sames}
 use Rattle.format.specs.Level.{levelFields, levelInTurn, nextTurn}
 use Rattle.format.specs.Search.{looseLevel, looseBump}
 use Rattle.format.specs.SearchLaws.{level-loose}

@@ -1,5 +1,4 @@
 -- BUMP (document 003; 01, "Layouts").
-use mathlib.Core.Path.{_≡_, refl}
 use mathlib.Core.List.{List}
 use mathlib.Core.Bool.{_&&_}
 use Prim.Native.Nat.{ℕ}
@@ -9,7 +8,6 @@ use Rattle.format.specs.declared.level.Leaf.{Leaf}
 use Rattle.format.specs.declared.bump.BumpHead.{BumpHead}
 use Rattle.format.specs.declared.bump.BumpAnswer.{BumpAnswer}
 use Rattle.format.specs.declared.refusal.Refusal.{Refusal}
-use Rattle.format.specs.OneAnswer.{answerOf, one-reading}
 use Rattle.format.specs.Parse.{Parse, Reader, pure, here, _>>=_, _passing_else_, whole, got, bad}
 use Rattle.format.specs.Field.{byte, varint}
 use Rattle.format.specs.Level.{levelFields, total}
@@ -52,10 +50,3 @@ bumpAnswer (BumpAnswer.Refused r) = bad (r .number) (r .place)
 abbrev pub refusalOfBump : BumpAnswer → Refusal
 refusalOfBump (BumpAnswer.Value v c) = record { number = 0; place = 0 }
 refusalOfBump (BumpAnswer.Refused r) = r
-
-pub bump-one : (a b : BumpAnswer) → bumpAnswer a ≡ bumpAnswer b → a ≡ b
-bump-one = one-reading bumpAnswer BumpAnswer.Value BumpAnswer.Refused undone
-  where
-    undone : (x : BumpAnswer) → answerOf BumpAnswer.Value BumpAnswer.Refused (bumpAnswer x) ≡ x
-    undone (BumpAnswer.Value v c) = refl
-    undone (BumpAnswer.Refused r) = refl

@@ -16,7 +16,7 @@ use Rattle.format.specs.Parse.{Parse, Reader, pick, each, given, pure, _
 use Rattle.format.specs.ParseLaws.{onward-told, each-got}
 use Rattle.format.specs.Field.{bytes, varint}
 use Rattle.format.specs.FieldLaws.{bytes-here}
-use Rattle.format.specs.Level.{holds, offsetField, flagAllowed, flagField, kindField, carriedField, leafField, andOffset, leafFields, levelField, levelInTurn, nextTurn, levelFields, written}
+use Rattle.format.specs.Level.{holds, offsetField, flagAllowed, flagField, kindField, carriedField, leafField, andOffset, leafFields, levelField, levelInTurn, nextTurn, levelFields, levelOfTurn}
 use Rattle.format.specs.Search.{hashAt}
 use Rattle.format.specs.SearchLaws.{hash-there, hash-at-length}
 use Rattle.format.specs.Basics.{and-true}
@@ -172,7 +172,7 @@ module _ (limit level : ℕ) (small : limit ≤ 18446744073709551616) where
 -- ---- the levels
 
 levels-spelling : (height : ℕ) → height ≤ 64 → Spelling (levelFields Layout.Bump height) levelsOf (spells levelBytes) (λ l. (length l ≡ height) × Fits (LevelFit height) nextLevel 0 l)
-unfolding written
+unfolding levelOfTurn
 levels-spelling height low =
     many-spelling (levelInTurn Layout.Bump height) nextTurn (λ s. map (entryOf s)) levelBytes (LevelFit height) nextLevel (λ s st a. refl)
     (λ i. level-spelling (2 ^ (height - i)) i (pow-mono {j = 64} (omega arith))) height 0

@@ -1,5 +1,4 @@
 -- CMP, the compound path (document 001; 01, "Layouts").
-use mathlib.Core.Path.{_≡_, refl}
 use mathlib.Core.List.{List, reverse}
 use Prim.Native.Nat.{ℕ, _+_}
 use lib.Dec.{leb}
@@ -8,7 +7,6 @@ use Rattle.format.specs.declared.level.Leaf.{Leaf}
 use Rattle.format.specs.declared.cmp.CmpHead.{CmpHead}
 use Rattle.format.specs.declared.cmp.CmpAnswer.{CmpAnswer}
 use Rattle.format.specs.declared.refusal.Refusal.{Refusal}
-use Rattle.format.specs.OneAnswer.{answerOf, one-reading}
 use Rattle.format.specs.Parse.{Parse, Reader, pure, here, _>>=_, _passing_else_, whole, got, bad}
 use Rattle.format.specs.Field.{byte}
 use Rattle.format.specs.Level.{levelFields, total}
@@ -47,10 +45,3 @@ cmpAnswer (CmpAnswer.Refused r) = bad (r .number) (r .place)
 abbrev pub refusalOfCmp : CmpAnswer → Refusal
 refusalOfCmp (CmpAnswer.Value v c) = record { number = 0; place = 0 }
 refusalOfCmp (CmpAnswer.Refused r) = r
-
-pub cmp-one : (a b : CmpAnswer) → cmpAnswer a ≡ cmpAnswer b → a ≡ b
-cmp-one = one-reading cmpAnswer CmpAnswer.Value CmpAnswer.Refused undone
-  where
-    undone : (x : CmpAnswer) → answerOf CmpAnswer.Value CmpAnswer.Refused (cmpAnswer x) ≡ x
-    undone (CmpAnswer.Value v c) = refl
-    undone (CmpAnswer.Refused r) = refl

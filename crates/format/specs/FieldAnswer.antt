@@ -1,10 +1,8 @@
 -- What the answers of the field readers say.
-use mathlib.Core.Path.{_≡_, refl}
 use Prim.Native.Nat.{ℕ}
 use Rattle.format.specs.declared.refusal.Refusal.{Refusal}
 use Rattle.format.specs.declared.field.Number.{Number}
 use Rattle.format.specs.declared.field.Run.{Run}
-use Rattle.format.specs.OneAnswer.{answerOf, one-reading}
 use Rattle.format.specs.Parse.{Parse, got, bad}
 
 abbrev pub numberOf : Number → Parse ℕ
@@ -22,17 +20,3 @@ runOf (Run.Refused r) = bad (r .number) (r .place)
 abbrev pub refusalOfRun : Run → Refusal
 refusalOfRun (Run.Value v c) = record { number = 0; place = 0 }
 refusalOfRun (Run.Refused r) = r
-
-pub number-one : (a b : Number) → numberOf a ≡ numberOf b → a ≡ b
-number-one = one-reading numberOf Number.Value Number.Refused undone
-  where
-    undone : (x : Number) → answerOf Number.Value Number.Refused (numberOf x) ≡ x
-    undone (Number.Value v c) = refl
-    undone (Number.Refused r) = refl
-
-pub run-one : (a b : Run) → runOf a ≡ runOf b → a ≡ b
-run-one = one-reading runOf Run.Value Run.Refused undone
-  where
-    undone : (x : Run) → answerOf Run.Value Run.Refused (runOf x) ≡ x
-    undone (Run.Value v c) = refl
-    undone (Run.Refused r) = refl

@@ -7,12 +7,9 @@ use lib.Seq.{take-suc-set, drop-set-lt, length-take-le, drop-drop}
 use native.Mathlib.Omega.{arith}
 use native.Mathlib.Numerals.{add-one}
 use native.Mathlib.Nat.{sub-zero}
+use Rattle.format.specs.Padded.{padded}
 use Rattle.format.specs.Parse.{Parse, Reader, each, times, got, bad}
 use Rattle.format.specs.ParseLaws.{each-got, each-bad, many-done, many-refused, many-step}
-
--- n places, of which the first hold the list and the others z
-unfoldable pub padded : {B : Type 0} → ℕ → B → List B → List B
-padded n z l = l ++ replicate (n - length l) z
 
 pub padded-length : {B : Type 0} (n : ℕ) (z : B) (l : List B) → length l ≤ n → length (padded n z l) ≡ n
 unfolding padded

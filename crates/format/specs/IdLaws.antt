@@ -1,4 +1,4 @@
--- What the code answers for an id, wherever a part starts and ends; for what was read it is the id.
+-- Laws of ids: what the code answers for an id is, for what was read, the id.
 use mathlib.Core.Path.{_≡_, refl, ap, _∙_}
 use mathlib.Core.Bool.{Bool, true, false, _&&_}
 use mathlib.Core.List.{List}
@@ -8,24 +8,16 @@ use lib.Dec.{leb}
 use borrow.Author.Tests.{le-leb, lt-leb, leb-true, leb-false}
 use native.Mathlib.Omega.{arith}
 use Rattle.hash.specs.declared.Hashed.{Hashed}
-use Rattle.hash.specs.Sha256.{sha256d, hashed, hashed-accepted, hashed-refused, sha256d-length}
+use Rattle.hash.specs.Sha256.{sha256d, hashed}
+use Rattle.hash.specs.Sha256Laws.{hashed-accepted, hashed-refused, sha256d-length}
 use Rattle.format.specs.declared.tsc.Subject.{Subject}
 use Rattle.format.specs.Parse.{pick}
-use Rattle.format.specs.Search.{hashAt}
 use Rattle.format.specs.Refusals.{MAX-INPUT}
 use Rattle.format.specs.Transaction.{Transaction}
 use Rattle.format.specs.TransactionLaws.{TxRead, tx-told}
 use Rattle.format.specs.Tsc.{Tsc}
 use Rattle.format.specs.TscLaws.{TscRead}
-use Rattle.format.specs.Id.{txid, subjectId}
-
--- 32 bytes of a part of the input: its hash, or zeros if it does not lie in the input
-unfoldable pub spanHash : List ℕ → ℕ → ℕ → List ℕ
-spanHash s start end = pick (leb start end && leb end (length s)) (hashed (take (end - start) (drop start s)) .digest) (replicate 32 0)
-
-unfoldable pub subjectHash : List ℕ → Subject → List ℕ
-subjectHash s (Subject.Id p) = hashAt s p
-subjectHash s (Subject.Transaction start end) = spanHash s start end
+use Rattle.format.specs.Id.{txid, subjectId, spanHash, subjectHash}
 
 module _ (s : List ℕ) (start end : ℕ) where
   pub span-backward : end < start → spanHash s start end ≡ replicate 32 0

@@ -67,12 +67,12 @@ abbrev pub levelAt : Layout → ℕ → ℕ → Reader (List Leaf)
 levelAt layout height level = levelField layout (2 ^ (height - level)) level
 
 -- the level that is written in turn i: a BUMP's go up from 0, a CMP's down to 0
-unfoldable pub written : Layout → ℕ → ℕ → ℕ
-written Layout.Bump height i = i
-written Layout.Cmp height i = height - (i + 1)
+unfoldable pub levelOfTurn : Layout → ℕ → ℕ → ℕ
+levelOfTurn Layout.Bump height i = i
+levelOfTurn Layout.Cmp height i = height - (i + 1)
 
 abbrev pub levelInTurn : Layout → ℕ → ℕ → Reader (List Leaf)
-levelInTurn layout height i = levelAt layout height (written layout height i)
+levelInTurn layout height i = levelAt layout height (levelOfTurn layout height i)
 
 abbrev pub nextTurn : ℕ → List Leaf → ℕ
 nextTurn i _ = i + 1

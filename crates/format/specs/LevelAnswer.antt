@@ -1,11 +1,9 @@
 -- What the answers of the readers of leaves say.
-use mathlib.Core.Path.{_≡_, refl}
 use Rattle.format.specs.declared.level.Leaf.{Leaf}
 use Rattle.format.specs.declared.level.Kind.{Kind}
 use Rattle.format.specs.declared.level.KindAnswer.{KindAnswer}
 use Rattle.format.specs.declared.level.LeafAnswer.{LeafAnswer}
 use Rattle.format.specs.declared.refusal.Refusal.{Refusal}
-use Rattle.format.specs.OneAnswer.{answerOf, one-reading}
 use Rattle.format.specs.Parse.{Parse, got, bad}
 
 abbrev pub kindOf : KindAnswer → Parse Kind
@@ -23,17 +21,3 @@ leafOf (LeafAnswer.Refused r) = bad (r .number) (r .place)
 abbrev pub refusalOfLeaf : LeafAnswer → Refusal
 refusalOfLeaf (LeafAnswer.Value v c) = record { number = 0; place = 0 }
 refusalOfLeaf (LeafAnswer.Refused r) = r
-
-pub kind-one : (a b : KindAnswer) → kindOf a ≡ kindOf b → a ≡ b
-kind-one = one-reading kindOf KindAnswer.Value KindAnswer.Refused undone
-  where
-    undone : (x : KindAnswer) → answerOf KindAnswer.Value KindAnswer.Refused (kindOf x) ≡ x
-    undone (KindAnswer.Value v c) = refl
-    undone (KindAnswer.Refused r) = refl
-
-pub leaf-one : (a b : LeafAnswer) → leafOf a ≡ leafOf b → a ≡ b
-leaf-one = one-reading leafOf LeafAnswer.Value LeafAnswer.Refused undone
-  where
-    undone : (x : LeafAnswer) → answerOf LeafAnswer.Value LeafAnswer.Refused (leafOf x) ≡ x
-    undone (LeafAnswer.Value v c) = refl
-    undone (LeafAnswer.Refused r) = refl

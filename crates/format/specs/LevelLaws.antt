@@ -17,7 +17,7 @@ use Rattle.format.specs.declared.level.Kind.the-variants.{Plain, Client}
 use Rattle.format.specs.Parse.{Parse, pick, each, given, many, _passing_else_, got, bad}
 use Rattle.format.specs.ParseLaws.{each-cong, each-got, passing-told, onward-told, many-length, many-step, many-refused, many-done}
 use Rattle.format.specs.Field.{bytes, varint}
-use Rattle.format.specs.Level.{holds, offsetField, kindField, leafField, andOffset, levelField, written, levelInTurn, nextTurn, levelFields, total}
+use Rattle.format.specs.Level.{holds, offsetField, kindField, leafField, andOffset, levelField, levelOfTurn, levelInTurn, nextTurn, levelFields, total}
 use Rattle.format.specs.Refusals.{BAD-OFFSET, OVER-LIMIT, REPEATED, MAX-LEAVES}
 
 module _ (x : ℕ) where
@@ -92,20 +92,20 @@ pub powered : (n : ℕ) → n < 64 → 1 * 2 ^ n % 18446744073709551616 ≡ 2 ^ 
 powered n h = rw one-mul (mod-eq-of-lt (pow-lt {j = 64} h))
 
 -- a level in turn is one of the tree's
-pub written-below : (layout : Layout) (height i : ℕ) → i < height → written layout height i < height
-unfolding written
-written-below Layout.Bump height i h = h
-written-below Layout.Cmp height i h = omega arith
+pub turn-level-below : (layout : Layout) (height i : ℕ) → i < height → levelOfTurn layout height i < height
+unfolding levelOfTurn
+turn-level-below Layout.Bump height i h = h
+turn-level-below Layout.Cmp height i h = omega arith
 
-pub written-one : (layout : Layout) (height a b : ℕ) → a < height → b < height → written layout height a ≡ written layout height b → a ≡ b
-unfolding written
-written-one Layout.Bump height a b g h e = e
-written-one Layout.Cmp height a b g h e = omega arith
+pub turn-level-one : (layout : Layout) (height a b : ℕ) → a < height → b < height → levelOfTurn layout height a ≡ levelOfTurn layout height b → a ≡ b
+unfolding levelOfTurn
+turn-level-one Layout.Bump height a b g h e = e
+turn-level-one Layout.Cmp height a b g h e = omega arith
 
-pub turn-below : (layout : Layout) (height i level : ℕ) → level ≡ written layout height i → i < height → level < height
-turn-below layout height i level e h = rw e (written-below layout height i h)
+pub turn-below : (layout : Layout) (height i level : ℕ) → level ≡ levelOfTurn layout height i → i < height → level < height
+turn-below layout height i level e h = rw e (turn-level-below layout height i h)
 
-pub in-turn : (layout : Layout) (height i level greatest : ℕ) (s : List ℕ) (at : ℕ) → level ≡ written layout height i → greatest + 1 ≡ 2 ^ (height - level)
+pub in-turn : (layout : Layout) (height i level greatest : ℕ) (s : List ℕ) (at : ℕ) → level ≡ levelOfTurn layout height i → greatest + 1 ≡ 2 ^ (height - level)
     → each length (levelField layout (greatest + 1) level s at) ≡ each length (levelInTurn layout height i s at)
 in-turn layout height i level greatest s at e f = rw (f, e)
 

@@ -7,6 +7,7 @@ pub mod Field
 pub mod FieldAnswer
 pub mod FieldLaws
 pub mod Bytes
+pub mod BytesLaws
 pub mod CopyLaws
 pub mod Level
 pub mod LevelAnswer
@@ -22,9 +23,9 @@ pub mod SearchLaws
 pub mod Path
 pub mod PathLaws
 pub mod Transaction
-pub mod Examples
 pub mod Whole
 pub mod Span
+pub mod Padded
 pub mod Gather
 pub mod TransactionAnswer
 pub mod TransactionLaws
@@ -44,6 +45,8 @@ pub mod Digits
 pub mod DigitsLaws
 pub mod VarintSpelling
 pub mod Buffer
+pub mod BufferLaws
 pub mod BumpBytes
 pub mod BumpSpelling
 pub mod BumpRoundTrip
+pub mod Examples

@@ -108,14 +108,6 @@ pub stop : {A B C : Type 0} (f : B → C) (g : A → ℕ → Parse B) {x : Parse
 unfolding each
 stop f g e = rw e
 
-pub each-value : {A B : Type 0} (f : A → B) (a : A) (q : ℕ) → each f (got a q) ≡ got (f a) q
-unfolding each
-each-value f a q = refl
-
-pub each-refused : {A B : Type 0} (f : A → B) (n q : ℕ) → each f (bad n q) ≡ bad n q
-unfolding each
-each-refused f n q = refl
-
 -- what a sequence read was read in parts
 pub onward-told : {A B : Type 0} (p : Parse A) (f : A → ℕ → Parse B) {b : B} {q : ℕ} → onward p f ≡ got b q → (a : A) × (r : ℕ) × (p ≡ got a r) × (f a r ≡ got b q)
 onward-told (got a r) f e = (a, r, refl, e)

@@ -13,7 +13,7 @@ use Rattle.format.specs.declared.path.Found.the-variants.{Here, Missing}
 use Rattle.format.specs.declared.path.Start.{Start}
 use Rattle.format.specs.declared.path.Start.the-variants.{Nowhere}
 use Rattle.format.specs.Parse.{pick, otherwise}
-use Rattle.format.specs.Level.{written}
+use Rattle.format.specs.Level.{levelOfTurn}
 use Rattle.format.specs.Bump.{Bump, headOf}
 use Rattle.format.specs.Cmp.{Cmp, cmpHeadOf}
 use Rattle.format.specs.Node.{nodeField}
@@ -50,8 +50,8 @@ startIn s path id = startAtPlace s (path .form) (getD (path .at) 0 0) id
 unfoldable pub placing : Layout → ℕ → ℕ → ℕ → List ℕ → ℕ → List ℕ → List ℕ
 placing layout height zero i s at known = known
 placing layout height (suc n) i s at known =
-    otherwise (looseLevel layout s at) (set known (written layout height i) at)
-    (λ _ next. placing layout height n (i + 1) s next (set known (written layout height i) at))
+    otherwise (looseLevel layout s at) (set known (levelOfTurn layout height i) at)
+    (λ _ next. placing layout height n (i + 1) s next (set known (levelOfTurn layout height i) at))
 
 -- the places of a tree's levels, 0 past the layers
 abbrev pub places : Layout → ℕ → List ℕ → ℕ → List ℕ

@@ -1,5 +1,5 @@
 -- What is asked of levels that were read: the leaf at an offset, and the least offset that carries an id. Code reads them
--- again without their tests, by the loose layouts here; `LooseLaws` says that this finds the same leaves.
+-- again without their tests, by the loose layouts here; `SearchLaws` says that this finds the same leaves.
 use mathlib.Core.List.{List, [], _∷_}
 use mathlib.Core.Bool.{Bool, false}
 use Prim.Native.Nat.{ℕ, zero, suc, _+_, min}

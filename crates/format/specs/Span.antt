@@ -7,7 +7,7 @@ use lib.ListN.{length, getD}
 use lib.Dec.{ltb, leb, eqb}
 use native.Mathlib.Omega.{arith}
 use borrow.Author.Tests.{ltb-true, leb-true}
-use Rattle.format.specs.Parse.{Parse, Reader, pick, pure, onward, each, _passing_else_, at-start, many, times, got, bad}
+use Rattle.format.specs.Parse.{Parse, Reader, pick, pure, onward, _passing_else_, at-start, many, times, got, bad}
 use Rattle.format.specs.ParseLaws.{onward-told, passing-told, many-told}
 use Rattle.format.specs.Field.{bytes, byte, le2, le4, le8, number, announced, varint}
 use Rattle.format.specs.Refusals.{SHORT, LONG-VARINT}

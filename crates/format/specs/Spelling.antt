@@ -11,7 +11,7 @@ use native.Mathlib.Nat.{add-zero}
 use borrow.Author.Tests.{lt-ltb, ltb-true, ltb-false}
 use Rattle.format.specs.Parse.{Reader, _passing_else_, many, each, got}
 use Rattle.format.specs.ParseLaws.{passing-told, many-told}
-use Rattle.format.specs.Field.{bytes, byte}
+use Rattle.format.specs.Field.{byte}
 use Rattle.format.specs.Span.{byte-told}
 use Rattle.format.specs.Stands.{Stands, stands-none, stands-join, stands-split, stands-fits, stands-get, stands-here}
 

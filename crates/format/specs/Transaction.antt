@@ -1,14 +1,13 @@
 -- Raw transactions (01, "Layouts"). Ids, output numbers, scripts and amounts stand by their places.
-use mathlib.Core.Path.{_≡_, refl}
-use mathlib.Core.List.{List, [], _∷_}
+use mathlib.Core.List.{List}
 use Prim.Native.Nat.{ℕ}
 use lib.ListN.{length}
 use lib.Dec.{leb}
 use Rattle.format.specs.declared.tx.Input.{Input}
 use Rattle.format.specs.declared.tx.Items.{Items}
 use Rattle.format.specs.declared.tx.TxHead.{TxHead}
-use Rattle.format.specs.Parse.{Parse, Reader, pure, here, _>>=_, each, _passing_else_, many, times, whole, got, bad}
-use Rattle.format.specs.Field.{bytes, byte, varint}
+use Rattle.format.specs.Parse.{Parse, Reader, pure, here, _>>=_, _passing_else_, times, whole}
+use Rattle.format.specs.Field.{bytes, varint}
 use Rattle.format.specs.Refusals.{BAD-TX}
 
 -- script length VarInt, script
@@ -90,16 +89,3 @@ txHeadOf t = record {
   inputs = record { count = length (t .inputs); at = record { at = t .inputsAt } };
   outputs = record { count = length (t .outputs); at = record { at = t .outputsAt } };
 }
-
--- an input count of 2 ^ 64 - 1 costs what the bytes allow
-tx-huge : txField (1 ∷ 0 ∷ 0 ∷ 0 ∷ 0xff ∷ 0xff ∷ 0xff ∷ 0xff ∷ 0xff ∷ 0xff ∷ 0xff ∷ 0xff ∷ 0xff ∷ 7 ∷ []) 0 ≡ bad 2 13
-unfolding txField listField scriptField someField inputField outputField varint bytes byte many
-tx-huge = refl
-
--- one input, one output
-tx-one : txField
-    (1 ∷ 0 ∷ 0 ∷ 0 ∷ 1 ∷ 0 ∷ 0 ∷ 0 ∷ 0 ∷ 0 ∷ 0 ∷ 0 ∷ 0 ∷ 0 ∷ 0 ∷ 0 ∷ 0 ∷ 0 ∷ 0 ∷ 0 ∷ 0 ∷ 0 ∷ 0 ∷ 0 ∷ 0 ∷ 0 ∷ 0 ∷ 0 ∷ 0 ∷ 0 ∷ 0 ∷ 0 ∷ 0 ∷ 0 ∷ 0 ∷ 0 ∷ 0
-    ∷ 9 ∷ 9 ∷ 9 ∷ 9 ∷ 2 ∷ 7 ∷ 7 ∷ 8 ∷ 8 ∷ 8 ∷ 8 ∷ 1 ∷ 0 ∷ 0 ∷ 0 ∷ 0 ∷ 0 ∷ 0 ∷ 0 ∷ 0 ∷ 0 ∷ 3 ∷ 3 ∷ 3 ∷ 3 ∷ []) 0
-    ≡ got (record { start = 0; end = 62; inputsAt = 5; inputs = record { parent = 5; output = 37 } ∷ []; outputsAt = 49; outputs = 49 ∷ [] }) 62
-unfolding txField listField scriptField someField inputField outputField varint bytes byte many each
-tx-one = refl

@@ -1,8 +1,8 @@
 -- Laws of transactions: what a reading answers, and what is known of a transaction that was read.
-use mathlib.Core.Path.{_≡_, refl, sym, _∙_}
+use mathlib.Core.Path.{_≡_, refl}
 use mathlib.Core.List.{List}
 use Prim.Native.Nat.{ℕ, _+_, _≤_, _<_}
-use lib.ListN.{length, getD}
+use lib.ListN.{length}
 use lib.Dec.{leb}
 use native.Mathlib.Omega.{arith}
 use borrow.Author.Tests.{leb-true}
@@ -12,7 +12,7 @@ use Rattle.format.specs.Parse.{Parse, Reader, each, times, got}
 use Rattle.format.specs.ParseLaws.{onward-told, passing-told, many-length}
 use Rattle.format.specs.Field.{bytes, varint}
 use Rattle.format.specs.Refusals.{BAD-TX}
-use Rattle.format.specs.Span.{Within, within-then, BytesRead, bytes-told, varint-told, many-within, times-told}
+use Rattle.format.specs.Span.{Within, within-then, BytesRead, bytes-told, varint-told, many-within}
 use Rattle.format.specs.Transaction.{Listed, Transaction, scriptField, inputField, outputField, someField, listField, txField, itemsOf, txHeadOf}
 
 -- what a reading answers, by what it kept
@@ -73,16 +73,6 @@ output-within s at {v} {q} e =
     let b = onward-told (scriptField s (a .1)) _ (a .3) in
     let z : b .1 ≡ q = cc in
     rw (← z) (within-then (bytes-within 8 s at (a .2)) (script-within s (a .1) (b .2)))
-
--- an output that was read: its amount stands in the bytes
-pub output-told : (s : List ℕ) (at : ℕ) {v q : ℕ} → outputField s at ≡ got v q → (v ≡ at) × (at + 8 ≤ length s)
-unfolding outputField
-output-told s at {v} e =
-    let a = onward-told (bytes 8 s at) _ e in
-    let b = onward-told (scriptField s (a .1)) _ (a .3) in
-    let t = bytes-told 8 s at (a .2) in
-    let z : a .0 ≡ v = cc in
-    (sym z ∙ t .place-is, t .inside)
 
 -- items that were read: at least one, at their place
 pub record ListRead {A : Type 0} (item : Reader A) (s : List ℕ) (at next : ℕ) (l : Listed A) : Type 0 where
@@ -155,12 +145,3 @@ tx-told s at {t} {q} e =
           outputs-end = three;
           outputs-read = o .read;
         })
-
--- each parent's id stands in the bytes
-pub tx-parent : (s : List ℕ) (at : ℕ) {t : Transaction} {q : ℕ} → txField s at ≡ got t q → (k : ℕ) (d : Input) → k < length (t .inputs)
-    → getD (t .inputs) k d .parent + 32 ≤ length s
-tx-parent s at {t} e k d h =
-    let r = tx-told s at e in
-    let i = times-told inputField s d (length (t .inputs)) (t .inputsAt) (r .inputs-read) k h in
-    let x = input-told s (i .at) (i .read) in
-    omega arith

@@ -1,15 +1,14 @@
 -- TSC binary proofs (document 000; 01, "Layouts").
-use mathlib.Core.Path.{_≡_, refl}
-use mathlib.Core.List.{List, [], _∷_, _++_}
+use mathlib.Core.List.{List}
 use mathlib.Core.Bool.{Bool, not, _&&_}
 use Prim.Native.Nat.{ℕ, _+_, _^_}
-use lib.ListN.{length, replicate}
+use lib.ListN.{length}
 use lib.Bits.{bitAnd}
 use lib.Dec.{ltb, leb, eqb}
 use Rattle.format.specs.declared.level.Kind.{Kind}
 use Rattle.format.specs.declared.tsc.Subject.{Subject}
 use Rattle.format.specs.declared.tsc.TscHead.{TscHead}
-use Rattle.format.specs.Parse.{Parse, Reader, pick, pure, here, onward, _>>=_, _>>_, given, _passing_else_, require, times, each, whole, got, bad}
+use Rattle.format.specs.Parse.{Parse, Reader, pick, pure, here, onward, _>>=_, _>>_, given, _passing_else_, require, times, whole, got, bad}
 use Rattle.format.specs.Field.{bytes, byte, varint}
 use Rattle.format.specs.Node.{nodeField}
 use Rattle.format.specs.Search.{hashAt}
@@ -115,22 +114,3 @@ tellsRoot flags = not (eqb (bitAnd flags 6) 0)
 -- a header holds the root in bytes 36 to 67; any other target is taken as it is
 unfoldable pub targetRoot : List ℕ → ℕ → ℕ → List ℕ
 targetRoot s flags target = hashAt s (pick (hasHeader flags) (target + 36) target)
-
--- 9 over three layers is outside, and is not taken as 1
-index-outside : tscField (0x00 ∷ 0x09 ∷ replicate 64 0xaa ++ (0x03 ∷ [])) 0 ≡ bad 6 1
-unfolding tscField flagsField subjectField targetField nodesField nodeCountField indexFits varint bytes byte each
-index-outside = refl
-
--- over 32 nodes come first
-nodes-over : tscField (0x00 ∷ 0x08 ∷ replicate 64 0xaa ++ (0x21 ∷ [])) 0 ≡ bad 5 66
-unfolding tscField flagsField subjectField targetField nodesField nodeCountField indexFits varint bytes byte each
-nodes-over = refl
-
--- a stated length of 0 is no transaction; a length past the end is 2; both at the transaction's start
-stated-none : tscField (0x05 ∷ 0x00 ∷ 0x00 ∷ []) 0 ≡ bad 11 3
-unfolding tscField flagsField subjectField statedField exactField txField varint bytes byte each
-stated-none = refl
-
-stated-past : tscField (0x05 ∷ 0x00 ∷ 0x01 ∷ []) 0 ≡ bad 2 3
-unfolding tscField flagsField subjectField statedField exactField varint bytes byte each
-stated-past = refl

@@ -1,12 +1,10 @@
 -- What the answers of the TSC readers say.
-use mathlib.Core.Path.{_≡_, refl}
 use Rattle.format.specs.declared.refusal.Refusal.{Refusal}
 use Rattle.format.specs.declared.tsc.Subject.{Subject}
 use Rattle.format.specs.declared.tsc.SubjectAnswer.{SubjectAnswer}
 use Rattle.format.specs.declared.tsc.TscHead.{TscHead}
 use Rattle.format.specs.declared.tsc.TscAnswer.{TscAnswer}
 use Rattle.format.specs.Parse.{Parse, got, bad}
-use Rattle.format.specs.OneAnswer.{answerOf, one-reading}
 
 abbrev pub subjectAnswer : SubjectAnswer → Parse Subject
 subjectAnswer (SubjectAnswer.Value v c) = got v (c .at)
@@ -23,17 +21,3 @@ tscAnswer (TscAnswer.Refused r) = bad (r .number) (r .place)
 abbrev pub refusalOfTsc : TscAnswer → Refusal
 refusalOfTsc (TscAnswer.Value v c) = record { number = 0; place = 0 }
 refusalOfTsc (TscAnswer.Refused r) = r
-
-pub subject-one : (a b : SubjectAnswer) → subjectAnswer a ≡ subjectAnswer b → a ≡ b
-subject-one = one-reading subjectAnswer SubjectAnswer.Value SubjectAnswer.Refused undone
-  where
-    undone : (x : SubjectAnswer) → answerOf SubjectAnswer.Value SubjectAnswer.Refused (subjectAnswer x) ≡ x
-    undone (SubjectAnswer.Value v c) = refl
-    undone (SubjectAnswer.Refused r) = refl
-
-pub tsc-one : (a b : TscAnswer) → tscAnswer a ≡ tscAnswer b → a ≡ b
-tsc-one = one-reading tscAnswer TscAnswer.Value TscAnswer.Refused undone
-  where
-    undone : (x : TscAnswer) → answerOf TscAnswer.Value TscAnswer.Refused (tscAnswer x) ≡ x
-    undone (TscAnswer.Value v c) = refl
-    undone (TscAnswer.Refused r) = refl

@@ -1,15 +1,15 @@
 -- Laws of TSC proofs: what a reading answers, and what is known of a proof that was read.
 use mathlib.Core.Path.{_≡_, refl, ap, sym, _∙_}
 use mathlib.Core.List.{List}
-use mathlib.Core.Bool.{Bool, true, false, not}
-use Prim.Native.Nat.{ℕ, zero, suc, _+_, _*_, _^_, _/_, _≤_, _<_}
-use lib.ListN.{length, take, drop, replicate}
+use mathlib.Core.Bool.{Bool, true, false}
+use Prim.Native.Nat.{ℕ, _+_, _*_, _^_, _/_, _≤_, _<_}
+use lib.ListN.{length, replicate}
 use lib.Bits.{bitAnd}
 use lib.Dec.{ltb, leb, eqb}
 use lib.Pow.{pow-pos, pow-mono}
 use native.Mathlib.Omega.{arith}
 use native.Mathlib.Nat.{div-eq-of-lt, div-lt-iff-lt-mul}
-use borrow.Author.Tests.{lt-ltb, le-ltb, lt-leb, eq-eqb, ne-eqb, leb-true, ltb-true, ltb-false}
+use borrow.Author.Tests.{lt-ltb, eq-eqb, ne-eqb, leb-true, ltb-true, ltb-false}
 use Rattle.format.specs.declared.level.Kind.{Kind}
 use Rattle.format.specs.declared.tx.Items.{Items}
 use Rattle.format.specs.declared.tx.TxHead.{TxHead}
@@ -19,26 +19,11 @@ use Rattle.format.specs.ParseLaws.{passing-told, onward-told, each-got, 
 use Rattle.format.specs.Field.{bytes, byte, varint}
 use Rattle.format.specs.Span.{picked-told, BytesRead, bytes-told}
 use Rattle.format.specs.Node.{nodeField}
-use Rattle.format.specs.SearchLaws.{hash-there, hash-none}
+use Rattle.format.specs.SearchLaws.{hash-none}
 use Rattle.format.specs.Transaction.{Listed, Transaction, txField, itemsOf, txHeadOf}
 use Rattle.format.specs.TransactionLaws.{tx-told}
 use Rattle.format.specs.Tsc.{flagsAllowed, flagsField, hasTransaction, hasHeader, exactly, exactField, asSubject, statedField, subjectField, targetField, indexFits, nodeCountField, nodesField, Tsc, tscField, tscWhole, tscHeadOf, targetRoot}
 use Rattle.format.specs.Refusals.{OVER-LIMIT, BAD-OFFSET, BAD-FLAG, BAD-TX, MAX-HEIGHT}
-
--- the flags allowed are 0 to 5
-pub flags-to-five : (flags : ℕ) → flagsAllowed flags ≡ leb flags 5
-flags-to-five zero = refl
-flags-to-five (suc zero) = refl
-flags-to-five (suc (suc zero)) = refl
-flags-to-five (suc (suc (suc zero))) = refl
-flags-to-five (suc (suc (suc (suc zero)))) = refl
-flags-to-five (suc (suc (suc (suc (suc zero))))) = refl
-flags-to-five (suc (suc (suc (suc (suc (suc zero)))))) = refl
-flags-to-five (suc (suc (suc (suc (suc (suc (suc zero))))))) = refl
-flags-to-five (suc (suc (suc (suc (suc (suc (suc (suc n)))))))) = above (suc (suc (suc (suc (suc (suc (suc (suc n)))))))) (omega arith)
-  where
-    above : (k : ℕ) → 8 ≤ k → flagsAllowed k ≡ leb k 5
-    above k h = simp (le-ltb k 8 h, lt-leb k 5 (omega arith))
 
 -- the index test by division: 2 ^ 64 need not fit
 pub fits-shifted : (index layers : ℕ) → indexFits index layers ≡ eqb (index / 2 ^ layers) 0
@@ -108,16 +93,6 @@ tsc-head flags index subject target l q e = rw (← e)
 pub root-none : (s : List ℕ) (flags target : ℕ) → bitAnd flags 6 ≡ 2 → length s < target + 68 → targetRoot s flags target ≡ replicate 32 0
 unfolding targetRoot
 root-none s flags target h l = simp (eq-eqb (bitAnd flags 6) 2 h) (hash-none s (target + 36) (omega arith))
-
--- a root that a target tells stands in the bytes
-pub root-there : (s : List ℕ) (flags target : ℕ) → target + pick (hasHeader flags) 80 32 ≤ length s
-    → targetRoot s flags target ≡ take 32 (drop (pick (hasHeader flags) (target + 36) target) s)
-unfolding targetRoot
-root-there s flags target h = hash-there s (pick (hasHeader flags) (target + 36) target) (inside (hasHeader flags) h)
-  where
-    inside : (t : Bool) → target + pick t 80 32 ≤ length s → pick t (target + 36) target + 32 ≤ length s
-    inside true h = omega arith
-    inside false h = h
 
 -- a transaction of its stated length is a transaction
 pub exact-told : (n : ℕ) (s : List ℕ) (at : ℕ) {t : Transaction} {q : ℕ} → exactField n s at ≡ got t q → txField s at ≡ got t q

@@ -6,7 +6,7 @@ use Rattle.format.specs.declared.path.Form.{Form}
 use Rattle.format.specs.declared.path.Path.{Path}
 use Rattle.format.specs.declared.tsc.TscHead.{TscHead}
 use Rattle.format.specs.Parse.{Reader, pure, here, _>>=_, times, otherwise}
-use Rattle.format.specs.Gather.{padded}
+use Rattle.format.specs.Padded.{padded}
 use Rattle.format.specs.Node.{nodeField}
 use Rattle.format.specs.Path.{LAYERS, layersOf}
 use Rattle.format.specs.Tsc.{Tsc, tscHeadOf}

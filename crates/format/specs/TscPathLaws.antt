@@ -9,7 +9,8 @@ use Rattle.format.specs.declared.level.Kind.{Kind}
 use Rattle.format.specs.declared.path.Found.the-variants.{Here}
 use Rattle.format.specs.Parse.{each, many, times, got, bad}
 use Rattle.format.specs.ParseLaws.{many-told}
-use Rattle.format.specs.Gather.{padded, padded-here, each-sames}
+use Rattle.format.specs.Padded.{padded}
+use Rattle.format.specs.Gather.{padded-here, each-sames}
 use Rattle.format.specs.Node.{nodeField}
 use Rattle.format.specs.Path.{nodeAt, leafAtPlace, leafIn, layersOf}
 use Rattle.format.specs.Tsc.{Tsc}

@@ -2,27 +2,15 @@
 use mathlib.Core.Path.{_≡_, refl}
 use mathlib.Core.List.{List}
 use mathlib.Core.Bool.{Bool, true, false}
-use Prim.Native.Nat.{ℕ, _≤_, _<_}
+use Prim.Native.Nat.{ℕ, _≤_}
 use lib.ListN.{length}
 use lib.Dec.{leb}
 use native.Mathlib.Omega.{arith}
-use borrow.Author.Tests.{le-ltb, lt-ltb, le-leb, lt-leb, leb-true}
+use borrow.Author.Tests.{le-ltb, le-leb, leb-true}
 use Rattle.format.specs.Parse.{Reader, pick, ended, whole, got, bad}
-use Rattle.format.specs.Refusals.{TOO-LONG, EXTRA, MAX-INPUT}
+use Rattle.format.specs.Refusals.{TOO-LONG, MAX-INPUT}
 
 module _ {A : Type 0} (p : Reader A) (s : List ℕ) where
-  pub whole-long : MAX-INPUT < length s → whole p s ≡ bad TOO-LONG 0
-  unfolding whole
-  whole-long h = simp (lt-leb _ _ h)
-
-  pub whole-bad : {n q : ℕ} → length s ≤ MAX-INPUT → p s 0 ≡ bad n q → whole p s ≡ p s 0
-  unfolding whole
-  whole-bad h e = simp (le-leb _ _ h, e)
-
-  pub whole-more : {a : A} {q : ℕ} → length s ≤ MAX-INPUT → p s 0 ≡ got a q → q < length s → whole p s ≡ bad EXTRA q
-  unfolding whole
-  whole-more h e l = simp (le-leb _ _ h, e, lt-ltb _ _ l)
-
   pub whole-got : {a : A} {q : ℕ} → length s ≤ MAX-INPUT → p s 0 ≡ got a q → length s ≤ q → whole p s ≡ p s 0
   unfolding whole
   whole-got h e l = simp (le-leb _ _ h, e, le-ltb _ _ l)

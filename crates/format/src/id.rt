@@ -3,7 +3,7 @@ use super::bytes::hash_at;
 use super::tsc::Subject;
 use super::tx::TxHead;
 ghost use mathlib.Core.Path.{_≡_};
-ghost use Rattle.format.specs.IdLaws.{spanHash, subjectHash};
+ghost use Rattle.format.specs.Id.{spanHash, subjectHash};
 
 // The hash of a part of the input; zero if it does not lie in it.
 fn span_hash(s: &[u8], start: usize, end: usize) -> [u8; 32]

@@ -11,14 +11,14 @@ use super::refusal::OVER_LIMIT;
 use super::refusal::REPEATED;
 use super::refusal::Refusal;
 ghost use mathlib.Core.Path.{_≡_};
-ghost use mathlib.Core.Bool.{Bool, true, false};
+ghost use mathlib.Core.Bool.{false};
 ghost use mathlib.Core.List.{[]};
-ghost use Prim.Native.Nat.{ℕ, _+_, _-_, _≤_, _<_, _^_, _%_};
+ghost use Prim.Native.Nat.{ℕ, _+_, _-_, _≤_, _<_, _^_};
 ghost use lib.ListN.{length};
 ghost use Rattle.format.specs.Parse.{each, times};
-ghost use Rattle.format.specs.FieldAnswer.{numberOf, runOf};
+ghost use Rattle.format.specs.FieldAnswer.{numberOf};
 ghost use Rattle.format.specs.Refusals.{MAX-LEAVES};
-ghost use Rattle.format.specs.Level.{holds, offsetField, flagField, flagAllowed, kindField, carriedField, leafField, leafFields, levelField, written, levelInTurn, levelFields, total};
+ghost use Rattle.format.specs.Level.{holds, offsetField, flagField, flagAllowed, kindField, carriedField, leafField, leafFields, levelField, levelOfTurn, levelInTurn, levelFields, total};
 ghost use Rattle.format.specs.Steps.{offsetOf, besides, Above, leafWith, Tells, refusalAt};
 ghost use Rattle.format.specs.LevelAnswer.{kindOf, leafOf, refusalOfKind, refusalOfLeaf};
 ghost use Rattle.format.specs.Search.{looseCarried, looseLeaf, looseLevel};
@@ -358,7 +358,7 @@ fn greatest_of(n: u64) -> u64
 // The level that is written in turn i.
 pub(crate) fn level_in_turn(layout: Layout, height: u64, i: u64) -> u64
     requires { ⌜ i < height ⌝ }
-    ensures { λ r. ⌜ r ≡ written layout height i ⌝ }
+    ensures { λ r. ⌜ r ≡ levelOfTurn layout height i ⌝ }
 {
     match layout {
         Layout::Bump => i,

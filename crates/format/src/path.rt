@@ -27,7 +27,7 @@ ghost use Rattle.format.specs.Path.{nodeAt, leafIn, startIn, LAYERS, pla
 ghost use Rattle.format.specs.TscPath.{nodePlaceField, nodePlaces, tscPathOf};
 
 // Layers that a path has room for.
-const LAYERS: usize = 64;
+pub const LAYERS: usize = 64;
 
 pub enum Form {
     Bump,

@@ -1,3 +1,4 @@
 pub mod Sha256
+pub mod Sha256Laws
 pub mod Parts
 pub mod Examples

@@ -2,7 +2,8 @@ pub mod Text
 pub mod TextLaws
 pub mod Listing
 pub mod Walk
+pub mod WalkLaws
 pub mod ListingLaws
-pub mod Within
+pub mod Bounded
 pub mod Room
 pub mod Examples

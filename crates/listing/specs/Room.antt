@@ -13,17 +13,17 @@ use Rattle.format.specs.declared.level.Layout.{Layout}
 use Rattle.format.specs.declared.level.Leaf.{Leaf}
 use Rattle.format.specs.declared.level.Kind.{Kind}
 use Rattle.format.specs.declared.level.Kind.the-variants.{Plain, Copy, Client}
-use Rattle.format.specs.Parse.{Parse, pick, each, many, whole}
+use Rattle.format.specs.Parse.{Parse, pick, many, whole}
 use Rattle.format.specs.Field.{byte, varint}
 use Rattle.format.specs.Refusals.{TOO-LONG, BAD-HEIGHT, OVER-LIMIT, MAX-INPUT, MAX-LEAVES, MAX-BLOCK, MAX-HEIGHT}
-use Rattle.format.specs.Level.{leafField, andOffset, levelField, written, levelInTurn, nextTurn}
+use Rattle.format.specs.Level.{leafField, andOffset, levelField, levelOfTurn, levelInTurn, nextTurn}
 use Rattle.format.specs.Bump.{Bump, blockField, heightField, bumpField, bumpWhole}
 use Rattle.format.specs.Search.{hashAt}
 use Rattle.format.specs.SearchLaws.{hash-at-length}
 use Rattle.listing.specs.Text.{digit, digits, decimal, hex, printed}
 use Rattle.listing.specs.Listing.{LISTED-BYTES, LISTING-ROOM, kindText, leafLine, leafLines, levelLine, levelLines, bumpLines, refusedLine, report, listing}
 use Rattle.format.specs.Buffer.{filled}
-use Rattle.listing.specs.Within.{Within, read, refused, within-then, within-each, within-weaken, within-choice, within-passing, carriedBytes, within-byte, within-varint, within-leaf}
+use Rattle.listing.specs.Bounded.{Bounded, read, refused, within-then, within-each, within-weaken, within-choice, within-passing, carriedBytes, within-byte, within-varint, within-leaf}
 
 digits-few : (k most n : ℕ) → n < 10 ^ suc k → length (digits most n) ≤ suc k
 unfolding digits
@@ -86,7 +86,7 @@ abbrev BumpFew : List ℕ → Bump → ℕ → Type 0
 BumpFew s b q = length (bumpLines s b) ≤ 16 * q + 3578
 
 leaves-room : (s : List ℕ) (limit level : ℕ) → limit ≤ 2 ^ 64 → (n : ℕ) (seen : List ℕ) (at : ℕ) → at ≤ length s
-    → Within (length s) (λ l q. LeavesFew s at l q × (length l ≡ n)) (many (leafField Layout.Bump limit level) andOffset n seen s at)
+    → Bounded (length s) (λ l q. LeavesFew s at l q × (length l ≡ n)) (many (leafField Layout.Bump limit level) andOffset n seen s at)
 unfolding many leafLines
 leaves-room s limit level low zero seen at inside = read {a = []} {q = at} inside (omega arith, refl)
 leaves-room s limit level low (suc n) seen at inside =
@@ -95,7 +95,7 @@ leaves-room s limit level low (suc n) seen at inside =
     (λ l q k. (omega (arith, leaf-few s leaf (omega arith), length-append (leafLine s leaf) (leafLines s l)), ap suc (k .1))))
 
 level-room : (s : List ℕ) (limit level at : ℕ) → limit ≤ 2 ^ 64 → at ≤ length s
-    → Within (length s) (λ l q. LeavesFew s at l q × (length l ≤ MAX-LEAVES)) (levelField Layout.Bump limit level s at)
+    → Bounded (length s) (λ l q. LeavesFew s at l q × (length l ≤ MAX-LEAVES)) (levelField Layout.Bump limit level s at)
 unfolding levelField
 level-room s limit level at low inside =
     within-then (λ l q. LeavesFew s at l q × (length l ≤ MAX-LEAVES)) _ (within-passing varint (λ n. leb n MAX-LEAVES) OVER-LIMIT s at (omega arith) inside (within-varint s at inside))
@@ -103,15 +103,15 @@ level-room s limit level at low inside =
     (λ l q k. (omega arith, omega (arith, leb-true count MAX-LEAVES (e .1)))))
 
 levels-room : (s : List ℕ) (height : ℕ) → height ≤ 64 → (n level at : ℕ) → level + n ≤ height → at ≤ length s
-    → Within (length s) (LevelsFew s n level at) (many (levelInTurn Layout.Bump height) nextTurn n level s at)
-unfolding many written levelLines
+    → Bounded (length s) (LevelsFew s n level at) (many (levelInTurn Layout.Bump height) nextTurn n level s at)
+unfolding many levelOfTurn levelLines
 levels-room s height low zero level at few inside = read {a = []} {q = at} inside (omega arith)
 levels-room s height low (suc n) level at few inside =
     within-then (LevelsFew s (suc n) level at) _ (level-room s (2 ^ (height - level)) level at (pow-le-pow-right (omega arith) {j = 64} (omega arith)) inside)
     (λ l next h e. within-each (LevelsFew s (suc n) level at) (l ∷_) (levels-room s height low n (level + 1) next (omega arith) h)
     (λ ls q k. omega (arith, level-few level (length l) (omega arith) (omega arith), length-append (levelLine level (length l)) (leafLines s l), length-append (levelLine level (length l) ++ leafLines s l) (levelLines s (level + 1) ls))))
 
-bump-room : (s : List ℕ) → Within (length s) (BumpFew s) (bumpField s 0)
+bump-room : (s : List ℕ) → Bounded (length s) (BumpFew s) (bumpField s 0)
 unfolding bumpField blockField heightField bumpLines
 bump-room s =
     within-then (BumpFew s) _ (within-passing varint (λ b. leb b MAX-BLOCK) OVER-LIMIT s 0 (omega arith) (omega arith) (within-varint s 0 (omega arith)))
@@ -127,7 +127,7 @@ bump-room s =
     low : (h : ℕ) → (leb 1 h && leb h MAX-HEIGHT) ≡ true → h ≤ 64
     low h e = omega (arith, leb-true h MAX-HEIGHT (second (leb 1 h) (leb h MAX-HEIGHT) e))
 
-whole-room : (s : List ℕ) → Within (length s) (BumpFew s) (bumpWhole s)
+whole-room : (s : List ℕ) → Bounded (length s) (BumpFew s) (bumpWhole s)
 unfolding whole
 whole-room s =
     within-choice (leb (length s) MAX-INPUT)
@@ -138,7 +138,7 @@ pub listing-fits : (s : List ℕ) → length (listing s) ≤ LISTING-ROOM
 unfolding listing report
 listing-fits s = cases (leb (length s) LISTED-BYTES) refl
   where
-    told : {r : Parse Bump} → length s ≤ LISTED-BYTES → Within (length s) (BumpFew s) r → length (report s r) ≤ LISTING-ROOM
+    told : {r : Parse Bump} → length s ≤ LISTED-BYTES → Bounded (length s) (BumpFew s) r → length (report s r) ≤ LISTING-ROOM
     told small (read h k) = omega arith
     told small (refused {n} {q} h k) = omega (arith, refused-few n q (omega arith) (omega arith))
 

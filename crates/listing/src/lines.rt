@@ -15,7 +15,7 @@ use format::read_varint;
 ghost use mathlib.Core.Path.{_≡_};
 ghost use mathlib.Core.List.{_++_};
 ghost use Rattle.listing.specs.Text.{decimal, line};
-ghost use Rattle.listing.specs.Listing.{kindText, leafLine, levelLine, refusedLine};
+ghost use Rattle.listing.specs.Listing.{kindText, leafLine, refusedLine};
 ghost use Rattle.format.specs.Buffer.{buffer, writeOn};
 ghost use Rattle.listing.specs.Walk.{walk, walkLeaves, walkLevel, walkLevels};
 

@@ -5,13 +5,14 @@ use Prim.Native.Nat.{ℕ}
 use lib.ListN.{replicate}
 use Rattle.format.specs.Parse.{each, many, whole}
 use Rattle.format.specs.Field.{bytes, byte, varint}
-use Rattle.format.specs.Gather.{padded}
+use Rattle.format.specs.Padded.{padded}
 use Rattle.format.specs.Level.{levelField}
 use Rattle.format.specs.Bump.{blockField, heightField, bumpField}
 use Rattle.format.specs.Search.{leastOffset}
-use Rattle.spv.specs.Compare.{judgeBy}
+use Rattle.spv.specs.Result.{carrying}
+use Rattle.spv.specs.Compare.{proveBy}
 use Rattle.spv.specs.Readings.{starting, levelsReading, bumpReading}
-use Rattle.spv.specs.Shapes.{refusalOf, provedOf}
+use Rattle.spv.specs.Shapes.{provedOf}
 use Rattle.spv.specs.Bundle.{hashes, hashesOf}
 use Rattle.page.specs.declared.Answer.{Answer}
 use Rattle.page.specs.declared.Paged.{Paged}
@@ -19,7 +20,7 @@ use Rattle.page.specs.declared.Paged.the-variants.{Answered, Refused}
 use Rattle.page.specs.Page.{blankAnswer, answerBy, answerOf, single, answers, allowed, bumpFor, page, pagedOf, rowOf}
 
 -- what a page answers, and what its row gets
-pub record Outcome : Type 0 where
+pub record Answering : Type 0 where
   pub paged : Paged
   pub row : List Answer
 
@@ -28,20 +29,20 @@ pub record Case : Type 0 where
   pub bump : List ℕ
   pub ids : List ℕ
   pub room : ℕ
-  pub comes : Outcome
+  pub comes : Answering
 
-unfoldable pub outcome : Case → Outcome
-outcome c = record { paged = pagedOf (page (c .bump) (c .ids) (c .room)); row = rowOf (page (c .bump) (c .ids) (c .room)) (c .room) }
+unfoldable pub answering : Case → Answering
+answering c = record { paged = pagedOf (page (c .bump) (c .ids) (c .room)); row = rowOf (page (c .bump) (c .ids) (c .room)) (c .room) }
 
 abbrev pub refusedPage : List ℕ → List ℕ → ℕ → ℕ → ℕ → Case
 refusedPage s ids room number carried =
-    record { bump = s; ids = ids; room = room; comes = record { paged = Refused (record { number = number; place = carried }); row = replicate room blankAnswer } }
+    record { bump = s; ids = ids; room = room; comes = record { paged = Refused (carrying number carried); row = replicate room blankAnswer } }
 
 abbrev pub answeredPage : List ℕ → List ℕ → ℕ → ℕ → List Answer → Case
 answeredPage s ids room count row = record { bump = s; ids = ids; room = room; comes = record { paged = Answered count; row = row } }
 
 abbrev pub notListed : Answer
-notListed = record { refusal = 13; carried = 0; position = 0; layers = 0; root = replicate 32 0 }
+notListed = record { refusal = 13; carried = 0; layer = 0; sibling = 0; position = 0; layers = 0; root = replicate 32 0 }
 
 unfoldable pub cases : List Case
 cases =
@@ -55,6 +56,6 @@ cases =
     []
 
 -- every page comes to what the table says
-pub examples : map outcome cases ≡ map (λ c. c .comes) cases
-unfolding outcome cases answerBy answerOf single answers allowed bumpFor page pagedOf rowOf padded hashes hashesOf refusalOf provedOf varint byte bytes many each levelField blockField heightField bumpField whole leastOffset judgeBy starting levelsReading bumpReading
+pub examples : map answering cases ≡ map (λ c. c .comes) cases
+unfolding answering cases answerBy answerOf single answers allowed bumpFor page pagedOf rowOf padded hashes hashesOf provedOf varint byte bytes many each levelField blockField heightField bumpField whole leastOffset proveBy starting levelsReading bumpReading
 examples = refl

@@ -3,14 +3,15 @@ use Prim.Native.Nat.{ℕ, _*_, _/_}
 use mathlib.Core.List.{List}
 use lib.Dec.{ltb}
 use lib.ListN.{length, replicate}
-use Rattle.format.specs.declared.refusal.Refusal.{Refusal}
 use Rattle.format.specs.declared.path.Form.{Form}
 use Rattle.format.specs.declared.path.Path.{Path}
 use Rattle.format.specs.Parse.{Parse, got, bad, pick}
 use Rattle.format.specs.Bump.{Bump}
-use Rattle.format.specs.Path.{bumpPath}
+use Rattle.format.specs.Path.{LAYERS, bumpPath}
 use Rattle.format.specs.Search.{hashAt}
-use Rattle.spv.specs.Compare.{judge}
+use Rattle.spv.specs.declared.rejection.Rejection.{Rejection}
+use Rattle.spv.specs.Result.{carrying}
+use Rattle.spv.specs.Compare.{prove}
 use Rattle.spv.specs.Readings.{pathReading}
 use Rattle.spv.specs.Shapes.{provedOf}
 use Rattle.page.specs.declared.Answer.{Answer}
@@ -18,19 +19,19 @@ use Rattle.page.specs.declared.Paged.{Paged}
 use Rattle.page.specs.declared.Opening.{Opening}
 use Rattle.page.specs.Page.{blankAnswer, answerOf}
 
-unfoldable pub unopened : Refusal → Opening
-unopened f = record { paged = Paged.Refused f; path = record { form = Form.Bump; layers = 0; at = replicate 64 0 } }
+unfoldable pub unopened : Rejection → Opening
+unopened why = record { paged = Paged.Refused why; path = record { form = Form.Bump; layers = 0; at = replicate LAYERS 0 } }
 
 -- n ids by what reading their BUMP finds
 unfoldable pub openingOf : List ℕ → ℕ → Parse Bump → Opening
 openingOf s n (got b at) = record { paged = Paged.Answered n; path = bumpPath s b }
-openingOf s n (bad number place) = unopened (record { number = number; place = place })
+openingOf s n (bad number place) = unopened (carrying number place)
 
 -- the answer for a row
 unfoldable pub answerUnder : List ℕ → List ℕ → Path → ℕ → Paged → Answer
 answerUnder s ids path row (Paged.Answered n) =
-    pick (ltb row (length ids / 32)) (answerOf (provedOf (judge (pathReading s path (hashAt ids (row * 32)))))) blankAnswer
-answerUnder s ids path row (Paged.Refused f) = blankAnswer
+    pick (ltb row (length ids / 32)) (answerOf (provedOf (prove (pathReading s path (hashAt ids (row * 32)))))) blankAnswer
+answerUnder s ids path row (Paged.Refused why) = blankAnswer
 
 unfoldable pub answerAt : List ℕ → List ℕ → Opening → ℕ → Answer
 answerAt s ids o row = answerUnder s ids (o .path) row (o .paged)

@@ -8,14 +8,16 @@ use native.Mathlib.Omega.{arith}
 use lib.Dec.{ltb, leb}
 use lib.ListN.{length, getD, replicate, length-map, List·getD-eq-default}
 use borrow.Author.Tests.{le-leb, lt-leb, leb-true, eq-eqb, ne-eqb, ltb-true, ltb-false}
-use Rattle.format.specs.Parse.{Parse, got, bad, pick, each}
+use Rattle.format.specs.Parse.{Parse, got, bad, pick}
 use Rattle.format.specs.Bump.{Bump, bumpWhole}
 use Rattle.format.specs.Path.{bumpPath}
-use Rattle.format.specs.Gather.{padded}
+use Rattle.format.specs.Padded.{padded}
 use Rattle.format.specs.Search.{hashAt}
 use Rattle.format.specs.Refusals.{OVER-LIMIT, NO-ROOM}
-use Rattle.spv.specs.Compare.{Verdict, judge}
-use Rattle.spv.specs.Readings.{pathReading, bump-judge}
+use Rattle.spv.specs.Result.{Result, accepted, afterReading}
+use Rattle.spv.specs.Compare.{Proof, prove}
+use Rattle.spv.specs.Readings.{pathReading}
+use Rattle.spv.specs.ReadingsLaws.{bump-proves}
 use Rattle.spv.specs.Shapes.{provedOf}
 use Rattle.spv.specs.Bundle.{hashesOf}
 use Rattle.spv.specs.BundleHashes.{hashes-length, hashes-at}
@@ -87,17 +89,17 @@ module _ (s ids : List ℕ) (room : ℕ) where
     unfolding answerAt answerUnder openingOf single
     row-at i = go (ltb i (length ids / 32)) refl
       where
-        go : (t : Bool) → ltb i (length ids / 32) ≡ t → pick t (answerOf (provedOf (judge (pathReading s (bumpPath s b) (hashAt ids (i * 32)))))) blankAnswer ≡ getD (answers s ids) i blankAnswer
-        go true h = ap (λ (v : Verdict). answerOf (provedOf v)) (bump-judge s (hashAt ids (i * 32)) b q read) ∙ sym (answers-at s ids i (ltb-true i (length ids / 32) h))
+        go : (t : Bool) → ltb i (length ids / 32) ≡ t → pick t (answerOf (provedOf (prove (pathReading s (bumpPath s b) (hashAt ids (i * 32)))))) blankAnswer ≡ getD (answers s ids) i blankAnswer
+        go true h = ap (λ (v : Result Proof). answerOf (provedOf v)) (bump-proves s (hashAt ids (i * 32)) b q read) ∙ sym (answers-at s ids i (ltb-true i (length ids / 32) h))
         go false h =
             let past : length (answers s ids) ≤ i = omega (arith, ltb-false i (length ids / 32) h, answers-length s ids) in
             sym (List·getD-eq-default (answers s ids) blankAnswer past)
 
   pub opening-row : rows (answerAt s ids (openingOf s (length ids / 32) (bumpFor s ids room))) room ≡ rowOf (page s ids room) room
-  unfolding page each rowOf answerAt answerUnder openingOf unopened padded
+  unfolding page rowOf answerAt answerUnder openingOf unopened padded
   opening-row = go (bumpFor s ids room) refl
     where
-      go : (p : Parse Bump) → bumpFor s ids room ≡ p → rows (answerAt s ids (openingOf s (length ids / 32) p)) room ≡ rowOf (each (λ _. answers s ids) p) room
+      go : (p : Parse Bump) → bumpFor s ids room ≡ p → rows (answerAt s ids (openingOf s (length ids / 32) p)) room ≡ rowOf (afterReading p (λ _. accepted (answers s ids))) room
       go (got b q) e =
           let told = page-told s ids room b q e in
           rows-list (answerAt s ids (openingOf s (length ids / 32) (got b q))) blankAnswer (answers s ids) room (row-at b q (told .1)) (omega (arith, told .0, answers-length s ids))
@@ -105,9 +107,9 @@ module _ (s ids : List ℕ) (room : ℕ) where
           rows-list (answerAt s ids (openingOf s (length ids / 32) (bad number place))) blankAnswer [] room (λ i. refl) zero-le ∙ ap (λ (k : ℕ). replicate k blankAnswer) (sub-zero room)
 
   pub opening-paged : openingOf s (length ids / 32) (bumpFor s ids room) .paged ≡ pagedOf (page s ids room)
-  unfolding page each pagedOf openingOf unopened
+  unfolding page pagedOf openingOf unopened
   opening-paged = go (bumpFor s ids room)
     where
-      go : (p : Parse Bump) → openingOf s (length ids / 32) p .paged ≡ pagedOf (each (λ _. answers s ids) p)
+      go : (p : Parse Bump) → openingOf s (length ids / 32) p .paged ≡ pagedOf (afterReading p (λ _. accepted (answers s ids)))
       go (got b q) = ap Paged.Answered (sym (answers-length s ids))
       go (bad number place) = refl

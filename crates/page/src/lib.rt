@@ -1,12 +1,13 @@
 // A page of ids against one BUMP: the answers that asking for each id alone would give, from one reading (paper 02, Item 2).
 use format::BumpAnswer;
 use format::Form;
+use format::LAYERS;
 use format::Path;
-use format::Refusal;
 use format::refusal::NO_ROOM;
 use format::refusal::OVER_LIMIT;
-use spv::Judged;
+use spv::Outcome;
 use spv::Proved;
+use spv::Rejection;
 ghost use mathlib.Core.Path.{_≡_};
 ghost use lib.ListN.{length};
 ghost use Prim.Native.Nat.{_/_};
@@ -18,12 +19,14 @@ ghost use Rattle.page.specs.Opening.{unopened, openingOf, answerAt};
 // The most ids that a page has.
 pub const MAX_IDS: usize = 256;
 
-// What asking for one id answers: the number of its refusal and what that carries, or 0, 0, the id's position, the number of layers and the root. What is
-// not said is zero. Any bytes are a value of each field, so that a caller may lend any memory, and no byte lies between the fields.
+// What asking for one id answers: the number of its refusal, what that carries and the layer and sibling that it names, or the id's position, the number
+// of layers and the root. What is not said is zero. Any bytes are a value of each field, so that a caller may lend any memory, and no byte lies between the fields.
 #[repr(C)]
 pub struct Answer {
     pub refusal: u64,
     pub carried: u64,
+    pub layer: u64,
+    pub sibling: u64,
     pub position: u64,
     pub layers: u64,
     pub root: [u8; 32],
@@ -32,7 +35,7 @@ pub struct Answer {
 // What a page answers: for how many ids, or why for none.
 pub enum Paged {
     Answered(usize),
-    Refused(Refusal),
+    Refused(Rejection),
 }
 
 // A page that was opened: its answer, and where the levels of its BUMP stand.
@@ -48,6 +51,8 @@ fn blank() -> Answer
     Answer {
         refusal: 0,
         carried: 0,
+        layer: 0,
+        sibling: 0,
         position: 0,
         layers: 0,
         root: [0u8; 32],
@@ -58,19 +63,23 @@ fn blank() -> Answer
 fn answer_of(proved: Proved) -> Answer
     ensures { λ r. ⌜ r ≡ answerOf proved ⌝ }
 {
-    let judged = proved.judged;
+    let outcome = proved.outcome;
     let root = proved.root;
-    match judged {
-        Judged::Accepted { position, layers } => Answer {
+    match outcome {
+        Outcome::Accepted { position, layers } => Answer {
             refusal: 0,
             carried: 0,
+            layer: 0,
+            sibling: 0,
             position,
             layers: layers as u64,
             root,
         },
-        Judged::Refused(refusal) => Answer {
-            refusal: refusal.number as u64,
-            carried: refusal.place as u64,
+        Outcome::Refused(rejection) => Answer {
+            refusal: rejection.number as u64,
+            carried: rejection.carried as u64,
+            layer: rejection.layer as u64,
+            sibling: rejection.sibling,
             position: 0,
             layers: 0,
             root: [0u8; 32],
@@ -78,15 +87,15 @@ fn answer_of(proved: Proved) -> Answer
     }
 }
 
-fn refused_page(refusal: Refusal) -> Opening
-    ensures { λ r. ⌜ r ≡ unopened refusal ⌝ }
+fn refused_page(rejection: Rejection) -> Opening
+    ensures { λ r. ⌜ r ≡ unopened rejection ⌝ }
 {
     Opening {
-        paged: Paged::Refused(refusal),
+        paged: Paged::Refused(rejection),
         path: Path {
             form: Form::Bump,
             layers: 0,
-            at: [0usize; 64],
+            at: [0usize; LAYERS],
         },
     }
 }
@@ -97,7 +106,7 @@ fn read_page(s: &[u8], count: usize) -> Opening
 {
     let answer = format::read_bump(s);
     let BumpAnswer::Value(head, _) = answer else {
-        return refused_page(answer.refusal());
+        return refused_page(spv::reject_reading(answer.refusal()));
     };
     let path = format::bump_path(s, head);
     Opening {
@@ -112,22 +121,13 @@ fn open_page(s: &[u8], ids: &[u8], room: usize) -> Opening
 {
     let count = ids.len() / 32;
     if ids.len() % 32 != 0 {
-        return refused_page(Refusal {
-            number: OVER_LIMIT,
-            place: 0,
-        });
+        return refused_page(spv::reject(OVER_LIMIT));
     }
     if MAX_IDS < count {
-        return refused_page(Refusal {
-            number: OVER_LIMIT,
-            place: 0,
-        });
+        return refused_page(spv::reject(OVER_LIMIT));
     }
     if room < count {
-        return refused_page(Refusal {
-            number: NO_ROOM,
-            place: 0,
-        });
+        return refused_page(spv::reject(NO_ROOM));
     }
     read_page(s, count)
 }

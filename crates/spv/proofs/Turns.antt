@@ -9,18 +9,22 @@ use lib.ListN.{replicate}
 use Rattle.hash.specs.Sha256.{sha256d}
 use Rattle.format.specs.declared.level.Layout.{Layout}
 use Rattle.format.specs.declared.level.Leaf.{Leaf}
-use Rattle.format.specs.declared.refusal.Refusal.{Refusal}
 use Rattle.format.specs.Bytes.{same}
 use Rattle.format.specs.Parse.{got, bad}
 use Rattle.format.specs.Refusals.{NOT-LISTED}
 use Rattle.format.specs.Search.{looseLeaf}
-use Rattle.spv.specs.Climb.{Siblings, Step, joins, fails, Ascent, step, odd, beside, ascend, outcomeBy, outcome, strings}
+use Rattle.spv.specs.declared.rejection.Rejection.{Rejection}
+use Rattle.spv.specs.Result.{follow, Result, refused, carrying, atSibling}
+use Rattle.spv.specs.Climb.{Siblings, Step, joins, fails, Ascent, step, odd, siblingPosition, ascend, endBy, endOf, preimagesOf}
 use Rattle.spv.specs.ClimbLaws.{turn-joins, turn-fails, turn-none}
 use Rattle.spv.specs.Compare.{targetOf, Target, any, at, never, meet}
 use Rattle.spv.specs.CompareLaws.{meet-left, meet-right, meet-here, meet-above}
-use Rattle.spv.specs.Shapes.{climbedOf, joinedOf, isJoins, is-joins, told-joins}
-use Rattle.spv.specs.Clients.{Wanted, rejected, afterLeaf, follow, closing, clientsIn, turn-leaf, turn-short, turn-last}
-use Rattle.spv.specs.ClientsShapes.{wantSays, shown, refusedCheck, checkedOf, told-goes, told-halts}
+use Rattle.spv.specs.Shapes.{climbedOf, joinedOf, isJoins}
+use Rattle.spv.specs.ShapesLaws.{is-joins, told-joins}
+use Rattle.spv.specs.Clients.{afterLeaf, closing}
+use Rattle.spv.specs.ClientsLaws.{clientsIn, turn-leaf, turn-short, turn-last}
+use Rattle.spv.specs.ClientsShapes.{wantSays, refusedCheck, checkedOf}
+use Rattle.spv.specs.ClientsShapesLaws.{told-goes, told-halts}
 use Rattle.spv.specs.declared.climb.Climbed.{Climbed}
 use Rattle.spv.specs.declared.climb.Joined.{Joined}
 use Rattle.spv.specs.declared.climb.End.the-variants.{Root, Stop}
@@ -31,49 +35,49 @@ use Rattle.spv.specs.declared.clients.Want.{Want}
 
 pub record Climbing (σ : Siblings) (h i : ℕ) (id : List ℕ) (k j : ℕ) (c : List ℕ) : Type 0 where
   pub done : k ≤ h
-  pub kept : outcome c (ascend σ k (h - k) j c) ≡ outcome id (ascend σ 0 h i id)
+  pub kept : endOf c (ascend σ k (h - k) j c) ≡ endOf id (ascend σ 0 h i id)
 
 module _ (σ : Siblings) (h i : ℕ) (id : List ℕ) where
   pub climbing-start : Climbing σ h i id 0 i id
   climbing-start = record { done = omega arith; kept = rw sub-zero }
 
   module _ (k j : ℕ) (c : List ℕ) (v : Climbing σ h i id k j c) where
-    pub climbing-end : h ≤ k → _≡_ {A = Climbed} (record { end = Root; root = c }) (climbedOf (outcome id (ascend σ 0 h i id)))
-    unfolding outcomeBy climbedOf
-    climbing-end b = ap climbedOf (sym (ap (outcome c) (turn-none σ k k h j c b)) ∙ v .kept)
+    pub climbing-end : h ≤ k → _≡_ {A = Climbed} (record { end = Root; root = c }) (climbedOf (endOf id (ascend σ 0 h i id)))
+    unfolding endBy climbedOf
+    climbing-end b = ap climbedOf (sym (ap (endOf c) (turn-none σ k k h j c b)) ∙ v .kept)
 
     module _ (b : k < h) where
-      pub climbing-up : (l r : List ℕ) → step (σ k (beside j)) (odd j) c ≡ joins l r → (c′ : List ℕ) → c′ ≡ sha256d (l ++ r) → Climbing σ h i id (k + 1) (j / 2) c′
-      unfolding outcomeBy
-      climbing-up l r e c′ g = record { done = omega arith; kept = rw g (sym (ap (outcome c) (turn-joins σ k k h j c b l r e)) ∙ v .kept) }
+      pub climbing-up : (l r : List ℕ) → step (σ k (siblingPosition j)) (odd j) c ≡ joins l r → (c′ : List ℕ) → c′ ≡ sha256d (l ++ r) → Climbing σ h i id (k + 1) (j / 2) c′
+      unfolding endBy
+      climbing-up l r e c′ g = record { done = omega arith; kept = rw g (sym (ap (endOf c) (turn-joins σ k k h j c b l r e)) ∙ v .kept) }
 
-      pub climbing-stop : (number : ℕ) → step (σ k (beside j)) (odd j) c ≡ fails number → (q : ℕ) → q ≡ beside j
-          → _≡_ {A = Climbed} (record { end = Stop number k q; root = replicate 32 0 }) (climbedOf (outcome id (ascend σ 0 h i id)))
-      unfolding outcomeBy climbedOf
-      climbing-stop number e q g = rw g (ap climbedOf (sym (ap (outcome c) (turn-fails σ k k h j c b number e)) ∙ v .kept))
+      pub climbing-stop : (number : ℕ) → step (σ k (siblingPosition j)) (odd j) c ≡ fails number → (q : ℕ) → q ≡ siblingPosition j
+          → _≡_ {A = Climbed} (record { end = Stop (atSibling number k q); root = replicate 32 0 }) (climbedOf (endOf id (ascend σ 0 h i id)))
+      unfolding endBy climbedOf
+      climbing-stop number e q g = rw g (ap climbedOf (sym (ap (endOf c) (turn-fails σ k k h j c b number e)) ∙ v .kept))
 
 -- ---- the strings that are left
 
 abbrev pub left : Siblings → ℕ → ℕ → ℕ → List ℕ → List (List ℕ)
-left σ k n j c = strings (ascend σ k n j c)
+left σ k n j c = preimagesOf (ascend σ k n j c)
 
 -- the string of a layer that joins
 abbrev pub both : Joined → List ℕ
 both r = r .left ++ r .right
 
 -- m layers are done of h, and the layer is k
-module _ (σ : Siblings) (h m k : ℕ) (b : m < h) (j : ℕ) (c : List ℕ) (r : Joined) (e : r ≡ joinedOf (step (σ k (beside j)) (odd j) c)) where
-  pub strings-up : isJoins (r .fate) ≡ true → left σ k (h - m) j c ≡ both r ∷ left σ (k + 1) (h - (m + 1)) (j / 2) (sha256d (both r))
-  unfolding strings
-  strings-up f = ap strings (turn-joins σ k m h j c b (r .left) (r .right) (told-joins r (step (σ k (beside j)) (odd j) c) e (is-joins (r .fate) f)))
+module _ (σ : Siblings) (h m k : ℕ) (b : m < h) (j : ℕ) (c : List ℕ) (r : Joined) (e : r ≡ joinedOf (step (σ k (siblingPosition j)) (odd j) c)) where
+  pub preimages-up : isJoins (r .kind) ≡ true → left σ k (h - m) j c ≡ both r ∷ left σ (k + 1) (h - (m + 1)) (j / 2) (sha256d (both r))
+  unfolding preimagesOf
+  preimages-up f = ap preimagesOf (turn-joins σ k m h j c b (r .left) (r .right) (told-joins r (step (σ k (siblingPosition j)) (odd j) c) e (is-joins (r .kind) f)))
 
-  pub strings-stop : isJoins (r .fate) ≡ false → left σ k (h - m) j c ≡ []
-  unfolding strings joinedOf
-  strings-stop f = go (step (σ k (beside j)) (odd j) c) refl (ap (λ (x : Joined). isJoins (x .fate)) (sym e) ∙ f)
+  pub preimages-stop : isJoins (r .kind) ≡ false → left σ k (h - m) j c ≡ []
+  unfolding preimagesOf joinedOf
+  preimages-stop f = go (step (σ k (siblingPosition j)) (odd j) c) refl (ap (λ (x : Joined). isJoins (x .kind)) (sym e) ∙ f)
     where
-      go : (x : Step) → step (σ k (beside j)) (odd j) c ≡ x → isJoins (joinedOf x .fate) ≡ false → left σ k (h - m) j c ≡ []
+      go : (x : Step) → step (σ k (siblingPosition j)) (odd j) c ≡ x → isJoins (joinedOf x .kind) ≡ false → left σ k (h - m) j c ≡ []
       go (joins l t) q g = let z : _≡_ {A = ℕ} 0 1 = cc in absurd (omega arith)
-      go (fails number) q g = ap strings (turn-fails σ k m h j c b number q)
+      go (fails number) q g = ap preimagesOf (turn-fails σ k m h j c b number q)
 
 -- ---- two climbs, the second e layers above the first: where they meet from here is where they meet
 
@@ -87,22 +91,22 @@ module _ (σ τ : Siblings) (e h i : ℕ) (c₀ d₀ : List ℕ) where
 
   module _ (k j : ℕ) (c d : List ℕ) (v : Pairing σ τ e h i c₀ d₀ k j c d) where
     pub pairing-end : h ≤ k → never ≡ meet (left σ 0 h i c₀) (left τ e h i d₀)
-    unfolding strings
-    pairing-end f = sym (ap (λ (x : Ascent). meet (strings x) (left τ (k + e) (h - k) j d)) (turn-none σ k k h j c f) ∙ meet-left (left τ (k + e) (h - k) j d)) ∙ v .kept
+    unfolding preimagesOf
+    pairing-end f = sym (ap (λ (x : Ascent). meet (preimagesOf x) (left τ (k + e) (h - k) j d)) (turn-none σ k k h j c f) ∙ meet-left (left τ (k + e) (h - k) j d)) ∙ v .kept
 
-    module _ (l : k < h) (r u : Joined) (er : r ≡ joinedOf (step (σ k (beside j)) (odd j) c)) (eu : u ≡ joinedOf (step (τ (k + e) (beside j)) (odd j) d)) where
-      pub pairing-stop : isJoins (r .fate) ≡ false → never ≡ meet (left σ 0 h i c₀) (left τ e h i d₀)
-      pairing-stop g = sym (ap (λ (x : List (List ℕ)). meet x (left τ (k + e) (h - k) j d)) (strings-stop σ h k k l j c r er g) ∙ meet-left (left τ (k + e) (h - k) j d)) ∙ v .kept
+    module _ (l : k < h) (r u : Joined) (er : r ≡ joinedOf (step (σ k (siblingPosition j)) (odd j) c)) (eu : u ≡ joinedOf (step (τ (k + e) (siblingPosition j)) (odd j) d)) where
+      pub pairing-stop : isJoins (r .kind) ≡ false → never ≡ meet (left σ 0 h i c₀) (left τ e h i d₀)
+      pairing-stop g = sym (ap (λ (x : List (List ℕ)). meet x (left τ (k + e) (h - k) j d)) (preimages-stop σ h k k l j c r er g) ∙ meet-left (left τ (k + e) (h - k) j d)) ∙ v .kept
 
-      pub pairing-stop₂ : isJoins (u .fate) ≡ false → never ≡ meet (left σ 0 h i c₀) (left τ e h i d₀)
-      pairing-stop₂ g = sym (ap (λ (x : List (List ℕ)). meet (left σ k (h - k) j c) x) (strings-stop τ h k (k + e) l j d u eu g) ∙ meet-right (left σ k (h - k) j c)) ∙ v .kept
+      pub pairing-stop₂ : isJoins (u .kind) ≡ false → never ≡ meet (left σ 0 h i c₀) (left τ e h i d₀)
+      pairing-stop₂ g = sym (ap (λ (x : List (List ℕ)). meet (left σ k (h - k) j c) x) (preimages-stop τ h k (k + e) l j d u eu g) ∙ meet-right (left σ k (h - k) j c)) ∙ v .kept
 
-      module _ (g : isJoins (r .fate) ≡ true) (m : isJoins (u .fate) ≡ true) where
+      module _ (g : isJoins (r .kind) ≡ true) (m : isJoins (u .kind) ≡ true) where
         both-up : meet (left σ k (h - k) j c) (left τ (k + e) (h - k) j d)
             ≡ meet (both r ∷ left σ (k + 1) (h - (k + 1)) (j / 2) (sha256d (both r))) (both u ∷ left τ (k + 1 + e) (h - (k + 1)) (j / 2) (sha256d (both u)))
         both-up =
             let n : k + 1 + e ≡ k + e + 1 = omega arith in
-            rw (strings-up σ h k k l j c r er g, strings-up τ h k (k + e) l j d u eu m, n)
+            rw (preimages-up σ h k k l j c r er g, preimages-up τ h k (k + e) l j d u eu m, n)
 
         pub pairing-here : same (sha256d (both r)) (sha256d (both u)) ≡ true → at (both r) (both u) ≡ meet (left σ 0 h i c₀) (left τ e h i d₀)
         pairing-here t = sym (both-up ∙ meet-here _ _ _ _ t) ∙ v .kept
@@ -125,17 +129,17 @@ module _ (σ : Siblings) (h : ℕ) (s : List ℕ) (n start : ℕ) where
     checking-end b = sym (turn-last σ h s n m at w b) ∙ v .kept
 
     module _ (b : m < n) where
-      pub checking-short : (number place : ℕ) → looseLeaf Layout.Bump s at ≡ bad number place → rejected NOT-LISTED 0 0 0 ≡ clientsIn σ h s n start any
+      pub checking-short : (number place : ℕ) → looseLeaf Layout.Bump s at ≡ bad number place → refused (carrying NOT-LISTED 0) ≡ clientsIn σ h s n start any
       checking-short number place e = sym (turn-short σ h s n m at w b number place e) ∙ v .kept
 
-      module _ (leaf : Leaf) (next : ℕ) (e : looseLeaf Layout.Bump s at ≡ got leaf next) (r : Want) (f : wantSays r ≡ shown (afterLeaf σ h s w leaf)) where
-        pub checking-halts : (g : Refusal) → r .status ≡ Unread g → refusedCheck g ≡ checkedOf (clientsIn σ h s n start any)
+      module _ (leaf : Leaf) (next : ℕ) (e : looseLeaf Layout.Bump s at ≡ got leaf next) (r : Want) (f : wantSays r ≡ afterLeaf σ h s w leaf) where
+        pub checking-halts : (g : Rejection) → r .status ≡ Unread g → refusedCheck g ≡ checkedOf (clientsIn σ h s n start any)
         checking-halts g i = told-halts r (afterLeaf σ h s w leaf) g _ f i ∙ ap checkedOf (sym (turn-leaf σ h s n m at w b leaf next e) ∙ v .kept)
 
         pub checking-goes : r .status ≡ Read → Checking σ h s n start (m + 1) next (targetOf (r .bound) (r .root))
         checking-goes i =
             record {
               done = omega arith;
-              kept = ap (λ (x : Wanted). follow x (λ w′. clientsIn σ h s (n - (m + 1)) next w′)) (sym (told-goes r (afterLeaf σ h s w leaf) f i))
+              kept = ap (λ (x : Result Target). follow x (λ w′. clientsIn σ h s (n - (m + 1)) next w′)) (sym (told-goes r (afterLeaf σ h s w leaf) f i))
                   ∙ sym (turn-leaf σ h s n m at w b leaf next e) ∙ v .kept;
             }

@@ -17,9 +17,10 @@ use Rattle.format.specs.BeefLaws.{beef-told}
 use Rattle.format.specs.TransactionLaws.{tx-told}
 use Rattle.format.specs.Refusals.{TOO-LONG, BAD-ROOTS, MAX-INPUT}
 use Rattle.spv.specs.declared.table.Record.{Record}
-use Rattle.spv.specs.Compare.{Proof, proved}
+use Rattle.spv.specs.Result.{accepted, refused, carrying}
+use Rattle.spv.specs.Compare.{Proof}
 use Rattle.spv.specs.Table.{blankRecord}
-use Rattle.spv.specs.Bundle.{proving, nthBump, entryId, standing, entryRow, refusedAs, accepted, judgeEntries, judgeRead, judgeBeef}
+use Rattle.spv.specs.Bundle.{proving, nthBump, entryId, standing, entryRow, judgeEntries, judgeRead, judgeBeef}
 use Rattle.spv.specs.BundleLaws.{accepted-length}
 use Rattle.spv.specs.BundleTheorems.{emptyEntry, nth, idAt, inputsAt, New, Mined, Child, Stands, Recorded, accepted-recorded, stands-accepted}
 
@@ -43,7 +44,7 @@ module _ (s roots : List ℕ) (b : Beef) where
       let x = m .anchored in
       let y = n .anchored in
       let bump : m .bump ≡ n .bump = cc in
-      let climbs : proving s (nthBump (b .bumps) (n .bump)) (idAt s roots b k) ≡ proved (m .proof) = ap (λ (i : ℕ). proving s (nthBump (b .bumps) i) (idAt s roots b k)) (sym bump) ∙ m .climbs in
+      let climbs : proving s (nthBump (b .bumps) (n .bump)) (idAt s roots b k) ≡ accepted (m .proof) = ap (λ (i : ℕ). proving s (nthBump (b .bumps) i) (idAt s roots b k)) (sym bump) ∙ m .climbs in
       let other = n .climbs in
       let proof : m .proof ≡ n .proof = cc in
       e ∙ ap₂ (λ (i : ℕ) (p : Proof). entryRow s (nth s roots b k) 1 i (p .position)) bump proof ∙ sym f
@@ -62,7 +63,7 @@ module _ (s roots : List ℕ) (room : ℕ) (records : List Record) where
   accepted-acceptable e = go (leb (length s) MAX-INPUT) refl (eqb (length roots % 32) 0) refl (beefWhole room s) refl e
     where
       go : (t : Bool) → leb (length s) MAX-INPUT ≡ t → (u : Bool) → eqb (length roots % 32) 0 ≡ u → (p : Parse Beef) → beefWhole room s ≡ p
-          → pick t (pick u (judgeRead s roots p) (refusedAs BAD-ROOTS 0)) (refusedAs TOO-LONG 0) ≡ accepted records → AcceptableWith s roots room records
+          → pick t (pick u (judgeRead s roots p) (refused (carrying BAD-ROOTS 0))) (refused (carrying TOO-LONG 0)) ≡ accepted records → AcceptableWith s roots room records
       go false ht u hu p h m = absurd (let z : _≡_ {A = ℕ} 0 1 = cc in omega arith)
       go true ht false hu p h m = absurd (let z : _≡_ {A = ℕ} 0 1 = cc in omega arith)
       go true ht true hu (bad number place) h m = absurd (let z : _≡_ {A = ℕ} 0 1 = cc in omega arith)
@@ -152,10 +153,10 @@ accepted-supported s roots room records e b q g k low = below (suc k) k (omega a
 -- ---- the order 1, 21, then fields as they come
 
 -- 21 comes before the first field, which is 2
-roots-first : judgeBeef [] (0 ∷ []) 0 ≡ refusedAs 21 0
+roots-first : judgeBeef [] (0 ∷ []) 0 ≡ refused (carrying 21 0)
 unfolding judgeBeef
 roots-first = refl
 
-then-fields : judgeBeef [] [] 0 ≡ refusedAs 2 0
+then-fields : judgeBeef [] [] 0 ≡ refused (carrying 2 0)
 unfolding judgeBeef judgeRead beefField versionField bytes whole
 then-fields = refl

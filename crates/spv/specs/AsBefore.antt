@@ -14,10 +14,11 @@ use Rattle.format.specs.declared.path.Start.{Start}
 use Rattle.format.specs.declared.path.Start.the-variants.{At, Nowhere}
 use Rattle.format.specs.Refusals.{MISSING}
 use Rattle.format.specs.Search.{leastOffset}
-use Rattle.spv.specs.Climb.{Sibling, value, copied, absent, Siblings, Step, joins, fails, Ascent, top, up, stop, outcome, beside, odd, step, ascend, ascendBy, outcomeBy}
+use Rattle.spv.specs.Result.{Result, accepted, refused}
+use Rattle.spv.specs.Climb.{Sibling, value, copied, absent, Siblings, Step, joins, fails, Ascent, top, up, stop, endOf, siblingPosition, odd, step, ascend, ascendBy, endBy}
 use Rattle.spv.specs.ClimbLaws.{ascended}
-use Rattle.spv.specs.Compare.{any, Reading, Verdict, denied, proved, Proof, settle, proofOf, judge, judgeBy}
-use Rattle.spv.specs.CompareLaws.{judge-climb}
+use Rattle.spv.specs.Compare.{any, Reading, Proof, settle, proofOf, prove, proveBy}
+use Rattle.spv.specs.CompareLaws.{prove-climb}
 use Rattle.spv.specs.Siblings.{writtenBy, findIn, levelSiblings}
 use Rattle.spv.specs.Values.{workedOut}
 use Rattle.spv.specs.ValuesLaws.{value-written, value-copied}
@@ -37,18 +38,18 @@ worked-keeps w k q n = go (w k q) refl
 unfoldable pub misses : Ascent → Bool
 misses top = false
 misses (up t a) = misses a
-misses (stop number k q) = eqb number MISSING
+misses (stop why) = eqb (why .number) MISSING
 
 -- a verdict other than 14
-unfoldable pub NotMissing : Verdict → Type 0
-NotMissing (denied number place k q) = number ≡ MISSING → ⊥
-NotMissing (proved p) = Unit
+unfoldable pub NotMissing : Result Proof → Type 0
+NotMissing (refused why) = why .number ≡ MISSING → ⊥
+NotMissing (accepted p) = Unit
 
 pub ascend-keeps : (w : Siblings) (k n j : ℕ) (c : List ℕ) → misses (ascend w k n j c) ≡ false → ascend (workedOut w) k n j c ≡ ascend w k n j c
 unfolding ascendBy misses step
 ascend-keeps w k zero j c h = refl
 ascend-keeps w k (suc n) j c h =
-    there (w k (beside j)) refl h (λ d g. ascend-keeps w (suc k) n (j / 2) d g)
+    there (w k (siblingPosition j)) refl h (λ d g. ascend-keeps w (suc k) n (j / 2) d g)
   where
     Above : Type 0
     Above = (d : List ℕ) → misses (ascend w (suc k) n (j / 2) d) ≡ false → ascend (workedOut w) (suc k) n (j / 2) d ≡ ascend w (suc k) n (j / 2) d
@@ -58,34 +59,34 @@ ascend-keeps w k (suc n) j c h =
     go (fails number) e f = refl
 
     -- a sibling that is written
-    here : (x : Sibling) → w k (beside j) ≡ x → (x ≡ absent → ⊥) → misses (ascended w k n j (step x (odd j) c)) ≡ false → Above
-        → ascended (workedOut w) k n j (step (workedOut w k (beside j)) (odd j) c) ≡ ascended w k n j (step (w k (beside j)) (odd j) c)
+    here : (x : Sibling) → w k (siblingPosition j) ≡ x → (x ≡ absent → ⊥) → misses (ascended w k n j (step x (odd j) c)) ≡ false → Above
+        → ascended (workedOut w) k n j (step (workedOut w k (siblingPosition j)) (odd j) c) ≡ ascended w k n j (step (w k (siblingPosition j)) (odd j) c)
     here x e ne f r =
-        ap (λ (y : Sibling). ascended (workedOut w) k n j (step y (odd j) c)) (worked-keeps w k (beside j) (λ z. ne (sym e ∙ z)))
-        ∙ go (step (w k (beside j)) (odd j) c) (ap (λ (y : Sibling). misses (ascended w k n j (step y (odd j) c))) e ∙ f) r
+        ap (λ (y : Sibling). ascended (workedOut w) k n j (step y (odd j) c)) (worked-keeps w k (siblingPosition j) (λ z. ne (sym e ∙ z)))
+        ∙ go (step (w k (siblingPosition j)) (odd j) c) (ap (λ (y : Sibling). misses (ascended w k n j (step y (odd j) c))) e ∙ f) r
 
-    there : (x : Sibling) → w k (beside j) ≡ x → misses (ascended w k n j (step x (odd j) c)) ≡ false → Above
-        → ascended (workedOut w) k n j (step (workedOut w k (beside j)) (odd j) c) ≡ ascended w k n j (step (w k (beside j)) (odd j) c)
+    there : (x : Sibling) → w k (siblingPosition j) ≡ x → misses (ascended w k n j (step x (odd j) c)) ≡ false → Above
+        → ascended (workedOut w) k n j (step (workedOut w k (siblingPosition j)) (odd j) c) ≡ ascended w k n j (step (w k (siblingPosition j)) (odd j) c)
     there (value p) e f r = here (value p) e (λ z. let y : _≡_ {A = ℕ} 0 1 = cc in omega arith) f r
     there copied e f r = here copied e (λ z. let y : _≡_ {A = ℕ} 0 1 = cc in omega arith) f r
     there absent e f r = let z : _≡_ {A = ℕ} 0 1 = cc in absurd (omega arith)
 
-not-missing : (c : List ℕ) (a : Ascent) (f : List ℕ → Proof) → NotMissing (settle any f (outcome c a)) → misses a ≡ false
-unfolding misses outcomeBy settle NotMissing
+not-missing : (c : List ℕ) (a : Ascent) (f : List ℕ → Proof) → NotMissing (settle any f (endOf c a)) → misses a ≡ false
+unfolding misses endBy settle NotMissing
 not-missing c top f h = refl
 not-missing c (up t a) f h = not-missing (sha256d t) a f h
-not-missing c (stop number k q) f h = ne-eqb number MISSING h
+not-missing c (stop why) f h = ne-eqb (why .number) MISSING h
 
 -- an id by what is written alone, as it was before
 unfoldable pub writtenReading : List ℕ → ℕ → List (List Leaf) → List ℕ → Reading
 writtenReading s h levels id = starting (writtenBy s (findIn levels)) h id (leastOffset s id (getD levels 0 []))
 
-pub answered-as-before : (s id : List ℕ) (h : ℕ) (levels : List (List Leaf)) → NotMissing (judge (writtenReading s h levels id)) → judge (levelsReading s h levels id) ≡ judge (writtenReading s h levels id)
-unfolding writtenReading levelsReading levelSiblings judgeBy starting
+pub answered-as-before : (s id : List ℕ) (h : ℕ) (levels : List (List Leaf)) → NotMissing (prove (writtenReading s h levels id)) → prove (levelsReading s h levels id) ≡ prove (writtenReading s h levels id)
+unfolding writtenReading levelsReading levelSiblings proveBy starting
 answered-as-before s id h levels o = go (leastOffset s id (getD levels 0 [])) o
   where
-    go : (x : Start) → NotMissing (judge (starting (writtenBy s (findIn levels)) h id x)) → judge (starting (levelSiblings s levels) h id x) ≡ judge (starting (writtenBy s (findIn levels)) h id x)
+    go : (x : Start) → NotMissing (prove (starting (writtenBy s (findIn levels)) h id x)) → prove (starting (levelSiblings s levels) h id x) ≡ prove (starting (writtenBy s (findIn levels)) h id x)
     go (At i) p =
-        judge-climb (levelSiblings s levels) (writtenBy s (findIn levels)) h i id any
+        prove-climb (levelSiblings s levels) (writtenBy s (findIn levels)) h i id any
         (ascend-keeps (writtenBy s (findIn levels)) 0 h i id (not-missing id (ascend (writtenBy s (findIn levels)) 0 h i id) (proofOf (writtenBy s (findIn levels)) h i id) p))
     go Nowhere p = refl

@@ -4,7 +4,7 @@ use mathlib.Core.Path.{_≡_}
 use mathlib.Core.List.{List, [], _∷_, _++_}
 use Rattle.hash.specs.Sha256.{sha256d}
 use Rattle.format.specs.Parse.{pick}
-use Rattle.spv.specs.Climb.{Sibling, value, copied, absent, Siblings, joins, fails, beside, odd, step}
+use Rattle.spv.specs.Climb.{Sibling, value, copied, absent, Siblings, joins, fails, siblingPosition, odd, step}
 use Rattle.spv.specs.Values.{hasValue, valueOf, workedOut}
 
 -- a layer and a position there
@@ -34,8 +34,8 @@ module _ (w : Siblings) where
   unfoldable pub climbAsks : ℕ → ℕ → ℕ → List ℕ → List Coordinates
   climbAsks k zero j c = []
   climbAsks k (suc n) j c =
-      valueAsks k (beside j)
-      ++ elim (step (workedOut w k (beside j)) (odd j) c) [ joins a b ↦ climbAsks (suc k) n (j / 2) (sha256d (a ++ b)) | fails number ↦ [] ]
+      valueAsks k (siblingPosition j)
+      ++ elim (step (workedOut w k (siblingPosition j)) (odd j) c) [ joins a b ↦ climbAsks (suc k) n (j / 2) (sha256d (a ++ b)) | fails number ↦ [] ]
 
 -- two forms have the same written at each of these
 unfoldable pub SameAt : Siblings → Siblings → List Coordinates → Type 0

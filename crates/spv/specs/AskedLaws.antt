@@ -5,7 +5,7 @@ use mathlib.Core.Bool.{Bool, true, false}
 use mathlib.Core.List.{List, [], _∷_, _++_}
 use Rattle.hash.specs.Sha256.{sha256d}
 use Rattle.format.specs.Parse.{pick}
-use Rattle.spv.specs.Climb.{Sibling, value, copied, absent, Siblings, Step, joins, fails, up, beside, odd, step, ascend, ascendBy}
+use Rattle.spv.specs.Climb.{Sibling, value, copied, absent, Siblings, Step, joins, fails, up, siblingPosition, odd, step, ascend, ascendBy}
 use Rattle.spv.specs.ClimbLaws.{ascended}
 use Rattle.spv.specs.Values.{valueBy, joinBoth, hasValue, joinOf, valueOf, workedOut}
 use Rattle.spv.specs.ValuesLaws.{both-left}
@@ -55,9 +55,9 @@ module _ (w v : Siblings) where
   unfolding climbAsks ascendBy valueAsks workedOut
   climb-agree k zero j c h = refl
   climb-agree k (suc n) j c h =
-      let p = same-parts w v (valueAsks w k (beside j)) _ h in
-      let e = value-agree k (beside j) copied (join-agree k (beside j)) (p .0) in
-      go (step (workedOut w k (beside j)) (odd j) c) (p .1) (λ d x. climb-agree (suc k) n (j / 2) d x)
+      let p = same-parts w v (valueAsks w k (siblingPosition j)) _ h in
+      let e = value-agree k (siblingPosition j) copied (join-agree k (siblingPosition j)) (p .0) in
+      go (step (workedOut w k (siblingPosition j)) (odd j) c) (p .1) (λ d x. climb-agree (suc k) n (j / 2) d x)
       ∙ ap (λ (x : Sibling). ascended (workedOut v) k n j (step x (odd j) c)) e
     where
       go : (s : Step) → SameAt w v (elim s [ joins a b ↦ climbAsks w (suc k) n (j / 2) (sha256d (a ++ b)) | fails number ↦ [] ])

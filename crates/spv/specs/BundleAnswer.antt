@@ -1,31 +1,18 @@
 -- What the code holds of a judgement.
-use mathlib.Core.Path.{_≡_, refl, ap, sym, subst, subst⁻¹, _∙_}
-use Prim.Native.Nat.{ℕ, _-_, _≤_, _%_, zero-le}
-use mathlib.Core.Bool.{Bool, true, false}
-use mathlib.Core.List.{List, []}
-use native.Mathlib.Omega.{arith}
-use lib.Dec.{leb, eqb}
-use native.Mathlib.Nat.{sub-zero}
-use lib.ListN.{length, replicate, getD}
+use Prim.Native.Nat.{ℕ}
+use mathlib.Core.List.{List}
+use lib.ListN.{getD}
 use Rattle.spv.specs.declared.bundle.Verdict.{Verdict}
 use Rattle.spv.specs.declared.bundle.Verdict.the-variants.{Accepted, Refused}
-use Rattle.spv.specs.declared.table.Record.{Record}
 use Rattle.spv.specs.declared.table.Row.{Row}
-use Rattle.spv.specs.Table.{blankRecord, flat, flatRecord, rows}
-use Rattle.spv.specs.TableLaws.{getD-padded, rows-list, flat-length, flat-row}
-use Rattle.format.specs.Parse.{Parse, got, bad, pick}
-use Rattle.format.specs.Gather.{padded}
-use Rattle.format.specs.Beef.{Beef, beefWhole}
-use Rattle.format.specs.BeefLaws.{BeefRead, beef-told}
-use Rattle.format.specs.Refusals.{TOO-LONG, BAD-ROOTS, MAX-INPUT}
-use Rattle.spv.specs.Bundle.{entryId, standing, entryRow, Judgement, refusedAs, accepted, judgeEntries, judgeRead, judgeBeef, verdictOf, tableOf}
-use Rattle.spv.specs.BundleLaws.{accepted-length}
-use Rattle.spv.specs.BundleTheorems.{emptyEntry}
+use Rattle.spv.specs.Result.{accepted, refused}
+use Rattle.spv.specs.Table.{blankRecord, flat}
+use Rattle.spv.specs.Bundle.{Judgement, verdictOf, tableOf}
 
 -- what a verdict comes to with the flat form beside it
 unfoldable pub judgementOf : Verdict → List ℕ → List ℕ → Judgement
 judgementOf (Accepted n) ids numbers = accepted (flat n ids numbers)
-judgementOf (Refused x) ids numbers = refusedAs (x .number) (x .place)
+judgementOf (Refused why) ids numbers = refused why
 
 -- how many records go with a verdict
 abbrev pub countOf : Verdict → ℕ
@@ -35,64 +22,3 @@ countOf (Refused x) = 0
 -- the verdict, and the record for row k of a table of n rows
 unfoldable pub rowIn : Judgement → ℕ → ℕ → Row
 rowIn j n k = record { verdict = verdictOf j; «record» = getD (tableOf j n) k blankRecord }
-
--- no more records than a table of n rows and the code's own can hold
-unfoldable pub Fits : Judgement → ℕ → Type 0
-Fits (refusedAs number carried) n = Unit {0}
-Fits (accepted records) n = (length records ≤ 256) × (length records ≤ n)
-
-entries-fit : (s roots : List ℕ) (n : ℕ) (b : Beef) → BeefRead n s b → Fits (judgeEntries s roots b) n
-unfolding Fits judgeEntries
-entries-fit s roots n b read = go (judgeEntries s roots b) refl
-  where
-    go : (j : Judgement) → judgeEntries s roots b ≡ j → Fits j n
-    go (refusedAs number carried) e = tt
-    go (accepted records) e =
-        let same = accepted-length (entryId s) (standing s roots (b .bumps)) (entryRow s) emptyEntry blankRecord [] (b .entries) records e in
-        let few = read .entries-low in
-        let room = read .fits in
-        (omega arith, omega arith)
-
-judge-fits : (s roots : List ℕ) (n : ℕ) → Fits (judgeBeef s roots n) n
-unfolding Fits judgeBeef judgeRead
-judge-fits s roots n = go (leb (length s) MAX-INPUT) (eqb (length roots % 32) 0) (beefWhole n s) refl
-  where
-    go : (t u : Bool) (p : Parse Beef) → beefWhole n s ≡ p → Fits (pick t (pick u (judgeRead s roots p) (refusedAs BAD-ROOTS 0)) (refusedAs TOO-LONG 0)) n
-    go false u p e = tt
-    go true false p e = tt
-    go true true (bad number place) e = tt
-    go true true (got b q) e = entries-fit s roots n b (beef-told n s e)
-
--- the verdict, and the table of n rows
-module _ (ids numbers : List ℕ) (wide : 8192 ≤ length ids) (long : 1280 ≤ length numbers) (n : ℕ) where
-  told : (r : Verdict) → Fits (judgementOf r ids numbers) n
-      → (r ≡ verdictOf (judgementOf r ids numbers)) × (rows (flatRecord ids numbers (countOf r)) n ≡ tableOf (judgementOf r ids numbers) n)
-  unfolding judgementOf verdictOf tableOf Fits flat padded
-  told (Accepted k) h =
-      let few = flat-length k ids numbers in
-      (ap Accepted (sym few), rows-list (flatRecord ids numbers k) blankRecord (flat k ids numbers) n (flat-row ids numbers wide long k (omega (arith, h .0))) (h .1))
-  told (Refused x) h =
-      (refl, rows-list (flatRecord ids numbers 0) blankRecord [] n (flat-row ids numbers wide long 0 zero-le) zero-le ∙ ap (λ (k : ℕ). replicate k blankRecord) (sub-zero n))
-
-  pub flat-told : (s roots : List ℕ) (r : Verdict) → judgementOf r ids numbers ≡ judgeBeef s roots n
-      → (r ≡ verdictOf (judgeBeef s roots n)) × (rows (flatRecord ids numbers (countOf r)) n ≡ tableOf (judgeBeef s roots n) n)
-  flat-told s roots r e =
-      subst (λ (j : Judgement). (r ≡ verdictOf j) × (rows (flatRecord ids numbers (countOf r)) n ≡ tableOf j n)) e
-      (told r (subst⁻¹ (λ (j : Judgement). Fits j n) e (judge-fits s roots n)))
-
-  -- the same for row k alone
-  record-for : (k : ℕ) (r : Verdict) → Fits (judgementOf r ids numbers) n → flatRecord ids numbers (countOf r) k ≡ getD (tableOf (judgementOf r ids numbers) n) k blankRecord
-  unfolding judgementOf tableOf Fits flat padded
-  record-for k (Accepted m) h =
-      let few = flat-length m ids numbers in
-      flat-row ids numbers wide long m (omega (arith, h .0)) k ∙ sym (getD-padded (flat m ids numbers) (n - length (flat m ids numbers)) k blankRecord)
-  record-for k (Refused x) h = flat-row ids numbers wide long 0 zero-le k ∙ sym (getD-padded [] n k blankRecord)
-
-  pub row-told : (s roots : List ℕ) (k : ℕ) (r : Verdict) → judgementOf r ids numbers ≡ judgeBeef s roots n
-      → record { verdict = r; «record» = flatRecord ids numbers (countOf r) k } ≡ rowIn (judgeBeef s roots n) n k
-  unfolding rowIn
-  row-told s roots k r e =
-      ap (λ (v : Verdict). record { verdict = v; «record» = flatRecord ids numbers (countOf r) k }) (flat-told s roots r e .0)
-      ∙ ap (λ (x : Record). record { verdict = verdictOf (judgeBeef s roots n); «record» = x })
-      (subst (λ (j : Judgement). flatRecord ids numbers (countOf r) k ≡ getD (tableOf j n) k blankRecord) e
-      (record-for k r (subst⁻¹ (λ (j : Judgement). Fits j n) e (judge-fits s roots n))))

@@ -8,7 +8,8 @@ use native.Mathlib.Omega.{arith}
 use lib.ListN.{length, take, drop, getD, length-append, length-take, length-drop}
 use lib.Seq.{ext-getD, getD-take, getD-drop, drop-drop, take-append-le, drop-append-le, take-all, length-take-le}
 use Rattle.format.specs.Basics.{one-less}
-use Rattle.format.specs.Bytes.{same, eq-same, ne-same}
+use Rattle.format.specs.Bytes.{same}
+use Rattle.format.specs.BytesLaws.{eq-same, ne-same}
 use Rattle.spv.specs.Bundle.{hashes, hashesOf, among}
 
 pub hashes-length : (n : ℕ) (l : List ℕ) → length (hashes n l) ≡ n

@@ -7,9 +7,9 @@ use native.Mathlib.Omega.{arith}
 use lib.ListN.{getD}
 use borrow.Author.Tests.{lt-ltb, le-ltb}
 use Rattle.format.specs.declared.tx.Input.{Input}
-use Rattle.format.specs.declared.refusal.Refusal.{Refusal}
 use Rattle.format.specs.declared.bump.BumpHead.{BumpHead}
 use Rattle.format.specs.declared.path.Path.{Path}
+use Rattle.format.specs.declared.beef.Anchor.{Anchor}
 use Rattle.format.specs.declared.beef.Anchor.the-variants.{Unanchored, Bump as InBump}
 use Rattle.format.specs.declared.beef.EntryHead.{EntryHead}
 use Rattle.format.specs.Parse.{got, bad}
@@ -17,16 +17,20 @@ use Rattle.format.specs.Search.{hashAt}
 use Rattle.format.specs.Path.{bumpPathOf}
 use Rattle.format.specs.Transaction.{inputField}
 use Rattle.format.specs.BeefAnswer.{noBump}
-use Rattle.format.specs.Refusals.{UNTRUSTED, BAD-INDEX, SAME-TX, NO-PARENT}
-use Rattle.spv.specs.declared.bundle.Standing.{Standing as Found}
+use Rattle.format.specs.Refusals.{UNTRUSTED, BAD-INDEX, SAME-TX, NO-PARENT, MAX-BUMPS}
+use Rattle.spv.specs.declared.bundle.Standing.the-variants.{Refuses, Passes}
+use Rattle.spv.specs.declared.bundle.Kept.{Kept}
+use Rattle.spv.specs.declared.bundle.Standing.{Standing}
 use Rattle.spv.specs.declared.prove.Proved.{Proved}
-use Rattle.spv.specs.declared.prove.Judged.the-variants.{Accepted, Refused}
-use Rattle.spv.specs.Compare.{denied, proved, judge, Verdict as Proving}
+use Rattle.spv.specs.declared.prove.Outcome.the-variants.{Accepted, Refused}
+use Rattle.spv.specs.declared.rejection.Rejection.{Rejection}
+use Rattle.spv.specs.Result.{Result, accepted, refused, carrying}
+use Rattle.spv.specs.Compare.{prove, Proof}
 use Rattle.spv.specs.Readings.{pathReading}
-use Rattle.spv.specs.Shapes.{provedOf, acceptedOf, refusalOf}
-use Rattle.spv.specs.Bundle.{hashesOf, among, refuses, passes, trusted}
+use Rattle.spv.specs.Shapes.{provedOf, acceptedOf}
+use Rattle.spv.specs.Bundle.{hashesOf, among, trusted}
 use Rattle.format.specs.Basics.{one-less}
-use Rattle.spv.specs.BundleHeads.{restsFrom, headProving, headAnchoring, headStanding, headId, headStands, standingOf}
+use Rattle.spv.specs.BundleHeads.{IsKept, Names, restsFrom, headProving, headAnchoring, headStanding, headId, headStands}
 
 -- a search for parents that has passed i of n inputs
 module _ (s : List ℕ) (ids : List (List ℕ)) (n i at : ℕ) where
@@ -48,58 +52,73 @@ module _ (s : List ℕ) (ids : List (List ℕ)) (n i at : ℕ) where
   unfolding restsFrom
   parents-end past = let none : n - i ≡ 0 = omega arith in rw none
 
--- an id is proved by the path of a BUMP's head
-pub head-proved : (s id : List ℕ) (head : BumpHead) {path : Path} {r : Proved} → r ≡ provedOf (judge (pathReading s path id)) → path ≡ bumpPathOf s head
-    → r ≡ provedOf (headProving s head id)
+-- an id by the path of a BUMP's head
+pub head-proving : (s id : List ℕ) (head : BumpHead) {path : Path} → path ≡ bumpPathOf s head → prove (pathReading s path id) ≡ headProving s head id
 unfolding headProving
-head-proved s id head e h = e ∙ ap (λ (x : Path). provedOf (judge (pathReading s x id))) h
+head-proving s id head h = ap (λ (x : Path). prove (pathReading s x id)) h
 
 -- an anchored transaction, by the answer of proving
 module _ (roots : List ℕ) (n : ℕ) (r : Proved) where
-  pub trusted-refused : (v : Proving) (f : Refusal) → r ≡ provedOf v → r .judged ≡ Refused f → trusted roots n v ≡ refuses (f .number)
-  unfolding trusted provedOf refusalOf acceptedOf
-  trusted-refused (denied number place k q) f e h = let y : f ≡ refusalOf number place k q = cc in ap (λ (x : Refusal). refuses (x .number)) (sym y)
-  trusted-refused (proved p) f e h = absurd (let z : _≡_ {A = ℕ} 0 1 = cc in omega arith)
-
-  pub trusted-listed : (v : Proving) (i h : ℕ) → r ≡ provedOf v → r .judged ≡ Accepted i h → among (r .root) (hashesOf roots) ≡ true → trusted roots n v ≡ passes 1 n i
+  pub trusted-refused : (v : Result Proof) (f : Rejection) → r ≡ provedOf v → r .outcome ≡ Refused f → trusted roots n v ≡ Refuses f
   unfolding trusted provedOf acceptedOf
-  trusted-listed (denied number place k q) i h e f g = absurd (let z : _≡_ {A = ℕ} 0 1 = cc in omega arith)
-  trusted-listed (proved p) i h e f g =
+  trusted-refused (refused why) f e h = let y : f ≡ why = cc in ap Refuses (sym y)
+  trusted-refused (accepted p) f e h = absurd (let z : _≡_ {A = ℕ} 0 1 = cc in omega arith)
+
+  pub trusted-listed : (v : Result Proof) (i h : ℕ) → r ≡ provedOf v → r .outcome ≡ Accepted i h → among (r .root) (hashesOf roots) ≡ true → trusted roots n v ≡ Passes 1 n i
+  unfolding trusted provedOf acceptedOf
+  trusted-listed (refused why) i h e f g = absurd (let z : _≡_ {A = ℕ} 0 1 = cc in omega arith)
+  trusted-listed (accepted p) i h e f g =
       let root : p .root ≡ r .root = cc in
       let at : p .position ≡ i = cc in
       rw (root, g, at)
 
-  pub trusted-not : (v : Proving) (i h : ℕ) → r ≡ provedOf v → r .judged ≡ Accepted i h → among (r .root) (hashesOf roots) ≡ false → trusted roots n v ≡ refuses UNTRUSTED
+  pub trusted-not : (v : Result Proof) (i h : ℕ) → r ≡ provedOf v → r .outcome ≡ Accepted i h → among (r .root) (hashesOf roots) ≡ false → trusted roots n v ≡ Refuses (carrying UNTRUSTED 0)
   unfolding trusted provedOf acceptedOf
-  trusted-not (denied number place k q) i h e f g = absurd (let z : _≡_ {A = ℕ} 0 1 = cc in omega arith)
-  trusted-not (proved p) i h e f g = let root : p .root ≡ r .root = cc in rw (root, g)
+  trusted-not (refused why) i h e f g = absurd (let z : _≡_ {A = ℕ} 0 1 = cc in omega arith)
+  trusted-not (accepted p) i h e f g = let root : p .root ≡ r .root = cc in rw (root, g)
 
 -- one transaction
 module _ (s roots : List ℕ) (bumps : List BumpHead) (earlier : List (List ℕ)) (id : List ℕ) (e : EntryHead) where
-  pub stands-again : among id earlier ≡ true → headStanding s roots bumps earlier id e ≡ refuses SAME-TX
+  pub stands-again : among id earlier ≡ true → headStanding s roots bumps earlier id e ≡ Refuses (carrying SAME-TX 0)
   unfolding headStanding
   stands-again h = rw h
 
   module _ (new : among id earlier ≡ false) where
-    pub stands-mined : (n : ℕ) → e .anchor ≡ InBump n → n < 64 → headStanding s roots bumps earlier id e ≡ trusted roots n (headProving s (getD bumps n noBump) id)
+    pub stands-mined : (n : ℕ) → e .anchor ≡ InBump n → n < MAX-BUMPS → headStanding s roots bumps earlier id e ≡ trusted roots n (headProving s (getD bumps n noBump) id)
     unfolding headStanding headAnchoring
-    stands-mined n a low = rw (new, a) (rw (lt-ltb n 64 low))
+    stands-mined n a low = rw (new, a) (rw (lt-ltb n MAX-BUMPS low))
 
-    pub stands-nowhere : (n : ℕ) → e .anchor ≡ InBump n → 64 ≤ n → headStanding s roots bumps earlier id e ≡ refuses BAD-INDEX
+    pub stands-nowhere : (n : ℕ) → e .anchor ≡ InBump n → MAX-BUMPS ≤ n → headStanding s roots bumps earlier id e ≡ Refuses (carrying BAD-INDEX 0)
     unfolding headStanding headAnchoring
-    stands-nowhere n a past = rw (new, a) (rw (le-ltb n 64 past))
+    stands-nowhere n a past = rw (new, a) (rw (le-ltb n MAX-BUMPS past))
 
     pub stands-child : e .anchor ≡ Unanchored → restsFrom s earlier (e .transaction .inputs .count) (e .transaction .inputs .at .at) ≡ true
-        → headStanding s roots bumps earlier id e ≡ passes 0 0 0
+        → headStanding s roots bumps earlier id e ≡ Passes 0 0 0
     unfolding headStanding headAnchoring
     stands-child a h = rw (new, a) (rw h)
 
     pub stands-orphan : e .anchor ≡ Unanchored → restsFrom s earlier (e .transaction .inputs .count) (e .transaction .inputs .at .at) ≡ false
-        → headStanding s roots bumps earlier id e ≡ refuses NO-PARENT
+        → headStanding s roots bumps earlier id e ≡ Refuses (carrying NO-PARENT 0)
     unfolding headStanding headAnchoring
     stands-orphan a h = rw (new, a) (rw h)
 
 -- what the answer for a transaction says of it
-pub head-told : (s roots : List ℕ) (bumps : List BumpHead) (earlier : List (List ℕ)) (e : EntryHead) {id : List ℕ} {t x : Found}
-    → id ≡ headId s e → standingOf t ≡ headStanding s roots bumps earlier id e → t ≡ x → headStands s roots bumps earlier e ≡ standingOf x
-head-told s roots bumps earlier e i h is = ap (λ (y : List ℕ). headStanding s roots bumps earlier y e) (sym i) ∙ sym h ∙ ap standingOf is
+pub head-told : (s roots : List ℕ) (bumps : List BumpHead) (earlier : List (List ℕ)) (e : EntryHead) {id : List ℕ} {t x : Standing}
+    → id ≡ headId s e → t ≡ headStanding s roots bumps earlier id e → t ≡ x → headStands s roots bumps earlier e ≡ x
+head-told s roots bumps earlier e i h is = ap (λ (y : List ℕ). headStanding s roots bumps earlier y e) (sym i) ∙ sym h ∙ is
+
+-- the path that an anchor names
+module _ (s : List ℕ) (bumps : List BumpHead) (anchor : Anchor) (path : Path) where
+  pub names-none : anchor ≡ Unanchored → Names s bumps anchor path
+  names-none e n f low = absurd (let z : _≡_ {A = ℕ} 0 1 = cc in omega arith)
+
+  module _ (m : ℕ) (e : anchor ≡ InBump m) where
+    pub names-over : MAX-BUMPS ≤ m → Names s bumps anchor path
+    names-over past n f low = absurd (let same : m ≡ n = cc in omega arith)
+
+    pub names-it : path ≡ bumpPathOf s (getD bumps m noBump) → Names s bumps anchor path
+    names-it is n f low = is ∙ ap (λ (k : ℕ). bumpPathOf s (getD bumps k noBump)) (let same : m ≡ n = cc in same)
+
+-- the path that is kept
+pub kept-same : (s : List ℕ) (bumps : List BumpHead) (kept : Kept) (n : ℕ) → n ≡ kept .bump → n < MAX-BUMPS → IsKept s bumps kept → kept .path ≡ bumpPathOf s (getD bumps n noBump)
+kept-same s bumps kept n e low k = k (omega arith) ∙ ap (λ (m : ℕ). bumpPathOf s (getD bumps m noBump)) (sym e)

@@ -1,5 +1,6 @@
 -- The bundle rule over what the code holds of a bundle that was read: heads, by places in the bytes.
-use Prim.Native.Nat.{ℕ, zero, suc, _-_}
+use mathlib.Core.Path.{_≡_}
+use Prim.Native.Nat.{ℕ, zero, suc, _-_, _<_}
 use mathlib.Core.Bool.{Bool, true, false}
 use mathlib.Core.List.{List, [], _∷_}
 use lib.Dec.{ltb}
@@ -15,15 +16,18 @@ use Rattle.format.specs.Path.{bumpPathOf}
 use Rattle.format.specs.Transaction.{inputField}
 use Rattle.format.specs.Beef.{entryField}
 use Rattle.format.specs.BeefAnswer.{noBump, entryHeadOf}
-use Rattle.format.specs.IdLaws.{spanHash}
-use Rattle.format.specs.Refusals.{BAD-INDEX, SAME-TX, NO-PARENT}
+use Rattle.format.specs.Id.{spanHash}
+use Rattle.format.specs.Refusals.{BAD-INDEX, SAME-TX, NO-PARENT, MAX-BUMPS}
+use Rattle.format.specs.declared.path.Path.{Path}
+use Rattle.spv.specs.declared.bundle.Kept.{Kept}
 use Rattle.spv.specs.declared.table.Record.{Record}
 use Rattle.spv.specs.declared.bundle.Standing.the-variants.{Refuses, Passes}
-use Rattle.spv.specs.declared.bundle.Standing.{Standing as Found}
+use Rattle.spv.specs.declared.bundle.Standing.{Standing}
+use Rattle.spv.specs.Result.{Result, carrying}
 use Rattle.spv.specs.Table.{flatHead}
-use Rattle.spv.specs.Compare.{judge, Verdict as Proving}
+use Rattle.spv.specs.Compare.{prove, Proof}
 use Rattle.spv.specs.Readings.{pathReading}
-use Rattle.spv.specs.Bundle.{among, Standing, refuses, passes, trusted}
+use Rattle.spv.specs.Bundle.{among, trusted}
 
 -- the numbers of a record
 abbrev pub numbersOf : TxHead → ℕ → ℕ → ℕ → List ℕ
@@ -34,11 +38,6 @@ unfoldable pub headsFrom : ℕ → List ℕ → ℕ → ℕ → List EntryHead
 headsFrom bumps s zero at = []
 headsFrom bumps s (suc n) at = otherwise (each entryHeadOf (entryField bumps s at)) [] (λ e next. e ∷ headsFrom bumps s n next)
 
--- how a transaction stands, as the code has it
-abbrev pub standingOf : Found → Standing
-standingOf (Refuses number) = refuses number
-standingOf (Passes a n i) = passes a n i
-
 -- n inputs from a place: each has its parent among the ids
 unfoldable pub restsFrom : List ℕ → List (List ℕ) → ℕ → ℕ → Bool
 restsFrom s ids zero at = true
@@ -46,16 +45,24 @@ restsFrom s ids (suc n) at =
     otherwise (inputField s at) false (λ input next. pick (among (hashAt s (input .parent)) ids) (restsFrom s ids n next) false)
 
 -- an id by a BUMP
-unfoldable pub headProving : List ℕ → BumpHead → List ℕ → Proving
-headProving s b id = judge (pathReading s (bumpPathOf s b) id)
+unfoldable pub headProving : List ℕ → BumpHead → List ℕ → Result Proof
+headProving s b id = prove (pathReading s (bumpPathOf s b) id)
 
 module _ (s roots : List ℕ) (bumps : List BumpHead) where
   unfoldable pub headAnchoring : List (List ℕ) → List ℕ → TxHead → Anchor → Standing
-  headAnchoring earlier id t (InBump n) = pick (ltb n 64) (trusted roots n (headProving s (getD bumps n noBump) id)) (refuses BAD-INDEX)
-  headAnchoring earlier id t Unanchored = pick (restsFrom s earlier (t .inputs .count) (t .inputs .at .at)) (passes 0 0 0) (refuses NO-PARENT)
+  headAnchoring earlier id t (InBump n) = pick (ltb n MAX-BUMPS) (trusted roots n (headProving s (getD bumps n noBump) id)) (Refuses (carrying BAD-INDEX 0))
+  headAnchoring earlier id t Unanchored = pick (restsFrom s earlier (t .inputs .count) (t .inputs .at .at)) (Passes 0 0 0) (Refuses (carrying NO-PARENT 0))
 
   unfoldable pub headStanding : List (List ℕ) → List ℕ → EntryHead → Standing
-  headStanding earlier id e = pick (among id earlier) (refuses SAME-TX) (headAnchoring earlier id (e .transaction) (e .anchor))
+  headStanding earlier id e = pick (among id earlier) (Refuses (carrying SAME-TX 0)) (headAnchoring earlier id (e .transaction) (e .anchor))
+
+-- a path that is kept is its BUMP's
+abbrev pub IsKept : List ℕ → List BumpHead → Kept → Type 0
+IsKept s bumps k = k .bump < MAX-BUMPS → k .path ≡ bumpPathOf s (getD bumps (k .bump) noBump)
+
+-- the path of the BUMP that an anchor names
+abbrev pub Names : List ℕ → List BumpHead → Anchor → Path → Type 0
+Names s bumps anchor path = (n : ℕ) → anchor ≡ InBump n → n < MAX-BUMPS → path ≡ bumpPathOf s (getD bumps n noBump)
 
 -- what is judged, by an entry's head
 abbrev pub headId : List ℕ → EntryHead → List ℕ

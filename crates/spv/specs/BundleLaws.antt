@@ -4,31 +4,35 @@ use mathlib.Core.Path.{_≡_, refl, sym, ap, _∙_}
 use mathlib.Core.List.{List, [], _∷_, _++_, map, append-assoc, append-nil}
 use native.Mathlib.Omega.{arith}
 use lib.ListN.{length, getD, take}
+use Rattle.spv.specs.declared.bundle.Standing.{Standing}
+use Rattle.spv.specs.declared.bundle.Standing.the-variants.{Refuses, Passes}
 use Rattle.spv.specs.declared.table.Record.{Record}
-use Rattle.spv.specs.Bundle.{Standing, refuses, passes, Judgement, refusedAs, accepted, ahead, judgeFrom}
+use Rattle.spv.specs.declared.rejection.Rejection.{Rejection}
+use Rattle.spv.specs.Result.{accepted, refused, blaming}
+use Rattle.spv.specs.Bundle.{Judgement, ahead, judgeFrom}
 
 -- records that were made before go in front
 unfoldable pub followed : List Record → Judgement → Judgement
-followed done (refusedAs number carried) = refusedAs number carried
+followed done (refused why) = refused why
 followed done (accepted l) = accepted (done ++ l)
 
 pub followed-ahead : (done : List Record) (r : Record) (j : Judgement) → followed done (ahead r j) ≡ followed (done ++ (r ∷ [])) j
 unfolding followed ahead
-followed-ahead done r (refusedAs number carried) = refl
+followed-ahead done r (refused why) = refl
 followed-ahead done r (accepted l) = ap accepted (sym (append-assoc done (r ∷ []) l))
 
 pub followed-none : (j : Judgement) → followed [] j ≡ j
 unfolding followed
-followed-none (refusedAs number carried) = refl
+followed-none (refused why) = refl
 followed-none (accepted l) = refl
 
 module _ {A : Type 0} (id : A → List ℕ) (stands : List (List ℕ) → A → Standing) (row : A → ℕ → ℕ → ℕ → Record) where
   module _ (earlier : List (List ℕ)) (x : A) (l : List A) where
-    pub from-refuses : (number : ℕ) → stands earlier x ≡ refuses number → judgeFrom id stands row earlier (x ∷ l) ≡ refusedAs number (length earlier)
+    pub from-refuses : (why : Rejection) → stands earlier x ≡ Refuses why → judgeFrom id stands row earlier (x ∷ l) ≡ refused (blaming (length earlier) why)
     unfolding judgeFrom
-    from-refuses number e = rw (judgeFrom, e)
+    from-refuses why e = rw (judgeFrom, e)
 
-    pub from-passes : (a n i : ℕ) → stands earlier x ≡ passes a n i
+    pub from-passes : (a n i : ℕ) → stands earlier x ≡ Passes a n i
         → judgeFrom id stands row earlier (x ∷ l) ≡ ahead (row x a n i) (judgeFrom id stands row (earlier ++ (id x ∷ [])) l)
     unfolding judgeFrom
     from-passes a n i e = rw (judgeFrom, e)
@@ -49,31 +53,31 @@ module _ {A B : Type 0} (f : A → B) (id : B → List ℕ) (stands : List (List
       step : (t : Standing) → stands earlier (f x) ≡ t
           → judgeFrom id stands row (earlier ++ (id (f x) ∷ [])) (map f l) ≡ judgeFrom (λ x. id (f x)) (λ ids x. stands ids (f x)) (λ x. row (f x)) (earlier ++ (id (f x) ∷ [])) l
           → judgeFrom id stands row earlier (f x ∷ map f l) ≡ judgeFrom (λ x. id (f x)) (λ ids x. stands ids (f x)) (λ x. row (f x)) earlier (x ∷ l)
-      step (refuses number) e h = from-refuses id stands row earlier (f x) (map f l) number e ∙ sym (from-refuses (λ x. id (f x)) (λ ids x. stands ids (f x)) (λ x. row (f x)) earlier x l number e)
-      step (passes a n i) e h =
+      step (Refuses why) e h = from-refuses id stands row earlier (f x) (map f l) why e ∙ sym (from-refuses (λ x. id (f x)) (λ ids x. stands ids (f x)) (λ x. row (f x)) earlier x l why e)
+      step (Passes a n i) e h =
           from-passes id stands row earlier (f x) (map f l) a n i e ∙ ap (ahead (row (f x) a n i)) h
           ∙ sym (from-passes (λ x. id (f x)) (λ ids x. stands ids (f x)) (λ x. row (f x)) earlier x l a n i e)
 
 -- one transaction, seen in two ways
-pub record Alike {A : Type 0} (id id′ : A → List ℕ) (stands stands′ : List (List ℕ) → A → Standing) (row row′ : A → ℕ → ℕ → ℕ → Record) (x : A) : Type 0 where
+pub record SameEntry {A : Type 0} (id id′ : A → List ℕ) (stands stands′ : List (List ℕ) → A → Standing) (row row′ : A → ℕ → ℕ → ℕ → Record) (x : A) : Type 0 where
   pub ids : id x ≡ id′ x
   pub standings : (earlier : List (List ℕ)) → stands earlier x ≡ stands′ earlier x
-  pub rows : (earlier : List (List ℕ)) (a n i : ℕ) → stands′ earlier x ≡ passes a n i → row x a n i ≡ row′ x a n i
+  pub rows : (earlier : List (List ℕ)) (a n i : ℕ) → stands′ earlier x ≡ Passes a n i → row x a n i ≡ row′ x a n i
 
 module _ {A : Type 0} (id id′ : A → List ℕ) (stands stands′ : List (List ℕ) → A → Standing) (row row′ : A → ℕ → ℕ → ℕ → Record) (d : A) where
-  pub from-same : (earlier : List (List ℕ)) (l : List A) → ((k : ℕ) → k < length l → Alike id id′ stands stands′ row row′ (getD l k d))
+  pub from-same : (earlier : List (List ℕ)) (l : List A) → ((k : ℕ) → k < length l → SameEntry id id′ stands stands′ row row′ (getD l k d))
       → judgeFrom id stands row earlier l ≡ judgeFrom id′ stands′ row′ earlier l
   unfolding judgeFrom
   from-same earlier [] same = refl
   from-same earlier (x ∷ l) same =
       step (same 0 (omega arith)) (stands′ earlier x) refl (from-same (earlier ++ (id′ x ∷ [])) l (λ k h. same (suc k) (omega arith)))
     where
-      step : Alike id id′ stands stands′ row row′ x → (t : Standing) → stands′ earlier x ≡ t
+      step : SameEntry id id′ stands stands′ row row′ x → (t : Standing) → stands′ earlier x ≡ t
           → judgeFrom id stands row (earlier ++ (id′ x ∷ [])) l ≡ judgeFrom id′ stands′ row′ (earlier ++ (id′ x ∷ [])) l
           → judgeFrom id stands row earlier (x ∷ l) ≡ judgeFrom id′ stands′ row′ earlier (x ∷ l)
-      step w (refuses number) e h =
-          from-refuses id stands row earlier x l number (w .standings earlier ∙ e) ∙ sym (from-refuses id′ stands′ row′ earlier x l number e)
-      step w (passes a n i) e h =
+      step w (Refuses why) e h =
+          from-refuses id stands row earlier x l why (w .standings earlier ∙ e) ∙ sym (from-refuses id′ stands′ row′ earlier x l why e)
+      step w (Passes a n i) e h =
           from-passes id stands row earlier x l a n i (w .standings earlier ∙ e)
           ∙ ap (λ (y : List ℕ). ahead (row x a n i) (judgeFrom id stands row (earlier ++ (y ∷ [])) l)) (w .ids)
           ∙ ap (ahead (row x a n i)) h
@@ -88,23 +92,23 @@ module _ {A : Type 0} (id : A → List ℕ) (stands : List (List ℕ) → A → 
     pub flag : ℕ
     pub bump : ℕ
     pub position : ℕ
-    pub passed : stands (earlier ++ map id (take k l)) (getD l k d) ≡ passes flag bump position
+    pub passed : stands (earlier ++ map id (take k l)) (getD l k d) ≡ Passes flag bump position
     pub recorded : getD records k z ≡ row (getD l k d) flag bump position
 
   ahead-told : (r : Record) (j : Judgement) {records : List Record} → ahead r j ≡ accepted records → (rest : List Record) × (j ≡ accepted rest) × (r ∷ rest ≡ records)
   unfolding ahead
-  ahead-told r (refusedAs number carried) e = absurd (let x : _≡_ {A = ℕ} 0 1 = cc in omega arith)
+  ahead-told r (refused why) e = absurd (let x : _≡_ {A = ℕ} 0 1 = cc in omega arith)
   ahead-told r (accepted l) e = (l, refl, cc)
 
   -- the first passed, and the others are accepted after it
   first-told : (earlier : List (List ℕ)) (x : A) (l : List A) (records : List Record) → judgeFrom id stands row earlier (x ∷ l) ≡ accepted records
-      → (a : ℕ) × (n : ℕ) × (i : ℕ) × (rest : List Record) × (stands earlier x ≡ passes a n i) × (judgeFrom id stands row (earlier ++ (id x ∷ [])) l ≡ accepted rest) × (row x a n i ∷ rest ≡ records)
+      → (a : ℕ) × (n : ℕ) × (i : ℕ) × (rest : List Record) × (stands earlier x ≡ Passes a n i) × (judgeFrom id stands row (earlier ++ (id x ∷ [])) l ≡ accepted rest) × (row x a n i ∷ rest ≡ records)
   first-told earlier x l records e = go (stands earlier x) refl
     where
       go : (t : Standing) → stands earlier x ≡ t
-          → (a : ℕ) × (n : ℕ) × (i : ℕ) × (rest : List Record) × (stands earlier x ≡ passes a n i) × (judgeFrom id stands row (earlier ++ (id x ∷ [])) l ≡ accepted rest) × (row x a n i ∷ rest ≡ records)
-      go (refuses number) h = let q = from-refuses id stands row earlier x l number h in absurd (let z : _≡_ {A = ℕ} 0 1 = cc in omega arith)
-      go (passes a n i) h =
+          → (a : ℕ) × (n : ℕ) × (i : ℕ) × (rest : List Record) × (stands earlier x ≡ Passes a n i) × (judgeFrom id stands row (earlier ++ (id x ∷ [])) l ≡ accepted rest) × (row x a n i ∷ rest ≡ records)
+      go (Refuses why) h = let q = from-refuses id stands row earlier x l why h in absurd (let z : _≡_ {A = ℕ} 0 1 = cc in omega arith)
+      go (Passes a n i) h =
           let w = ahead-told (row x a n i) (judgeFrom id stands row (earlier ++ (id x ∷ [])) l) (sym (from-passes id stands row earlier x l a n i h) ∙ e) in
           (a, n, i, w .0, h, w .1, w .2)
 
@@ -140,7 +144,7 @@ module _ {A : Type 0} (id : A → List ℕ) (stands : List (List ℕ) → A → 
 
   -- if each passes after those before it, all are accepted
   pub all-accepted : (earlier : List (List ℕ)) (l : List A)
-      → ((k : ℕ) → k < length l → (a : ℕ) × (n : ℕ) × (i : ℕ) × (stands (earlier ++ map id (take k l)) (getD l k d) ≡ passes a n i))
+      → ((k : ℕ) → k < length l → (a : ℕ) × (n : ℕ) × (i : ℕ) × (stands (earlier ++ map id (take k l)) (getD l k d) ≡ Passes a n i))
       → (records : List Record) × (judgeFrom id stands row earlier l ≡ accepted records)
   unfolding ahead
   all-accepted earlier [] each = ([], from-none id stands row earlier)

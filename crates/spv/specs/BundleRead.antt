@@ -13,7 +13,8 @@ use Rattle.format.specs.ParseLaws.{many-told, each-got, each-bad}
 use Rattle.format.specs.Search.{hashAt}
 use Rattle.format.specs.Path.{bumpPathOf}
 use Rattle.format.specs.BumpLaws.{BumpRead, bump-told}
-use Rattle.format.specs.Gather.{padded, padded-at}
+use Rattle.format.specs.Padded.{padded}
+use Rattle.format.specs.Gather.{padded-at}
 use Rattle.format.specs.Beef.{Entry, Beef, entryField, beefWhole}
 use Rattle.format.specs.BeefAnswer.{noBump, entryHeadOf, firstAt, beefHeadOf, bumpHeads}
 use Rattle.format.specs.BeefLaws.{BeefRead, EntryRead, foundHead, beef-told}
@@ -23,14 +24,16 @@ use Rattle.format.specs.declared.refusal.Refusal.{Refusal}
 use Rattle.format.specs.declared.beef.BeefHead.{BeefHead}
 use Rattle.format.specs.declared.beef.Anchor.{Anchor}
 use Rattle.format.specs.declared.beef.Anchor.the-variants.{Unanchored, Bump as InBump}
-use Rattle.format.specs.Refusals.{MAX-BUMPS, MAX-INPUT, NO-PARENT, SAME-TX, BAD-INDEX, TOO-LONG, BAD-ROOTS}
+use Rattle.format.specs.Refusals.{MAX-BUMPS, MAX-INPUT, NO-PARENT, SAME-TX, BAD-INDEX, TOO-LONG, BAD-ROOTS, MAX-TXS}
 use Rattle.format.specs.declared.tx.Input.{Input}
 use Rattle.format.specs.Transaction.{inputField, txHeadOf}
+use Rattle.spv.specs.declared.bundle.Standing.the-variants.{Refuses, Passes}
 use Rattle.spv.specs.declared.table.Record.{Record}
 use Rattle.format.specs.IdLaws.{tx-hash, span-length}
-use Rattle.spv.specs.Table.{flatHead}
-use Rattle.spv.specs.Readings.{bump-path-judge}
-use Rattle.spv.specs.Bundle.{among, rests, refuses, passes, trusted, proving, nthBump, emptyBump, entryId, entryRow, anchoring, standing, refusedAs, judgeFrom, judgeEntries, judgeRead, judgeBeef}
+use Rattle.spv.specs.Result.{refused, carrying, refusedReading}
+use Rattle.spv.specs.Table.{flatHead, U32}
+use Rattle.spv.specs.ReadingsLaws.{bump-path-proves}
+use Rattle.spv.specs.Bundle.{among, rests, trusted, proving, nthBump, emptyBump, entryId, entryRow, anchoring, standing, judgeFrom, judgeEntries, judgeRead, judgeBeef}
 use Rattle.spv.specs.BundleTheorems.{emptyEntry, trusted-told}
 use Rattle.spv.specs.BundlePosition.{bump-position}
 use Rattle.spv.specs.BundleLaws.{from-map, from-same}
@@ -80,25 +83,25 @@ module _ (s roots : List ℕ) (room : ℕ) (b : Beef) (read : BeefRead room s b)
     unfolding headAnchoring anchoring headProving proving bumpPathOf
     anchors-agree earlier (InBump n) h =
         let few : n < length (b .bumps) = entry .anchored n h in
-        let less : n < 64 = let f = read .bumps-low in omega arith in
+        let less : n < MAX-BUMPS = let f = read .bumps-low in omega arith in
         let id : List ℕ = entryId s (nth k) in
-        ap (λ (t : Bool). pick t (trusted roots n (headProving s (getD heads n noBump) id)) (refuses BAD-INDEX)) (lt-ltb n 64 less)
+        ap (λ (t : Bool). pick t (trusted roots n (headProving s (getD heads n noBump) id)) (Refuses (carrying BAD-INDEX 0))) (lt-ltb n MAX-BUMPS less)
         ∙ ap (λ (m : BumpHead). trusted roots n (headProving s m id)) (padded-at MAX-BUMPS noBump foundHead (b .bumps) n emptyBump few)
-        ∙ ap (trusted roots n) (bump-path-judge s id (nthBump (b .bumps) n) (bump-read n few .1))
-    anchors-agree earlier Unanchored h = ap (λ (t : Bool). pick t (passes 0 0 0) (refuses NO-PARENT)) (rests-again s earlier (length (nth k .transaction .inputs)) (nth k .transaction .inputsAt) (tx .inputs-read))
+        ∙ ap (trusted roots n) (bump-path-proves s id (nthBump (b .bumps) n) (bump-read n few .1))
+    anchors-agree earlier Unanchored h = ap (λ (t : Bool). pick t (Passes 0 0 0) (Refuses (carrying NO-PARENT 0))) (rests-again s earlier (length (nth k .transaction .inputs)) (nth k .transaction .inputsAt) (tx .inputs-read))
 
     same-standing : (earlier : List (List ℕ)) → headStands s roots heads earlier (entryHeadOf (nth k)) ≡ standing s roots (b .bumps) earlier (nth k)
     unfolding headStanding standing
     same-standing earlier =
         ap (λ (x : List ℕ). headStanding s roots heads earlier x (entryHeadOf (nth k))) same-id
-        ∙ ap (pick (among (entryId s (nth k)) earlier) (refuses SAME-TX)) (anchors-agree earlier (nth k .anchor) refl)
+        ∙ ap (pick (among (entryId s (nth k)) earlier) (Refuses (carrying SAME-TX 0))) (anchors-agree earlier (nth k .anchor) refl)
 
     -- the anchor's number and the position fit the record's fields
-    fits : (earlier : List (List ℕ)) (a n i : ℕ) → standing s roots (b .bumps) earlier (nth k) ≡ passes a n i → (a < 4294967296) × (i < 4294967296)
+    fits : (earlier : List (List ℕ)) (a n i : ℕ) → standing s roots (b .bumps) earlier (nth k) ≡ Passes a n i → (a < U32) × (i < U32)
     unfolding standing anchoring
     fits earlier a n i e = go (among (entryId s (nth k)) earlier) e
       where
-        anchored : (x : Anchor) → nth k .anchor ≡ x → anchoring s roots (b .bumps) earlier (nth k) x ≡ passes a n i → (a < 4294967296) × (i < 4294967296)
+        anchored : (x : Anchor) → nth k .anchor ≡ x → anchoring s roots (b .bumps) earlier (nth k) x ≡ Passes a n i → (a < U32) × (i < U32)
         anchored (InBump m) h q =
             let w = trusted-told roots m (proving s (nthBump (b .bumps) m) (entryId s (nth k))) a n i q in
             let few : m < length (b .bumps) = entry .anchored m h in
@@ -108,25 +111,25 @@ module _ (s roots : List ℕ) (room : ℕ) (b : Beef) (read : BeefRead room s b)
             (omega arith, omega arith)
         anchored Unanchored h q = free (rests s earlier (nth k .transaction .inputs)) q
           where
-            free : (t : Bool) → pick t (passes 0 0 0) (refuses NO-PARENT) ≡ passes a n i → (a < 4294967296) × (i < 4294967296)
+            free : (t : Bool) → pick t (Passes 0 0 0) (Refuses (carrying NO-PARENT 0)) ≡ Passes a n i → (a < U32) × (i < U32)
             free true m =
                 let y : 0 ≡ a = cc in
                 let z : 0 ≡ i = cc in
                 (omega arith, omega arith)
             free false m = absurd (let z : _≡_ {A = ℕ} 0 1 = cc in omega arith)
 
-        go : (t : Bool) → pick t (refuses SAME-TX) (anchoring s roots (b .bumps) earlier (nth k) (nth k .anchor)) ≡ passes a n i → (a < 4294967296) × (i < 4294967296)
+        go : (t : Bool) → pick t (Refuses (carrying SAME-TX 0)) (anchoring s roots (b .bumps) earlier (nth k) (nth k .anchor)) ≡ Passes a n i → (a < U32) × (i < U32)
         go true m = absurd (let z : _≡_ {A = ℕ} 0 1 = cc in omega arith)
         go false m = anchored (nth k .anchor) refl m
 
-    same-row : (earlier : List (List ℕ)) (a n i : ℕ) → standing s roots (b .bumps) earlier (nth k) ≡ passes a n i → headRow s (entryHeadOf (nth k)) a n i ≡ entryRow s (nth k) a n i
+    same-row : (earlier : List (List ℕ)) (a n i : ℕ) → standing s roots (b .bumps) earlier (nth k) ≡ Passes a n i → headRow s (entryHeadOf (nth k)) a n i ≡ entryRow s (nth k) a n i
     unfolding entryRow flatHead
     same-row earlier a n i e =
         let f = fits earlier a n i e in
         let id : List ℕ = entryId s (nth k) in
         ap (λ (x : List ℕ). flatHead x (numbersOf (txHeadOf (nth k .transaction)) a n i)) same-id
-        ∙ ap (λ (x : List ℕ). row x (a % 4294967296) (i % 4294967296)) (take-all 32 id (let z = span-length s (nth k .transaction .start) (nth k .transaction .end) in let y = ap length same-id in omega arith))
-        ∙ ap (λ (x : ℕ). row id x (i % 4294967296)) (mod-eq-of-lt (f .0))
+        ∙ ap (λ (x : List ℕ). row x (a % U32) (i % U32)) (take-all 32 id (let z = span-length s (nth k .transaction .start) (nth k .transaction .end) in let y = ap length same-id in omega arith))
+        ∙ ap (λ (x : ℕ). row id x (i % U32)) (mod-eq-of-lt (f .0))
         ∙ ap (row id a) (mod-eq-of-lt (f .1))
       where
         row : List ℕ → ℕ → ℕ → Record
@@ -154,17 +157,17 @@ heads-again bumps s (suc n) at {l} e =
     more a r m h f is = rw (h, f, ← is)
 
 module _ (s roots : List ℕ) (room : ℕ) where
-  pub judge-long : MAX-INPUT < length s → refusedAs TOO-LONG 0 ≡ judgeBeef s roots room
+  pub judge-long : MAX-INPUT < length s → refused (carrying TOO-LONG 0) ≡ judgeBeef s roots room
   unfolding judgeBeef
   judge-long h = simp (lt-leb _ _ h)
 
   module _ (fits : length s ≤ MAX-INPUT) where
-    pub judge-roots : (length roots % 32 ≡ 0 → ⊥) → refusedAs BAD-ROOTS 0 ≡ judgeBeef s roots room
+    pub judge-roots : (length roots % 32 ≡ 0 → ⊥) → refused (carrying BAD-ROOTS 0) ≡ judgeBeef s roots room
     unfolding judgeBeef
     judge-roots h = simp (le-leb _ _ fits, ne-eqb _ _ h)
 
     module _ (even : length roots % 32 ≡ 0) where
-      pub judge-refused : (x : Refusal) → each beefHeadOf (beefWhole room s) ≡ bad (x .number) (x .place) → refusedAs (x .number) (x .place) ≡ judgeBeef s roots room
+      pub judge-refused : (x : Refusal) → each beefHeadOf (beefWhole room s) ≡ bad (x .number) (x .place) → refused (refusedReading x) ≡ judgeBeef s roots room
       unfolding judgeBeef judgeRead
       judge-refused x e = simp (le-leb _ _ fits, eq-eqb _ _ even, each-bad beefHeadOf (beefWhole room s) e)
 
@@ -173,11 +176,11 @@ module _ (s roots : List ℕ) (room : ℕ) where
       unfolding judgeBeef judgeRead
       judge-read h q {bumps} e found =
           let w = each-got beefHeadOf (beefWhole room s) e in
-          judged (w .0) (w .1) (w .2) (beef-told room s (w .1))
+          outcome (w .0) (w .1) (w .2) (beef-told room s (w .1))
         where
-          judged : (b : Beef) → beefWhole room s ≡ got b q → beefHeadOf b ≡ h → BeefRead room s b
+          outcome : (b : Beef) → beefWhole room s ≡ got b q → beefHeadOf b ≡ h → BeefRead room s b
               → judgeFrom (headId s) (headStands s roots bumps) (headRow s) [] (headsFrom (h .bumps) s (h .transactions) (h .entries .at)) ≡ judgeBeef s roots room
-          judged b g is read =
+          outcome b g is read =
               ap (λ (m : List BumpHead). judgeFrom (headId s) (headStands s roots m) (headRow s) [] (headsFrom (h .bumps) s (h .transactions) (h .entries .at))) (found ∙ read .heads)
               ∙ ap (λ (k : BeefHead). judgeFrom (headId s) (headStands s roots (padded MAX-BUMPS noBump (map foundHead (b .bumps)))) (headRow s) [] (headsFrom (k .bumps) s (k .transactions) (k .entries .at))) (sym is)
               ∙ ap (judgeFrom (headId s) (headStands s roots (padded MAX-BUMPS noBump (map foundHead (b .bumps)))) (headRow s) []) (heads-again (length (b .bumps)) s (length (b .entries)) (firstAt (b .entries)) (read .entries))
@@ -185,10 +188,10 @@ module _ (s roots : List ℕ) (room : ℕ) where
               ∙ sym (simp (le-leb _ _ fits, eq-eqb _ _ even, g))
 
 -- a bundle that was read has no more transactions than the flat form
-pub read-few : (s : List ℕ) (room : ℕ) (h : BeefHead) (q : ℕ) → each beefHeadOf (beefWhole room s) ≡ got h q → h .transactions ≤ 256
+pub read-few : (s : List ℕ) (room : ℕ) (h : BeefHead) (q : ℕ) → each beefHeadOf (beefWhole room s) ≡ got h q → h .transactions ≤ MAX-TXS
 read-few s room h q e =
     let w = each-got beefHeadOf (beefWhole room s) e in
     few (w .0) (w .2) (beef-told room s (w .1))
   where
-    few : (b : Beef) → beefHeadOf b ≡ h → BeefRead room s b → h .transactions ≤ 256
+    few : (b : Beef) → beefHeadOf b ≡ h → BeefRead room s b → h .transactions ≤ MAX-TXS
     few b is read = let low = read .entries-low in let same = ap (λ (k : BeefHead). k .transactions) is in omega arith

@@ -14,14 +14,17 @@ use Rattle.format.specs.declared.tx.Input.{Input}
 use Rattle.format.specs.declared.beef.Anchor.{Anchor}
 use Rattle.format.specs.declared.beef.Anchor.the-variants.{Unanchored, Bump as InBump}
 use Rattle.format.specs.Parse.{pick}
-use Rattle.format.specs.Bytes.{same, same-eq, eq-same}
+use Rattle.format.specs.Bytes.{same}
+use Rattle.format.specs.BytesLaws.{same-eq, eq-same}
 use Rattle.format.specs.Search.{hashAt}
 use Rattle.format.specs.Beef.{Entry, Beef}
 use Rattle.format.specs.Refusals.{UNTRUSTED, SAME-TX, NO-PARENT}
+use Rattle.spv.specs.declared.bundle.Standing.the-variants.{Refuses, Passes}
 use Rattle.spv.specs.declared.table.Record.{Record}
-use Rattle.spv.specs.Compare.{Proof, denied, proved, Verdict as Proving}
+use Rattle.spv.specs.Result.{Result, accepted, refused, carrying}
+use Rattle.spv.specs.Compare.{Proof}
 use Rattle.spv.specs.Table.{blankRecord}
-use Rattle.spv.specs.Bundle.{hashesOf, among, rests, refuses, passes, trusted, proving, nthBump, entryId, anchoring, standing, entryRow, accepted, judgeEntries}
+use Rattle.spv.specs.Bundle.{hashesOf, among, rests, trusted, proving, nthBump, entryId, anchoring, standing, entryRow, judgeEntries}
 use Rattle.spv.specs.BundleLaws.{accepted-passed, all-accepted}
 
 -- ---- being among hashes
@@ -89,18 +92,18 @@ module _ (s : List ℕ) (ids : List (List ℕ)) where
   told-rests (x ∷ l) f = rw (f 0 (omega arith)) (told-rests l (λ m h. f (suc m) (omega arith)))
 
 -- an anchored transaction passes exactly if it is proved and its root is listed
-pub trusted-told : (roots : List ℕ) (m : ℕ) (v : Proving) (a n i : ℕ) → trusted roots m v ≡ passes a n i
-    → (p : Proof) × (v ≡ proved p) × (among (p .root) (hashesOf roots) ≡ true) × (a ≡ 1) × (n ≡ m) × (i ≡ p .position)
+pub trusted-told : (roots : List ℕ) (m : ℕ) (v : Result Proof) (a n i : ℕ) → trusted roots m v ≡ Passes a n i
+    → (p : Proof) × (v ≡ accepted p) × (among (p .root) (hashesOf roots) ≡ true) × (a ≡ 1) × (n ≡ m) × (i ≡ p .position)
 unfolding trusted
-trusted-told roots m (denied number place layer sibling) a n i e = absurd (let z : _≡_ {A = ℕ} 0 1 = cc in omega arith)
-trusted-told roots m (proved p) a n i e = go (among (p .root) (hashesOf roots)) refl e
+trusted-told roots m (refused why) a n i e = absurd (let z : _≡_ {A = ℕ} 0 1 = cc in omega arith)
+trusted-told roots m (accepted p) a n i e = go (among (p .root) (hashesOf roots)) refl e
   where
-    go : (t : Bool) → among (p .root) (hashesOf roots) ≡ t → pick t (passes 1 m (p .position)) (refuses UNTRUSTED) ≡ passes a n i
-        → (x : Proof) × (proved p ≡ proved x) × (among (x .root) (hashesOf roots) ≡ true) × (a ≡ 1) × (n ≡ m) × (i ≡ x .position)
+    go : (t : Bool) → among (p .root) (hashesOf roots) ≡ t → pick t (Passes 1 m (p .position)) (Refuses (carrying UNTRUSTED 0)) ≡ Passes a n i
+        → (x : Proof) × (accepted p ≡ accepted x) × (among (x .root) (hashesOf roots) ≡ true) × (a ≡ 1) × (n ≡ m) × (i ≡ x .position)
     go true h e = (p, refl, h, cc, cc, cc)
     go false h e = absurd (let z : _≡_ {A = ℕ} 0 1 = cc in omega arith)
 
-pub told-trusted : (roots : List ℕ) (m : ℕ) (v : Proving) (p : Proof) → v ≡ proved p → among (p .root) (hashesOf roots) ≡ true → trusted roots m v ≡ passes 1 m (p .position)
+pub told-trusted : (roots : List ℕ) (m : ℕ) (v : Result Proof) (p : Proof) → v ≡ accepted p → among (p .root) (hashesOf roots) ≡ true → trusted roots m v ≡ Passes 1 m (p .position)
 unfolding trusted
 told-trusted roots m v p e h = rw e (rw h)
 
@@ -128,7 +131,7 @@ module _ (s roots : List ℕ) (b : Beef) where
     pub bump : ℕ
     pub proof : Proof
     pub anchored : nth k .anchor ≡ InBump bump
-    pub climbs : proving s (nthBump (b .bumps) bump) (idAt k) ≡ proved proof
+    pub climbs : proving s (nthBump (b .bumps) bump) (idAt k) ≡ accepted proof
     pub listed : Among (proof .root) (hashesOf roots)
 
   -- it is not anchored, and each of its parents is an earlier transaction
@@ -145,8 +148,8 @@ module _ (s roots : List ℕ) (b : Beef) where
   ids k = map (entryId s) (take k (b .entries))
 
   -- it passes after those before it
-  abbrev Passes : ℕ → Type 0
-  Passes k = (a : ℕ) × (n : ℕ) × (i : ℕ) × (standing s roots (b .bumps) (ids k) (nth k) ≡ passes a n i)
+  abbrev PassesAt : ℕ → Type 0
+  PassesAt k = (a : ℕ) × (n : ℕ) × (i : ℕ) × (standing s roots (b .bumps) (ids k) (nth k) ≡ Passes a n i)
 
   parent-of : (k : ℕ) → k < length (b .entries) → nth k .anchor ≡ Unanchored → rests s (ids k) (inputsAt k) ≡ true → Child k
   parent-of k low u e = record {
@@ -176,7 +179,7 @@ module _ (s roots : List ℕ) (b : Beef) where
   As k a n i (inl m) = (a ≡ 1) × (n ≡ m .bump) × (i ≡ m .proof .position)
   As k a n i (inr c) = (a ≡ 0) × (n ≡ 0) × (i ≡ 0)
 
-  passed-stands : (k a n i : ℕ) → k < length (b .entries) → standing s roots (b .bumps) (ids k) (nth k) ≡ passes a n i → New k × ((w : Mined k ⊎ Child k) × As k a n i w)
+  passed-stands : (k a n i : ℕ) → k < length (b .entries) → standing s roots (b .bumps) (ids k) (nth k) ≡ Passes a n i → New k × ((w : Mined k ⊎ Child k) × As k a n i w)
   unfolding standing anchoring
   passed-stands k a n i low e = go (among (idAt k) (ids k)) refl e
     where
@@ -186,25 +189,25 @@ module _ (s roots : List ℕ) (b : Beef) where
           let z : _≡_ {A = ℕ} 0 1 = cc in
           omega arith
 
-      child : nth k .anchor ≡ Unanchored → (t : Bool) → rests s (ids k) (inputsAt k) ≡ t → pick t (passes 0 0 0) (refuses NO-PARENT) ≡ passes a n i → (w : Mined k ⊎ Child k) × As k a n i w
+      child : nth k .anchor ≡ Unanchored → (t : Bool) → rests s (ids k) (inputsAt k) ≡ t → pick t (Passes 0 0 0) (Refuses (carrying NO-PARENT 0)) ≡ Passes a n i → (w : Mined k ⊎ Child k) × As k a n i w
       child u true q h = (inr (parent-of k low u q), (cc, cc, cc))
       child u false q h = absurd (let z : _≡_ {A = ℕ} 0 1 = cc in omega arith)
 
-      by-anchor : (x : Anchor) → nth k .anchor ≡ x → anchoring s roots (b .bumps) (ids k) (nth k) x ≡ passes a n i → (w : Mined k ⊎ Child k) × As k a n i w
+      by-anchor : (x : Anchor) → nth k .anchor ≡ x → anchoring s roots (b .bumps) (ids k) (nth k) x ≡ Passes a n i → (w : Mined k ⊎ Child k) × As k a n i w
       by-anchor (InBump m) u h =
           let w = trusted-told roots m (proving s (nthBump (b .bumps) m) (idAt k)) a n i h in
           (inl (record { bump = m; proof = w .0; anchored = u; climbs = w .1; listed = among-told (w .0 .root) (hashesOf roots) (w .2) }), (w .3, w .4, w .5))
       by-anchor Unanchored u h = child u (rests s (ids k) (inputsAt k)) refl h
 
-      go : (t : Bool) → among (idAt k) (ids k) ≡ t → pick t (refuses SAME-TX) (anchoring s roots (b .bumps) (ids k) (nth k) (nth k .anchor)) ≡ passes a n i → New k × ((w : Mined k ⊎ Child k) × As k a n i w)
+      go : (t : Bool) → among (idAt k) (ids k) ≡ t → pick t (Refuses (carrying SAME-TX 0)) (anchoring s roots (b .bumps) (ids k) (nth k) (nth k .anchor)) ≡ Passes a n i → New k × ((w : Mined k ⊎ Child k) × As k a n i w)
       go true h m = absurd (let z : _≡_ {A = ℕ} 0 1 = cc in omega arith)
       go false h m = (new h, by-anchor (nth k .anchor) refl m)
 
-  stands-passed : (k : ℕ) → k < length (b .entries) → Stands k → Passes k
+  stands-passed : (k : ℕ) → k < length (b .entries) → Stands k → PassesAt k
   unfolding standing anchoring
   stands-passed k low (new, w) = by (among (idAt k) (ids k)) refl w
     where
-      by : (t : Bool) → among (idAt k) (ids k) ≡ t → Mined k ⊎ Child k → Passes k
+      by : (t : Bool) → among (idAt k) (ids k) ≡ t → Mined k ⊎ Child k → PassesAt k
       by true h w =
           let t = earlier-told (entryId s) (b .entries) emptyEntry k (omega arith) (idAt k) h in
           absurd (new (t .0) (t .1) (t .2))

@@ -12,11 +12,15 @@ use Rattle.format.specs.Parse.{each, got, bad}
 use Rattle.format.specs.Beef.{entryField}
 use Rattle.format.specs.BeefAnswer.{entryHeadOf}
 use Rattle.format.specs.IdLaws.{span-length}
+use Rattle.format.specs.Refusals.{MAX-TXS}
+use Rattle.spv.specs.declared.bundle.Standing.the-variants.{Refuses, Passes}
 use Rattle.spv.specs.declared.table.Record.{Record}
 use Rattle.spv.specs.declared.bundle.Verdict.the-variants.{Accepted, Refused}
-use Rattle.spv.specs.Table.{flatHead, flat}
+use Rattle.spv.specs.declared.rejection.Rejection.{Rejection}
+use Rattle.spv.specs.Result.{accepted, refused, blaming}
+use Rattle.spv.specs.Table.{flatHead, flat, IDS-ROOM, NUMBERS-ROOM}
 use Rattle.spv.specs.TableLaws.{flat-more}
-use Rattle.spv.specs.Bundle.{hashesOf, refuses, passes, Judgement, refusedAs, accepted, judgeFrom}
+use Rattle.spv.specs.Bundle.{hashesOf, Judgement, judgeFrom}
 use Rattle.format.specs.Basics.{one-less}
 use Rattle.spv.specs.BundleHashes.{hashes-more, hashes-empty, taken-length}
 use Rattle.spv.specs.BundleLaws.{followed, followed-ahead, followed-none, from-refuses, from-passes, from-none}
@@ -40,11 +44,11 @@ module _ (s roots : List ℕ) (bumps : List BumpHead) (count n start : ℕ) wher
   -- the first i are in the flat form, and the next is read at a place
   pub record Judging (ids numbers : List ℕ) (i at : ℕ) : Type 0 where
     pub done : i ≤ n
-    pub wide : 8192 ≤ length ids
-    pub long : 1280 ≤ length numbers
+    pub wide : IDS-ROOM ≤ length ids
+    pub long : NUMBERS-ROOM ≤ length numbers
     pub kept : followed (flat i ids numbers) (from (earlier ids i) (rest i at)) ≡ whole
 
-  pub judging-start : {ids numbers : List ℕ} → 8192 ≤ length ids → 1280 ≤ length numbers → Judging ids numbers 0 start
+  pub judging-start : {ids numbers : List ℕ} → IDS-ROOM ≤ length ids → NUMBERS-ROOM ≤ length numbers → Judging ids numbers 0 start
   unfolding flat
   judging-start {ids} h f = record {
     done = omega arith;
@@ -66,7 +70,7 @@ module _ (s roots : List ℕ) (bumps : List BumpHead) (count n start : ℕ) wher
     unfolding headsFrom
     judging-end past = ends (let none : n - i ≡ 0 = omega arith in rw none)
 
-    module _ (few : n ≤ 256) (low : i < n) where
+    module _ (few : n ≤ MAX-TXS) (low : i < n) where
       pub judging-stops : {k q : ℕ} → each entryHeadOf (entryField count s at) ≡ bad k q → judgementOf (Accepted i) ids numbers ≡ whole
       unfolding headsFrom
       judging-stops e = ends (rw (one-less n i low) (rw e))
@@ -76,14 +80,14 @@ module _ (s roots : List ℕ) (bumps : List BumpHead) (count n start : ℕ) wher
         unfolding headsFrom
         next = rw (one-less n i low) (rw read)
 
-        pub judging-refused : {number : ℕ} → headStands s roots bumps (earlier ids i) e ≡ refuses number → judgementOf (Refused (record { number = number; place = i })) ids numbers ≡ whole
+        pub judging-refused : {why : Rejection} → headStands s roots bumps (earlier ids i) e ≡ Refuses why → judgementOf (Refused (blaming i why)) ids numbers ≡ whole
         unfolding judgementOf followed
-        judging-refused {number} t =
-            ap (λ (k : ℕ). followed (flat i ids numbers) (refusedAs number k)) (sym (taken-length i ids (let w = j .wide in omega arith)))
-            ∙ ap (followed (flat i ids numbers)) (sym (ap (from (earlier ids i)) next ∙ from-refuses (headId s) (headStands s roots bumps) (headRow s) (earlier ids i) e (rest (i + 1) q) number t))
+        judging-refused {why} t =
+            ap (λ (k : ℕ). followed (flat i ids numbers) (refused (blaming k why))) (sym (taken-length i ids (let w = j .wide in omega arith)))
+            ∙ ap (followed (flat i ids numbers)) (sym (ap (from (earlier ids i)) next ∙ from-refuses (headId s) (headStands s roots bumps) (headRow s) (earlier ids i) e (rest (i + 1) q) why t))
             ∙ j .kept
 
-        passes-on : {a m p : ℕ} → headStands s roots bumps (earlier ids i) e ≡ passes a m p
+        passes-on : {a m p : ℕ} → headStands s roots bumps (earlier ids i) e ≡ Passes a m p
             → Judging (paste ids (32 * i) (headId s e) 32) (paste numbers (5 * i) (numbersOf (e .transaction) a m p) 5) (i + 1) q
         passes-on {a} {m} {p} t = record {
           done = omega arith;
@@ -91,7 +95,7 @@ module _ (s roots : List ℕ) (bumps : List BumpHead) (count n start : ℕ) wher
           long = let w = length-paste numbers (5 * i) y 5 within (omega arith) in let o = j .long in omega arith;
           kept =
               ap (λ (l : List Record). followed l (from (earlier ids′ (i + 1)) (rest (i + 1) q))) (flat-more i ids numbers x y inside within known refl)
-              ∙ ap (λ (l : List (List ℕ)). followed (flat i ids numbers ++ (flatHead x y ∷ [])) (from l (rest (i + 1) q))) one-more
+              ∙ ap (λ (l : List (List ℕ)). followed (flat i ids numbers ++ (flatHead x y ∷ [])) (from l (rest (i + 1) q))) one-further
               ∙ sym (followed-ahead (flat i ids numbers) (flatHead x y) (from (earlier ids i ++ (x ∷ [])) (rest (i + 1) q)))
               ∙ ap (followed (flat i ids numbers)) (sym (ap (from (earlier ids i)) next ∙ from-passes (headId s) (headStands s roots bumps) (headRow s) (earlier ids i) e (rest (i + 1) q) a m p t))
               ∙ j .kept;
@@ -115,14 +119,14 @@ module _ (s roots : List ℕ) (bumps : List BumpHead) (count n start : ℕ) wher
             within : 5 * i + 5 ≤ length numbers
             within = let o = j .long in omega arith
 
-            one-more : earlier ids′ (i + 1) ≡ earlier ids i ++ (x ∷ [])
-            one-more =
+            one-further : earlier ids′ (i + 1) ≡ earlier ids i ++ (x ∷ [])
+            one-further =
                 let next-id : 32 * (i + 1) ≡ 32 * i + 32 = omega arith in
                 let size = known in
                 ap (λ (k : ℕ). hashesOf (take k ids′)) next-id
                 ∙ ap hashesOf (take-paste ids (32 * i) x 32 (omega arith) (omega arith) ∙ ap (λ (l : List ℕ). take (32 * i) ids ++ l) (take-all 32 x (omega arith)))
                 ∙ hashes-more i (take (32 * i) ids) x (length-take-le (32 * i) ids (omega arith)) known
 
-        pub judging-passes : {a m p : ℕ} {x y ids′ numbers′ : List ℕ} → headStands s roots bumps (earlier ids i) e ≡ passes a m p → x ≡ headId s e → y ≡ numbersOf (e .transaction) a m p
+        pub judging-passes : {a m p : ℕ} {x y ids′ numbers′ : List ℕ} → headStands s roots bumps (earlier ids i) e ≡ Passes a m p → x ≡ headId s e → y ≡ numbersOf (e .transaction) a m p
             → ids′ ≡ paste ids (32 * i) x 32 → numbers′ ≡ paste numbers (5 * i) y 5 → Judging ids′ numbers′ (i + 1) q
         judging-passes t is its new new-row = rw (new, new-row, is, its) (passes-on t)

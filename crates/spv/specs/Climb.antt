@@ -7,6 +7,8 @@ use Rattle.hash.specs.Sha256.{sha256d}
 use Rattle.format.specs.Bytes.{same}
 use Rattle.format.specs.Parse.{pick}
 use Rattle.format.specs.Refusals.{MISSING, TWIN}
+use Rattle.spv.specs.declared.rejection.Rejection.{Rejection}
+use Rattle.spv.specs.Result.{Result, accepted, refused, atSibling}
 
 -- what a form has at a layer and position: a hash, a copy of the working hash, or nothing
 pub data Sibling : Type 0 where
@@ -22,13 +24,13 @@ abbrev pub odd : ℕ → Bool
 odd j = eqb (j % 2) 1
 
 -- the sibling of position j is j+1 for even j, j-1 for odd j
-unfoldable pub beside : ℕ → ℕ
-beside j = pick (odd j) (j - 1) (j + 1)
+unfoldable pub siblingPosition : ℕ → ℕ
+siblingPosition j = pick (odd j) (j - 1) (j + 1)
 
 -- the siblings' positions of i over h layers
-unfoldable pub besides : ℕ → ℕ → List ℕ
-besides i zero = []
-besides i (suc h) = beside i ∷ besides (i / 2) h
+unfoldable pub siblingPositions : ℕ → ℕ → List ℕ
+siblingPositions i zero = []
+siblingPositions i (suc h) = siblingPosition i ∷ siblingPositions (i / 2) h
 
 -- one layer: the two halves of what is hashed, or the number of the refusal
 pub data Step : Type 0 where
@@ -50,34 +52,30 @@ step absent o c = fails MISSING
 pub data Ascent : Type 0 where
   top : Ascent
   up : List ℕ → Ascent → Ascent
-  stop : ℕ → ℕ → ℕ → Ascent
+  stop : Rejection → Ascent
 
 -- the climb by any hash: from c at position j of layer k, over n layers
 unfoldable pub ascendBy : (List ℕ → List ℕ) → Siblings → ℕ → ℕ → ℕ → List ℕ → Ascent
 ascendBy hash σ k zero j c = top
 ascendBy hash σ k (suc n) j c =
-    elim (step (σ k (beside j)) (odd j) c)
-    [ joins a b ↦ up (a ++ b) (ascendBy hash σ (suc k) n (j / 2) (hash (a ++ b))) | fails number ↦ stop number k (beside j) ]
+    elim (step (σ k (siblingPosition j)) (odd j) c)
+    [ joins a b ↦ up (a ++ b) (ascendBy hash σ (suc k) n (j / 2) (hash (a ++ b))) | fails number ↦ stop (atSibling number k (siblingPosition j)) ]
 
--- what a climb from c comes to
-pub data Outcome : Type 0 where
-  rooted : List ℕ → Outcome
-  refused : ℕ → ℕ → ℕ → Outcome
-
-unfoldable pub outcomeBy : (List ℕ → List ℕ) → List ℕ → Ascent → Outcome
-outcomeBy hash c top = rooted c
-outcomeBy hash c (up t a) = outcomeBy hash (hash t) a
-outcomeBy hash c (stop number k q) = refused number k q
+-- what a climb from c comes to: the root
+unfoldable pub endBy : (List ℕ → List ℕ) → List ℕ → Ascent → Result (List ℕ)
+endBy hash c top = accepted c
+endBy hash c (up t a) = endBy hash (hash t) a
+endBy hash c (stop x) = refused x
 
 -- the strings hashed, from the lowest layer
-unfoldable pub strings : Ascent → List (List ℕ)
-strings top = []
-strings (up t a) = t ∷ strings a
-strings (stop number k q) = []
+unfoldable pub preimagesOf : Ascent → List (List ℕ)
+preimagesOf top = []
+preimagesOf (up t a) = t ∷ preimagesOf a
+preimagesOf (stop x) = []
 
 -- "Hash" is double SHA-256
 abbrev pub ascend : Siblings → ℕ → ℕ → ℕ → List ℕ → Ascent
 ascend = ascendBy sha256d
 
-abbrev pub outcome : List ℕ → Ascent → Outcome
-outcome = outcomeBy sha256d
+abbrev pub endOf : List ℕ → Ascent → Result (List ℕ)
+endOf = endBy sha256d

@@ -12,7 +12,8 @@ use Rattle.hash.specs.Sha256.{sha256d}
 use Rattle.format.specs.Basics.{one-less}
 use Rattle.format.specs.Bytes.{same}
 use Rattle.format.specs.Refusals.{TWIN}
-use Rattle.spv.specs.Climb.{Sibling, Siblings, odd, beside, besides, Step, joined, step, Ascent, ascendBy, ascend, joins, fails, top, up, stop}
+use Rattle.spv.specs.Result.{atSibling}
+use Rattle.spv.specs.Climb.{Sibling, Siblings, odd, siblingPosition, siblingPositions, Step, joined, step, Ascent, ascendBy, ascend, joins, fails, top, up, stop}
 
 -- ---- one layer
 
@@ -29,37 +30,37 @@ module _ (c p : List ℕ) where
   unfolding joined
   joined-twin e = rw e
 
-pub beside-odd : (j : ℕ) → j % 2 ≡ 1 → beside j ≡ j - 1
-unfolding beside
-beside-odd j e = rw (eq-eqb (j % 2) 1 e)
+pub sibling-odd : (j : ℕ) → j % 2 ≡ 1 → siblingPosition j ≡ j - 1
+unfolding siblingPosition
+sibling-odd j e = rw (eq-eqb (j % 2) 1 e)
 
-pub beside-even : (j : ℕ) → (j % 2 ≡ 1 → ⊥) → beside j ≡ j + 1
-unfolding beside
-beside-even j e = rw (ne-eqb (j % 2) 1 e)
+pub sibling-even : (j : ℕ) → (j % 2 ≡ 1 → ⊥) → siblingPosition j ≡ j + 1
+unfolding siblingPosition
+sibling-even j e = rw (ne-eqb (j % 2) 1 e)
 
 -- ---- the climb
 
 module _ (σ : Siblings) (k n j : ℕ) (c : List ℕ) where
-  pub ascend-joins : (a b : List ℕ) → step (σ k (beside j)) (odd j) c ≡ joins a b → ascend σ k (suc n) j c ≡ up (a ++ b) (ascend σ (suc k) n (j / 2) (sha256d (a ++ b)))
+  pub ascend-joins : (a b : List ℕ) → step (σ k (siblingPosition j)) (odd j) c ≡ joins a b → ascend σ k (suc n) j c ≡ up (a ++ b) (ascend σ (suc k) n (j / 2) (sha256d (a ++ b)))
   unfolding ascendBy
   ascend-joins a b e = rw (ascendBy, e)
 
-  pub ascend-fails : (number : ℕ) → step (σ k (beside j)) (odd j) c ≡ fails number → ascend σ k (suc n) j c ≡ stop number k (beside j)
+  pub ascend-fails : (number : ℕ) → step (σ k (siblingPosition j)) (odd j) c ≡ fails number → ascend σ k (suc n) j c ≡ stop (atSibling number k (siblingPosition j))
   unfolding ascendBy
   ascend-fails number e = rw (ascendBy, e)
 
 abbrev pub ascendedBy : (List ℕ → List ℕ) → Siblings → ℕ → ℕ → ℕ → Step → Ascent
-ascendedBy hash σ k n j s = elim s [ joins a b ↦ up (a ++ b) (ascendBy hash σ (suc k) n (j / 2) (hash (a ++ b))) | fails number ↦ stop number k (beside j) ]
+ascendedBy hash σ k n j s = elim s [ joins a b ↦ up (a ++ b) (ascendBy hash σ (suc k) n (j / 2) (hash (a ++ b))) | fails number ↦ stop (atSibling number k (siblingPosition j)) ]
 
 abbrev pub ascended : Siblings → ℕ → ℕ → ℕ → Step → Ascent
 ascended = ascendedBy sha256d
 
 -- one turn of a loop that climbs: m layers are done of h, and the layer is k
 module _ (σ : Siblings) (k m h j : ℕ) (c : List ℕ) (b : m < h) where
-  pub turn-joins : (l r : List ℕ) → step (σ k (beside j)) (odd j) c ≡ joins l r → ascend σ k (h - m) j c ≡ up (l ++ r) (ascend σ (k + 1) (h - (m + 1)) (j / 2) (sha256d (l ++ r)))
+  pub turn-joins : (l r : List ℕ) → step (σ k (siblingPosition j)) (odd j) c ≡ joins l r → ascend σ k (h - m) j c ≡ up (l ++ r) (ascend σ (k + 1) (h - (m + 1)) (j / 2) (sha256d (l ++ r)))
   turn-joins l r e = rw (one-less h m b, add-one k) (ascend-joins σ k (h - (m + 1)) j c l r e)
 
-  pub turn-fails : (number : ℕ) → step (σ k (beside j)) (odd j) c ≡ fails number → ascend σ k (h - m) j c ≡ stop number k (beside j)
+  pub turn-fails : (number : ℕ) → step (σ k (siblingPosition j)) (odd j) c ≡ fails number → ascend σ k (h - m) j c ≡ stop (atSibling number k (siblingPosition j))
   turn-fails number e = rw (one-less h m b) (ascend-fails σ k (h - (m + 1)) j c number e)
 
 -- at the end nothing is left
@@ -68,15 +69,15 @@ unfolding ascendBy
 turn-none σ k m h j c b = let e : h - m ≡ 0 = omega arith in rw e
 
 -- two forms that agree beside a climb give one climb
-pub ascend-agree : (σ τ : Siblings) (k n j : ℕ) (c : List ℕ) → ((m : ℕ) → m < n → σ (k + m) (getD (besides j n) m 0) ≡ τ (k + m) (getD (besides j n) m 0)) → ascend σ k n j c ≡ ascend τ k n j c
-unfolding ascendBy besides
+pub ascend-agree : (σ τ : Siblings) (k n j : ℕ) (c : List ℕ) → ((m : ℕ) → m < n → σ (k + m) (getD (siblingPositions j n) m 0) ≡ τ (k + m) (getD (siblingPositions j n) m 0)) → ascend σ k n j c ≡ ascend τ k n j c
+unfolding ascendBy siblingPositions
 ascend-agree σ τ k zero j c f = refl
 ascend-agree σ τ k (suc n) j c f =
-    let e : σ k (beside j) ≡ τ k (beside j) = rw add-zero at (f 0 (zero-lt-suc n)) in
+    let e : σ k (siblingPosition j) ≡ τ k (siblingPosition j) = rw add-zero at (f 0 (zero-lt-suc n)) in
     ap (λ (x : Sibling). ascended σ k n j (step x (odd j) c)) e
-    ∙ (go (step (τ k (beside j)) (odd j) c) (λ d. ascend-agree σ τ (suc k) n (j / 2) d above))
+    ∙ (go (step (τ k (siblingPosition j)) (odd j) c) (λ d. ascend-agree σ τ (suc k) n (j / 2) d above))
   where
-    above : (m : ℕ) → m < n → σ (suc k + m) (getD (besides (j / 2) n) m 0) ≡ τ (suc k + m) (getD (besides (j / 2) n) m 0)
+    above : (m : ℕ) → m < n → σ (suc k + m) (getD (siblingPositions (j / 2) n) m 0) ≡ τ (suc k + m) (getD (siblingPositions (j / 2) n) m 0)
     above m h = let e : k + suc m ≡ suc k + m = omega arith in rw e at (f (suc m) (suc-le-suc h))
 
     go : (s : Step) → ((d : List ℕ) → ascend σ (suc k) n (j / 2) d ≡ ascend τ (suc k) n (j / 2) d) → ascended σ k n j s ≡ ascended τ k n j s
@@ -85,4 +86,4 @@ ascend-agree σ τ k (suc n) j c f =
 
 -- forms that agree below h layers
 pub ascend-same : (σ τ : Siblings) (h : ℕ) → ((k q : ℕ) → k < h → σ k q ≡ τ k q) → (j : ℕ) (c : List ℕ) → ascend σ 0 h j c ≡ ascend τ 0 h j c
-ascend-same σ τ h f j c = ascend-agree σ τ 0 h j c (λ m b. f (0 + m) (getD (besides j h) m 0) (omega arith))
+ascend-same σ τ h f j c = ascend-agree σ τ 0 h j c (λ m b. f (0 + m) (getD (siblingPositions j h) m 0) (omega arith))

@@ -9,13 +9,15 @@ use lib.Seq.{take-at, drop-at}
 use native.Mathlib.Omega.{arith}
 use borrow.Author.Tests.{eq-eqb}
 use Rattle.hash.specs.Sha256.{sha256d}
-use Rattle.format.specs.Bytes.{same, same-eq, same-ne, eq-same, ne-same}
+use Rattle.format.specs.Bytes.{same}
+use Rattle.format.specs.BytesLaws.{same-eq, same-ne, eq-same, ne-same}
 use Rattle.format.specs.Parse.{pick}
 use Rattle.format.specs.Refusals.{TWIN, UNLIKE, SAME-ID}
-use Rattle.spv.specs.Climb.{Sibling, value, copied, absent, Siblings, Step, joins, fails, Ascent, rooted, odd, beside, joined, step, ascendBy, outcomeBy, strings}
+use Rattle.spv.specs.Result.{Result, accepted, refused, carrying}
+use Rattle.spv.specs.Climb.{Sibling, value, copied, absent, Siblings, Step, joins, fails, Ascent, odd, siblingPosition, joined, step, ascendBy, endBy, preimagesOf}
 use Rattle.spv.specs.ClimbLaws.{ascendedBy}
-use Rattle.spv.specs.Compare.{Reading, unread, read, Proof, Verdict, denied, proved, judgeBy, Met, at, never, meetBy, Answer, told, pair, answerOf, alike, againstBy, compareBy, CollisionBy}
-use Rattle.spv.specs.CompareLaws.{judge-proved-by, alike-told}
+use Rattle.spv.specs.Compare.{Reading, unread, read, Proof, proveBy, Met, at, never, meetBy, stringsOf, alike, againstBy, compareBy, CollisionBy, Strings, pair}
+use Rattle.spv.specs.CompareLaws.{prove-accepted-by, alike-told}
 
 -- ---- what a hash of 32 bytes stands in
 
@@ -54,7 +56,7 @@ step-stands absent o c a b w lc e = let z : _≡_ {A = ℕ} 0 1 = cc in absurd (
 
 -- the id and every sibling have 32 bytes
 unfoldable pub WholeReading : Reading → Type 0
-WholeReading (unread number place) = Unit
+WholeReading (unread why) = Unit
 WholeReading (read σ h i c w) = (length c ≡ 32) × ((k q : ℕ) → Whole (σ k q))
 
 module _ (hash : List ℕ → List ℕ) where
@@ -126,41 +128,49 @@ module _ (hash : List ℕ → List ℕ) where
 
   -- a climb of n layers from c at position j to r, by its strings
   abbrev Climbed : ℕ → ℕ → List ℕ → Ascent → List ℕ → Type 0
-  Climbed n j c a r = Linked j c (strings a) r × (length (strings a) ≡ n)
+  Climbed n j c a r = Linked j c (preimagesOf a) r × (length (preimagesOf a) ≡ n)
 
   abbrev Sound : Proof → Type 0
-  Sound x = Linked (x .position) (x .id) (x .made) (x .root) × (length (x .made) ≡ x .layers)
+  Sound x = Linked (x .position) (x .id) (x .preimages) (x .root) × (length (x .preimages) ≡ x .layers)
 
   -- what demand 3 asks of comparing: two different 64-byte strings of one hash, exactly those that the climbs hashed at the lowest layer where they meet
-  pub record CollidedBy (x y : Proof) (v : Answer) : Type 0 where
+  pub record CollidedBy (x y : Proof) (v : Result Strings) : Type 0 where
     pub t : List ℕ
     pub u : List ℕ
     pub answer : v ≡ pair t u
     pub long : (length t ≡ 64) × (length u ≡ 64)
-    pub collision : CollisionBy hash (x .made) (y .made) t u
+    pub collision : CollisionBy hash (x .preimages) (y .preimages) t u
 
   -- the other way: whatever pair comparing answers comes from two such proofs
 
   -- v and w accept two proofs that agree and prove different ids, whose climbs meet first in t and u
-  pub record CollidingBy (v w : Verdict) (t u : List ℕ) : Type 0 where
+  pub record CollidingBy (v w : Result Proof) (t u : List ℕ) : Type 0 where
     pub x : Proof
     pub y : Proof
-    pub first : v ≡ proved x
-    pub second : w ≡ proved y
+    pub first : v ≡ accepted x
+    pub second : w ≡ accepted y
     pub root : x .root ≡ y .root
     pub position : x .position ≡ y .position
     pub layers : x .layers ≡ y .layers
     pub differ : x .id ≡ y .id → ⊥
-    pub met : meetBy hash (x .made) (y .made) ≡ at t u
+    pub met : meetBy hash (x .preimages) (y .preimages) ≡ at t u
 
-  pub compare-pair : (v w : Verdict) (t u : List ℕ) → compareBy hash v w ≡ pair t u → CollidingBy v w t u
-  unfolding compareBy againstBy answerOf
-  compare-pair (denied number place k q) w t u e = let z : _≡_ {A = ℕ} 0 1 = cc in absurd (omega arith)
-  compare-pair (proved x) (denied number place k q) t u e = let z : _≡_ {A = ℕ} 0 1 = cc in absurd (omega arith)
-  compare-pair (proved x) (proved y) t u e = go (alike x y) refl (same (x .id) (y .id)) refl (meetBy hash (x .made) (y .made)) refl e
+  -- the strings of an answer are those where the climbs meet
+  pair-told : {t u : List ℕ} (t′ u′ : List ℕ) → pair t′ u′ ≡ pair t u → at t′ u′ ≡ at t u
+  pair-told t′ u′ e = ap of-result e
     where
-      go : (a : Bool) → alike x y ≡ a → (b : Bool) → same (x .id) (y .id) ≡ b → (m : Met) → meetBy hash (x .made) (y .made) ≡ m
-          → pick a (pick b (told SAME-ID 0 0 0) (answerOf m)) (told UNLIKE 0 0 0) ≡ pair t u → CollidingBy (proved x) (proved y) t u
+      of-result : Result Strings → Met
+      of-result (accepted x) = at (x .first) (x .second)
+      of-result (refused why) = never
+
+  pub compare-pair : (v w : Result Proof) (t u : List ℕ) → compareBy hash v w ≡ pair t u → CollidingBy v w t u
+  unfolding compareBy againstBy stringsOf
+  compare-pair (refused why) w t u e = let z : _≡_ {A = ℕ} 0 1 = cc in absurd (omega arith)
+  compare-pair (accepted x) (refused why) t u e = let z : _≡_ {A = ℕ} 0 1 = cc in absurd (omega arith)
+  compare-pair (accepted x) (accepted y) t u e = go (alike x y) refl (same (x .id) (y .id)) refl (meetBy hash (x .preimages) (y .preimages)) refl e
+    where
+      go : (a : Bool) → alike x y ≡ a → (b : Bool) → same (x .id) (y .id) ≡ b → (m : Met) → meetBy hash (x .preimages) (y .preimages) ≡ m
+          → pick a (pick b (refused (carrying SAME-ID 0)) (stringsOf m)) (refused (carrying UNLIKE 0)) ≡ pair t u → CollidingBy (accepted x) (accepted y) t u
       go false ea b eb m em f = let z : _≡_ {A = ℕ} 0 1 = cc in absurd (omega arith)
       go true ea true eb m em f = let z : _≡_ {A = ℕ} 0 1 = cc in absurd (omega arith)
       go true ea false eb never em f = let z : _≡_ {A = ℕ} 0 1 = cc in absurd (omega arith)
@@ -175,58 +185,58 @@ module _ (hash : List ℕ → List ℕ) where
             position = g .1;
             layers = g .2;
             differ = same-ne (x .id) (y .id) eb;
-            met = cc;
+            met = em ∙ pair-told t′ u′ f;
           }
 
 -- ---- demand 3
 
 module _ (hash : List ℕ → List ℕ) (wide : (t : List ℕ) → length (hash t) ≡ 32) where
   -- an accepted climb is linked
-  ascend-linked : (σ : Siblings) → ((k q : ℕ) → Whole (σ k q)) → (k n j : ℕ) (c r : List ℕ) → length c ≡ 32 → outcomeBy hash c (ascendBy hash σ k n j c) ≡ rooted r → Climbed hash n j c (ascendBy hash σ k n j c) r
-  unfolding ascendBy outcomeBy strings Linked
+  ascend-linked : (σ : Siblings) → ((k q : ℕ) → Whole (σ k q)) → (k n j : ℕ) (c r : List ℕ) → length c ≡ 32 → endBy hash c (ascendBy hash σ k n j c) ≡ accepted r → Climbed hash n j c (ascendBy hash σ k n j c) r
+  unfolding ascendBy endBy preimagesOf Linked
   ascend-linked σ w k zero j c r lc e = (cc, refl)
   ascend-linked σ w k (suc n) j c r lc e =
-      go (step (σ k (beside j)) (odd j) c) refl e (λ d x. ascend-linked σ w (suc k) n (j / 2) (hash d) r (wide d) x)
+      go (step (σ k (siblingPosition j)) (odd j) c) refl e (λ d x. ascend-linked σ w (suc k) n (j / 2) (hash d) r (wide d) x)
     where
-      go : (s : Step) → step (σ k (beside j)) (odd j) c ≡ s → outcomeBy hash c (ascendedBy hash σ k n j s) ≡ rooted r
-          → ((d : List ℕ) → outcomeBy hash (hash d) (ascendBy hash σ (suc k) n (j / 2) (hash d)) ≡ rooted r → Climbed hash n (j / 2) (hash d) (ascendBy hash σ (suc k) n (j / 2) (hash d)) r)
+      go : (s : Step) → step (σ k (siblingPosition j)) (odd j) c ≡ s → endBy hash c (ascendedBy hash σ k n j s) ≡ accepted r
+          → ((d : List ℕ) → endBy hash (hash d) (ascendBy hash σ (suc k) n (j / 2) (hash d)) ≡ accepted r → Climbed hash n (j / 2) (hash d) (ascendBy hash σ (suc k) n (j / 2) (hash d)) r)
           → Climbed hash (suc n) j c (ascendedBy hash σ k n j s) r
       go (joins a b) q x ih =
-          let st = step-stands (σ k (beside j)) (odd j) c a b (w k (beside j)) lc q in
+          let st = step-stands (σ k (siblingPosition j)) (odd j) c a b (w k (siblingPosition j)) lc q in
           let l = ih (a ++ b) x in
           ((st .0, st .1, l .0), ap suc (l .1))
       go (fails number) q x ih = let z : _≡_ {A = ℕ} 0 1 = cc in absurd (omega arith)
 
-  pub judge-sound : (a : Reading) (x : Proof) → WholeReading a → judgeBy hash a ≡ proved x → Sound hash x
-  unfolding judgeBy WholeReading
-  judge-sound (unread number place) x w e = let z : _≡_ {A = ℕ} 0 1 = cc in absurd (omega arith)
-  judge-sound (read σ h i c g) x w e =
-      let p = judge-proved-by hash σ h i c g x e in
+  pub prove-sound : (a : Reading) (x : Proof) → WholeReading a → proveBy hash a ≡ accepted x → Sound hash x
+  unfolding proveBy WholeReading
+  prove-sound (unread why) x w e = let z : _≡_ {A = ℕ} 0 1 = cc in absurd (omega arith)
+  prove-sound (read σ h i c g) x w e =
+      let p = prove-accepted-by hash σ h i c g x e in
       subst (Sound hash) (sym (p .0)) (ascend-linked σ (w .1) 0 h i c (x .root) (w .0) (p .1))
 
-  pub demand3-whole : (a b : Reading) → WholeReading a → WholeReading b → (x y : Proof) → judgeBy hash a ≡ proved x → judgeBy hash b ≡ proved y
+  pub demand3-whole : (a b : Reading) → WholeReading a → WholeReading b → (x y : Proof) → proveBy hash a ≡ accepted x → proveBy hash b ≡ accepted y
       → x .root ≡ y .root → x .position ≡ y .position → x .layers ≡ y .layers → (x .id ≡ y .id → ⊥)
-      → CollidedBy hash x y (compareBy hash (judgeBy hash a) (judgeBy hash b))
-  unfolding compareBy againstBy alike answerOf
+      → CollidedBy hash x y (compareBy hash (proveBy hash a) (proveBy hash b))
+  unfolding compareBy againstBy alike stringsOf
   demand3-whole a b wa wb x y ea eb er ep el ne =
-      let sx = judge-sound a x wa ea in
-      let sy = judge-sound b y wb eb in
-      let ly : Linked hash (x .position) (y .id) (y .made) (x .root) = subst (λ (r : List ℕ). Linked hash (x .position) (y .id) (y .made) r) (sym er) (subst (λ (i : ℕ). Linked hash i (y .id) (y .made) (y .root)) (sym ep) (sy .0)) in
-      let k = collide hash (x .made) (y .made) (x .position) (x .id) (y .id) (x .root) (sx .0) ly (sx .1 ∙ el ∙ sym (sy .1)) ne in
+      let sx = prove-sound a x wa ea in
+      let sy = prove-sound b y wb eb in
+      let ly : Linked hash (x .position) (y .id) (y .preimages) (x .root) = subst (λ (r : List ℕ). Linked hash (x .position) (y .id) (y .preimages) r) (sym er) (subst (λ (i : ℕ). Linked hash i (y .id) (y .preimages) (y .root)) (sym ep) (sy .0)) in
+      let k = collide hash (x .preimages) (y .preimages) (x .position) (x .id) (y .id) (x .root) (sx .0) ly (sx .1 ∙ el ∙ sym (sy .1)) ne in
       record {
         t = k .0;
         u = k .1;
         answer = rw (ea, eb, compareBy, againstBy, alike, eq-same (x .root) (y .root) er, eq-eqb (x .position) (y .position) ep, eq-eqb (x .layers) (y .layers) el, ne-same (x .id) (y .id) ne, k .2);
         long = (
-          ap length (sym (k .3 .first)) ∙ linked-long hash (x .made) (x .position) (x .id) (x .root) (sx .0) (k .3 .layer) (k .3 .below),
-          ap length (sym (k .3 .second)) ∙ linked-long hash (y .made) (x .position) (y .id) (x .root) ly (k .3 .layer) (subst (λ (n : ℕ). k .3 .layer < n) (sx .1 ∙ el ∙ sym (sy .1)) (k .3 .below)),
+          ap length (sym (k .3 .first)) ∙ linked-long hash (x .preimages) (x .position) (x .id) (x .root) (sx .0) (k .3 .layer) (k .3 .below),
+          ap length (sym (k .3 .second)) ∙ linked-long hash (y .preimages) (x .position) (y .id) (x .root) ly (k .3 .layer) (subst (λ (n : ℕ). k .3 .layer < n) (sx .1 ∙ el ∙ sym (sy .1)) (k .3 .below)),
         );
         collision = k .3;
       }
 
 -- "Hash" is double SHA-256
-abbrev pub Collided : Proof → Proof → Answer → Type 0
+abbrev pub Collided : Proof → Proof → Result Strings → Type 0
 Collided = CollidedBy sha256d
 
-abbrev pub Colliding : Verdict → Verdict → List ℕ → List ℕ → Type 0
+abbrev pub Colliding : Result Proof → Result Proof → List ℕ → List ℕ → Type 0
 Colliding = CollidingBy sha256d

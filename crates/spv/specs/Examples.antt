@@ -5,12 +5,13 @@ use mathlib.Core.List.{List, [], _∷_, map}
 use Prim.Native.Nat.{ℕ}
 use Rattle.format.specs.Parse.{Parse, each, many, whole, got, bad}
 use Rattle.format.specs.Field.{bytes, byte, varint}
-use Rattle.format.specs.Level.{holds, offsetField, flagField, kindField, carriedField, leafField, levelField, written}
+use Rattle.format.specs.Level.{holds, offsetField, flagField, kindField, carriedField, leafField, levelField, levelOfTurn}
 use Rattle.format.specs.Bump.{Bump, blockField, heightField, bumpField, bumpWhole}
 use Rattle.format.specs.Search.{leastOffset}
 use Rattle.format.specs.Tsc.{indexFits}
-use Rattle.spv.specs.Climb.{beside, besides}
-use Rattle.spv.specs.Compare.{Verdict, denied, judgeBy, judge}
+use Rattle.spv.specs.Result.{Result, refused, carrying}
+use Rattle.spv.specs.Climb.{siblingPosition, siblingPositions}
+use Rattle.spv.specs.Compare.{proveBy, prove, Proof}
 use Rattle.spv.specs.Readings.{starting, levelsReading, bumpReading}
 
 pub data Input : Type 0 where
@@ -20,28 +21,28 @@ pub data Input : Type 0 where
   positionsOf : List ℕ → ℕ → Input
 
 -- a BUMP answers its reading, and what it proves of every id
-pub data Answer : Type 0 where
-  number : Parse ℕ → Answer
-  path : Parse Bump → (List ℕ → Verdict) → Answer
-  siblings : List ℕ → Answer
-  allowed : List Bool → Answer
+pub data Given : Type 0 where
+  number : Parse ℕ → Given
+  path : Parse Bump → (List ℕ → Result Proof) → Given
+  siblings : List ℕ → Given
+  allowed : List Bool → Given
 
 pub record Case : Type 0 where
   pub input : Input
-  pub answer : Answer
+  pub answer : Given
 
-unfoldable pub answerOf : Input → Answer
-answerOf (varIntOf s) = number (varint s 0)
-answerOf (bumpOf s) = path (bumpWhole s) (λ id. judge (bumpReading s id))
-answerOf (siblingsOf i h) = siblings (besides i h)
-answerOf (positionsOf is h) = allowed (map (λ i. indexFits i h) is)
+unfoldable pub given : Input → Given
+given (varIntOf s) = number (varint s 0)
+given (bumpOf s) = path (bumpWhole s) (λ id. prove (bumpReading s id))
+given (siblingsOf i h) = siblings (siblingPositions i h)
+given (positionsOf is h) = allowed (map (λ i. indexFits i h) is)
 
-abbrev pub case : Input → Answer → Case
+abbrev pub case : Input → Given → Case
 case i a = record { input = i; answer = a }
 
 -- a BUMP that is refused, and so is every id by it
-abbrev pub refusedPath : ℕ → ℕ → Answer
-refusedPath n place = path (bad n place) (λ id. denied n place 0 0)
+abbrev pub refusedPath : ℕ → ℕ → Given
+refusedPath n place = path (bad n place) (λ id. refused (carrying n place))
 
 unfoldable pub cases : List Case
 cases =
@@ -51,7 +52,7 @@ cases =
     case (varIntOf (0xfe ∷ 0x63 ∷ 0x6d ∷ 0x0c ∷ 0x00 ∷ [])) (number (got 814435 5)) ∷
     case (varIntOf (0xfe ∷ 0xff ∷ 0xff ∷ 0x00 ∷ 0x00 ∷ [])) (number (bad 3 0)) ∷
     case (varIntOf []) (number (bad 2 0)) ∷
-    case (bumpOf (0x00 ∷ 0x01 ∷ 0x00 ∷ [])) (path (got (record { block = 0; height = 1; start = 2; levels = [] ∷ [] }) 3) (λ id. denied 13 0 0 0)) ∷
+    case (bumpOf (0x00 ∷ 0x01 ∷ 0x00 ∷ [])) (path (got (record { block = 0; height = 1; start = 2; levels = [] ∷ [] }) 3) (λ id. refused (carrying 13 0))) ∷
     case (bumpOf (0x00 ∷ 0x00 ∷ [])) (refusedPath 4 1) ∷
     case (bumpOf (0x00 ∷ 0x21 ∷ [])) (refusedPath 4 1) ∷
     case (bumpOf (0x00 ∷ 0x01 ∷ 0x01 ∷ 0x00 ∷ 0x01 ∷ [])) (refusedPath 7 4) ∷
@@ -62,6 +63,6 @@ cases =
     []
 
 -- every case answers what the table says
-pub examples : map (λ c. answerOf (c .input)) cases ≡ map (λ c. c .answer) cases
-unfolding answerOf cases varint byte bytes many each holds offsetField flagField kindField carriedField leafField levelField written blockField heightField bumpField whole leastOffset beside besides indexFits judgeBy starting levelsReading bumpReading
+pub examples : map (λ c. given (c .input)) cases ≡ map (λ c. c .answer) cases
+unfolding given cases varint byte bytes many each holds offsetField flagField kindField carriedField leafField levelField levelOfTurn blockField heightField bumpField whole leastOffset siblingPosition siblingPositions indexFits proveBy starting levelsReading bumpReading
 examples = refl

@@ -6,7 +6,7 @@ use lib.ListN.{length, getD}
 use lib.Dec.{eqb}
 use Rattle.format.specs.declared.level.Leaf.{Leaf}
 use Rattle.format.specs.Parse.{pick}
-use Rattle.spv.specs.Climb.{Sibling, value, copied, absent, Siblings, beside}
+use Rattle.spv.specs.Climb.{Sibling, value, copied, absent, Siblings, siblingPosition}
 use Rattle.spv.specs.Values.{hasValue, joinOf, valueOf}
 
 unfoldable pub one : Bool → ℕ
@@ -35,7 +35,7 @@ module _ (w : Siblings) where
   -- for the siblings of a climb from position j of layer k, over n layers
   unfoldable pub climbJoins : ℕ → ℕ → ℕ → ℕ
   climbJoins k zero j = 0
-  climbJoins k (suc n) j = siblingJoins k (beside j) + climbJoins (suc k) n (j / 2)
+  climbJoins k (suc n) j = siblingJoins k (siblingPosition j) + climbJoins (suc k) n (j / 2)
 
 -- the leaf of level l lies under node q of level k: its offset, halved once for each level up, is q
 unfoldable pub liesUnder : ℕ → ℕ → ℕ → Leaf → Bool

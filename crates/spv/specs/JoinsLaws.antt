@@ -12,8 +12,8 @@ use Rattle.format.specs.declared.level.Leaf.{Leaf}
 use Rattle.format.specs.declared.path.Found.the-variants.{Here, Missing}
 use Rattle.format.specs.Parse.{pick}
 use Rattle.format.specs.Search.{lookup}
-use Rattle.spv.specs.Climb.{Sibling, value, copied, absent, Siblings, beside}
-use Rattle.spv.specs.ClimbLaws.{beside-odd, beside-even}
+use Rattle.spv.specs.Climb.{Sibling, value, copied, absent, Siblings, siblingPosition}
+use Rattle.spv.specs.ClimbLaws.{sibling-odd, sibling-even}
 use Rattle.spv.specs.Values.{hasValue, valueBy, joinBoth, joinOf, valueOf}
 use Rattle.spv.specs.Siblings.{sibling, writtenBy, findIn}
 use Rattle.spv.specs.Joins.{one, joinsBy, joinsMade, siblingJoins, climbJoins, liesUnder, countUnder, leavesBelow, leavesUnder, leavesIn}
@@ -61,21 +61,21 @@ unfolding leavesBelow
 below-more levels k q = omega arith
 
 -- those under a position and under its sibling lie under their parent
-pair-under : (levels : List (List Leaf)) (k j : ℕ) → leavesUnder levels k j + leavesUnder levels k (beside j) ≤ leavesUnder levels (suc k) (j / 2)
+pair-under : (levels : List (List Leaf)) (k j : ℕ) → leavesUnder levels k j + leavesUnder levels k (siblingPosition j) ≤ leavesUnder levels (suc k) (j / 2)
 pair-under levels k j = go (eqb (j % 2) 1) refl
   where
     both : leavesUnder levels k (2 * (j / 2)) + leavesUnder levels k (2 * (j / 2) + 1) ≤ leavesUnder levels (suc k) (j / 2)
     both = omega (arith, below-two levels k (j / 2) (suc k) (omega arith), below-more levels k (2 * (j / 2)), below-more levels k (2 * (j / 2) + 1))
 
-    go : (t : Bool) → eqb (j % 2) 1 ≡ t → leavesUnder levels k j + leavesUnder levels k (beside j) ≤ leavesUnder levels (suc k) (j / 2)
+    go : (t : Bool) → eqb (j % 2) 1 ≡ t → leavesUnder levels k j + leavesUnder levels k (siblingPosition j) ≤ leavesUnder levels (suc k) (j / 2)
     go true e =
         let o = eqb-true (j % 2) 1 e in
-        let l = ap (leavesUnder levels k) (let b = beside-odd j o in let x : beside j ≡ 2 * (j / 2) = omega arith in x) in
+        let l = ap (leavesUnder levels k) (let b = sibling-odd j o in let x : siblingPosition j ≡ 2 * (j / 2) = omega arith in x) in
         let r = ap (leavesUnder levels k) (let x : j ≡ 2 * (j / 2) + 1 = omega arith in x) in
         omega (arith, both, l, r)
     go false e =
         let o = eqb-false (j % 2) 1 e in
-        let r = ap (leavesUnder levels k) (let b = beside-even j o in let x : beside j ≡ 2 * (j / 2) + 1 = omega arith in x) in
+        let r = ap (leavesUnder levels k) (let b = sibling-even j o in let x : siblingPosition j ≡ 2 * (j / 2) + 1 = omega arith in x) in
         let l = ap (leavesUnder levels k) (let x : j ≡ 2 * (j / 2) = omega arith in x) in
         omega (arith, both, l, r)
 
@@ -190,7 +190,7 @@ module _ (s : List ℕ) (levels : List (List Leaf)) where
   climb-leaves zero k j = let e : k ≡ k + 0 = omega arith in omega (arith, below-all levels k j k, ap (leavesIn levels) e)
   climb-leaves (suc n) k j =
       let e : suc k + n ≡ k + suc n = omega arith in
-      omega (arith, climb-leaves n (suc k) (j / 2), ap (leavesIn levels) e, pair-under levels k j, joins-few k (beside j))
+      omega (arith, climb-leaves n (suc k) (j / 2), ap (leavesIn levels) e, pair-under levels k j, joins-few k (siblingPosition j))
 
   -- the joins made for all siblings of one climb are no more than the leaves of its layers
   pub climb-few : (h i : ℕ) → climbJoins (writtenBy s (findIn levels)) 0 h i ≤ leavesIn levels h

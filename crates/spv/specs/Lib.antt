@@ -1,3 +1,4 @@
+pub mod Result
 pub mod Climb
 pub mod ClimbLaws
 pub mod Compare
@@ -10,14 +11,19 @@ pub mod AskedLaws
 pub mod Siblings
 pub mod SiblingsLaws
 pub mod Low
+pub mod LowLaws
 pub mod Marks
 pub mod MarksLaws
 pub mod Joins
 pub mod JoinsLaws
 pub mod Shapes
+pub mod ShapesLaws
 pub mod Readings
+pub mod ReadingsLaws
 pub mod Clients
+pub mod ClientsLaws
 pub mod ClientsShapes
+pub mod ClientsShapesLaws
 pub mod ClientsTheorems
 pub mod Surplus
 pub mod AsBefore
@@ -35,6 +41,7 @@ pub mod BundleHeadLaws
 pub mod BundleLaws
 pub mod BundleTheorems
 pub mod BundleAnswer
+pub mod BundleAnswerLaws
 pub mod BundleTurns
 pub mod BundlePosition
 pub mod BundleRead

@@ -20,15 +20,18 @@ use Rattle.format.specs.Bump.{Bump}
 use Rattle.format.specs.Transaction.{Transaction}
 use Rattle.format.specs.Beef.{Entry, Beef}
 use Rattle.format.specs.Refusals.{SAME-TX, NO-PARENT, UNTRUSTED}
+use Rattle.spv.specs.declared.bundle.Standing.{Standing}
+use Rattle.spv.specs.declared.bundle.Standing.the-variants.{Refuses, Passes}
 use Rattle.spv.specs.declared.table.Record.{Record}
+use Rattle.spv.specs.Result.{Result, accepted, refused, carrying}
 use Rattle.spv.specs.Climb.{Sibling}
-use Rattle.spv.specs.Compare.{denied, proved, judge, Verdict as Proving}
+use Rattle.spv.specs.Compare.{prove, Proof}
 use Rattle.spv.specs.Siblings.{written, sibling, writtenBy, findIn}
 use Rattle.spv.specs.AskedLaws.{same-all}
 use Rattle.spv.specs.Readings.{levelsReading}
 use Rattle.spv.specs.Surplus.{carriedAt, surplus}
 use Rattle.format.specs.Id.{txid}
-use Rattle.spv.specs.Bundle.{hashesOf, among, rests, Standing, refuses, passes, trusted, proving, nthBump, entryId, anchoring, standing, entryRow, Judgement, refusedAs, accepted, ahead, judgeFrom, judgeEntries}
+use Rattle.spv.specs.Bundle.{hashesOf, among, rests, trusted, proving, nthBump, entryId, anchoring, standing, entryRow, Judgement, ahead, judgeFrom, judgeEntries}
 use Rattle.spv.specs.BundleLaws.{from-refuses, from-passes}
 use Rattle.spv.specs.BundleTheorems.{emptyEntry}
 use Rattle.spv.specs.RereadBundle.{leafSaid, bumpSaid, parentOf, txSaid}
@@ -79,7 +82,7 @@ module _ (s t : List ℕ) where
   unfolding proving
   proving-same b c id e =
       surplus s t id (b .height) (b .levels) (c .levels) (record { carriers = λ o. carried-same id o (getD (b .levels) 0 []) (getD (c .levels) 0 []) (level 0); leaves = λ i _. same-all (writtenBy s (findIn (b .levels))) (writtenBy t (findIn (c .levels))) (λ k q. lookup-same q (getD (b .levels) k []) (getD (c .levels) k []) (level k)) _ })
-      ∙ ap (λ (h : ℕ). judge (levelsReading t h (c .levels) id)) (ap (λ (z : ℕ × List (List (ℕ × Sibling))). z .0) e)
+      ∙ ap (λ (h : ℕ). prove (levelsReading t h (c .levels) id)) (ap (λ (z : ℕ × List (List (ℕ × Sibling))). z .0) e)
     where
       level : (k : ℕ) → map (leafSaid s) (getD (b .levels) k []) ≡ map (leafSaid t) (getD (c .levels) k [])
       level k =
@@ -121,12 +124,12 @@ later m d r = record { start = r .start + d; length = r .length; id = r .id; anc
 
 -- a refusal stays, with the transaction's number
 unfoldable pub eachRecord : (Record → Record) → Judgement → Judgement
-eachRecord f (refusedAs number carried) = refusedAs number carried
+eachRecord f (refused why) = refused why
 eachRecord f (accepted records) = accepted (map f records)
 
 unfoldable stillStands : ℕ → Standing → Standing
-stillStands m (refuses number) = refuses number
-stillStands m (passes a n i) = passes a (numberOf m a n) i
+stillStands m (Refuses why) = Refuses why
+stillStands m (Passes a n i) = Passes a (numberOf m a n) i
 
 -- two transactions that stand alike
 record Like {A B : Type 0} (m : ℕ) (f : Record → Record) (id : A → List ℕ) (id′ : B → List ℕ) (stands : List (List ℕ) → A → Standing) (stands′ : List (List ℕ) → B → Standing)
@@ -139,7 +142,7 @@ module _ {A B : Type 0} (m : ℕ) (f : Record → Record) (id : A → List ℕ) 
     (row : A → ℕ → ℕ → ℕ → Record) (row′ : B → ℕ → ℕ → ℕ → Record) (d : A) (d′ : B) where
   each-ahead : (r : Record) (j : Judgement) → ahead (f r) (eachRecord f j) ≡ eachRecord f (ahead r j)
   unfolding ahead eachRecord
-  each-ahead r (refusedAs number carried) = refl
+  each-ahead r (refused why) = refl
   each-ahead r (accepted l) = refl
 
   from-like : (earlier : List (List ℕ)) (l : List A) (l′ : List B) → length l ≡ length l′
@@ -155,10 +158,10 @@ module _ {A B : Type 0} (m : ℕ) (f : Record → Record) (id : A → List ℕ) 
       go : Like m f id id′ stands stands′ row row′ x y → (v : Standing) → stands earlier x ≡ v
           → judgeFrom id′ stands′ row′ (earlier ++ (id x ∷ [])) l′ ≡ eachRecord f (judgeFrom id stands row (earlier ++ (id x ∷ [])) l)
           → judgeFrom id′ stands′ row′ earlier (y ∷ l′) ≡ eachRecord f (judgeFrom id stands row earlier (x ∷ l))
-      go z (refuses number) h rest =
-          from-refuses id′ stands′ row′ earlier y l′ number (z .standings earlier ∙ ap (stillStands m) h)
-          ∙ sym (ap (eachRecord f) (from-refuses id stands row earlier x l number h))
-      go z (passes a n i) h rest =
+      go z (Refuses why) h rest =
+          from-refuses id′ stands′ row′ earlier y l′ why (z .standings earlier ∙ ap (stillStands m) h)
+          ∙ sym (ap (eachRecord f) (from-refuses id stands row earlier x l why h))
+      go z (Passes a n i) h rest =
           from-passes id′ stands′ row′ earlier y l′ a (numberOf m a n) i (z .standings earlier ∙ ap (stillStands m) h)
           ∙ ap₂ (λ (r : Record) (c : List ℕ). ahead r (judgeFrom id′ stands′ row′ (earlier ++ (c ∷ [])) l′)) (z .rows a n i) (sym (z .ids))
           ∙ ap (ahead (f (row x a n i))) rest
@@ -178,12 +181,12 @@ pub record OneMore (s t : List ℕ) (m d : ℕ) (b c : Beef) : Type 0 where
   pub below : (k n : ℕ) → k < length (b .entries) → entryAt b k .anchor ≡ InBump n → n < length (b .bumps)
 
 module _ (s t roots : List ℕ) (m d : ℕ) (b c : Beef) (more : OneMore s t m d b c) where
-  trusted-still : (n : ℕ) (v : Proving) → trusted roots (past m n) v ≡ stillStands m (trusted roots n v)
+  trusted-still : (n : ℕ) (v : Result Proof) → trusted roots (past m n) v ≡ stillStands m (trusted roots n v)
   unfolding trusted stillStands
-  trusted-still n (denied number place layer q) = refl
-  trusted-still n (proved p) = go (among (p .root) (hashesOf roots))
+  trusted-still n (refused why) = refl
+  trusted-still n (accepted p) = go (among (p .root) (hashesOf roots))
     where
-      go : (x : Bool) → pick x (passes 1 (past m n) (p .position)) (refuses UNTRUSTED) ≡ stillStands m (pick x (passes 1 n (p .position)) (refuses UNTRUSTED))
+      go : (x : Bool) → pick x (Passes 1 (past m n) (p .position)) (Refuses (carrying UNTRUSTED 0)) ≡ stillStands m (pick x (Passes 1 n (p .position)) (Refuses (carrying UNTRUSTED 0)))
       go true = refl
       go false = refl
 
@@ -198,21 +201,21 @@ module _ (s t roots : List ℕ) (m d : ℕ) (b c : Beef) (more : OneMore s t m d
         ap (trusted roots (past m n)) (ap (proving t (nthBump (c .bumps) (past m n))) (sym same-id) ∙ sym (proving-same s t (nthBump (b .bumps) n) (nthBump (c .bumps) (past m n)) (entryId s (entryAt b k)) (more .bumps n (more .below k n low h))))
         ∙ trusted-still n (proving s (nthBump (b .bumps) n) (entryId s (entryAt b k)))
     anchoring-still earlier Unanchored h =
-        ap (λ (x : Bool). pick x (passes 0 0 0) (refuses NO-PARENT)) (sym (rests-same s t earlier (entryAt b k .transaction .inputs) (entryAt c k .transaction .inputs) (ap (λ (z : ℕ × List ℕ × List (List ℕ)). z .2) (more .transactions k low))))
+        ap (λ (x : Bool). pick x (Passes 0 0 0) (Refuses (carrying NO-PARENT 0))) (sym (rests-same s t earlier (entryAt b k .transaction .inputs) (entryAt c k .transaction .inputs) (ap (λ (z : ℕ × List ℕ × List (List ℕ)). z .2) (more .transactions k low))))
         ∙ go (rests s earlier (entryAt b k .transaction .inputs))
       where
-        go : (x : Bool) → pick x (passes 0 0 0) (refuses NO-PARENT) ≡ stillStands m (pick x (passes 0 0 0) (refuses NO-PARENT))
+        go : (x : Bool) → pick x (Passes 0 0 0) (Refuses (carrying NO-PARENT 0)) ≡ stillStands m (pick x (Passes 0 0 0) (Refuses (carrying NO-PARENT 0)))
         go true = refl
         go false = refl
 
     still-stands : (earlier : List (List ℕ)) → standing t roots (c .bumps) earlier (entryAt c k) ≡ stillStands m (standing s roots (b .bumps) earlier (entryAt b k))
     unfolding standing stillStands
     still-stands earlier =
-        ap₂ (λ (x : List ℕ) (a : Anchor). pick (among x earlier) (refuses SAME-TX) (anchoring t roots (c .bumps) earlier (entryAt c k) a)) (sym same-id) (more .anchors k low)
-        ∙ ap (pick (among (entryId s (entryAt b k)) earlier) (refuses SAME-TX)) (anchoring-still earlier (entryAt b k .anchor) refl)
+        ap₂ (λ (x : List ℕ) (a : Anchor). pick (among x earlier) (Refuses (carrying SAME-TX 0)) (anchoring t roots (c .bumps) earlier (entryAt c k) a)) (sym same-id) (more .anchors k low)
+        ∙ ap (pick (among (entryId s (entryAt b k)) earlier) (Refuses (carrying SAME-TX 0))) (anchoring-still earlier (entryAt b k .anchor) refl)
         ∙ go (among (entryId s (entryAt b k)) earlier) (anchoring s roots (b .bumps) earlier (entryAt b k) (entryAt b k .anchor))
       where
-        go : (x : Bool) (v : Standing) → pick x (refuses SAME-TX) (stillStands m v) ≡ stillStands m (pick x (refuses SAME-TX) v)
+        go : (x : Bool) (v : Standing) → pick x (Refuses (carrying SAME-TX 0)) (stillStands m v) ≡ stillStands m (pick x (Refuses (carrying SAME-TX 0)) v)
         go true v = refl
         go false v = refl
 

@@ -9,14 +9,15 @@ use Rattle.format.specs.declared.path.Form.{Form}
 use Rattle.format.specs.Bytes.{same}
 use Rattle.format.specs.Parse.{each, many, whole}
 use Rattle.format.specs.Field.{bytes, byte, varint}
-use Rattle.format.specs.Level.{holds, offsetField, flagField, kindField, carriedField, leafField, levelField, written}
+use Rattle.format.specs.Level.{holds, offsetField, flagField, kindField, carriedField, leafField, levelField, levelOfTurn}
 use Rattle.format.specs.Bump.{blockField, heightField, bumpField}
 use Rattle.format.specs.Cmp.{topField, cmpField}
 use Rattle.format.specs.Search.{hashAt, carries, lesser, lookup, leastOffset}
-use Rattle.spv.specs.Climb.{beside, joined, step, ascendBy, outcomeBy, strings}
-use Rattle.spv.specs.Compare.{Proof, proved, hits, settle, judgeBy, meetBy, pair, answerOf, alike, againstBy, compareBy}
+use Rattle.spv.specs.Result.{accepted}
+use Rattle.spv.specs.Climb.{siblingPosition, joined, step, ascendBy, endBy, preimagesOf}
+use Rattle.spv.specs.Compare.{Proof, hits, settle, proveBy, meetBy, stringsOf, alike, againstBy, compareBy, pair}
 use Rattle.spv.specs.Collide.{CollidedBy}
-use Rattle.spv.specs.Siblings.{written as stated, sibling, levelSiblings}
+use Rattle.spv.specs.Siblings.{written, sibling, levelSiblings}
 use Rattle.spv.specs.Values.{valueBy, valueOf, workedOut}
 use Rattle.spv.specs.Readings.{starting, levelsReading, bumpReading, cmpReading, reading}
 use Rattle.spv.specs.Demand3.{demand3-by}
@@ -41,24 +42,24 @@ cmp = 0x01 ∷ 0x01 ∷ 0x00 ∷ (hashOf 4 ++ (0x02 ∷ 0x02 ∷ (hashOf 2 ++ (0
 
 -- what each proves: one root, position and number of layers, and different ids
 abbrev pub proofFrom : ℕ → Proof
-proofFrom n = record { id = hashOf n; position = 2; layers = 2; root = hashOf 4; made = (hashOf n ++ hashOf 3) ∷ (hashOf 4 ++ hashOf n) ∷ [] }
+proofFrom n = record { id = hashOf n; position = 2; layers = 2; root = hashOf 4; preimages = (hashOf n ++ hashOf 3) ∷ (hashOf 4 ++ hashOf n) ∷ [] }
 
-pub bump-accepted : judgeBy firstHalf (reading Form.Bump bump (hashOf 1)) ≡ proved (proofFrom 1)
-unfolding varint byte bytes many each holds offsetField flagField kindField carriedField leafField levelField written blockField heightField bumpField whole leastOffset lesser carries hashAt same lookup stated sibling levelSiblings workedOut valueOf valueBy beside joined step ascendBy outcomeBy strings hits settle judgeBy starting levelsReading bumpReading reading
+pub bump-accepted : proveBy firstHalf (reading Form.Bump bump (hashOf 1)) ≡ accepted (proofFrom 1)
+unfolding varint byte bytes many each holds offsetField flagField kindField carriedField leafField levelField levelOfTurn blockField heightField bumpField whole leastOffset lesser carries hashAt same lookup written sibling levelSiblings workedOut valueOf valueBy siblingPosition joined step ascendBy endBy preimagesOf hits settle proveBy starting levelsReading bumpReading reading
 bump-accepted = refl
 
-pub cmp-accepted : judgeBy firstHalf (reading Form.Cmp cmp (hashOf 2)) ≡ proved (proofFrom 2)
-unfolding varint byte bytes many each holds offsetField flagField kindField carriedField leafField levelField written topField cmpField whole leastOffset lesser carries hashAt same lookup stated sibling levelSiblings workedOut valueOf valueBy beside joined step ascendBy outcomeBy strings hits settle judgeBy starting levelsReading cmpReading reading
+pub cmp-accepted : proveBy firstHalf (reading Form.Cmp cmp (hashOf 2)) ≡ accepted (proofFrom 2)
+unfolding varint byte bytes many each holds offsetField flagField kindField carriedField leafField levelField levelOfTurn topField cmpField whole leastOffset lesser carries hashAt same lookup written sibling levelSiblings workedOut valueOf valueBy siblingPosition joined step ascendBy endBy preimagesOf hits settle proveBy starting levelsReading cmpReading reading
 cmp-accepted = refl
 
 ids-differ : hashOf 1 ≡ hashOf 2 → ⊥
 ids-differ e = let first : _≡_ {A = ℕ} 1 2 = ap (λ (l : List ℕ). getD l 0 0) e in omega arith
 
 -- so demand 3 speaks of them
-pub demand3-example : CollidedBy firstHalf (proofFrom 1) (proofFrom 2) (compareBy firstHalf (judgeBy firstHalf (reading Form.Bump bump (hashOf 1))) (judgeBy firstHalf (reading Form.Cmp cmp (hashOf 2))))
+pub demand3-example : CollidedBy firstHalf (proofFrom 1) (proofFrom 2) (compareBy firstHalf (proveBy firstHalf (reading Form.Bump bump (hashOf 1))) (proveBy firstHalf (reading Form.Cmp cmp (hashOf 2))))
 demand3-example = demand3-by Form.Bump Form.Cmp bump cmp (hashOf 1) (hashOf 2) firstHalf half-wide (proofFrom 1) (proofFrom 2) bump-accepted cmp-accepted refl refl refl ids-differ
 
 -- and comparing answers the strings of the second layer, the lowest where they meet
-pub pair-example : compareBy firstHalf (judgeBy firstHalf (reading Form.Bump bump (hashOf 1))) (judgeBy firstHalf (reading Form.Cmp cmp (hashOf 2))) ≡ pair (hashOf 4 ++ hashOf 1) (hashOf 4 ++ hashOf 2)
-unfolding compareBy againstBy alike meetBy answerOf same
+pub pair-example : compareBy firstHalf (proveBy firstHalf (reading Form.Bump bump (hashOf 1))) (proveBy firstHalf (reading Form.Cmp cmp (hashOf 2))) ≡ pair (hashOf 4 ++ hashOf 1) (hashOf 4 ++ hashOf 2)
+unfolding compareBy againstBy alike meetBy stringsOf same
 pair-example = ap₂ (compareBy firstHalf) bump-accepted cmp-accepted

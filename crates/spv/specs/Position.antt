@@ -18,9 +18,9 @@ use Rattle.format.specs.declared.path.Start.the-variants.{At, Nowhere}
 use Rattle.format.specs.Parse.{Parse, got, many, _passing_else_}
 use Rattle.format.specs.ParseLaws.{onward-told, passing-told, many-told, many-length}
 use Rattle.format.specs.Field.{varint}
-use Rattle.format.specs.Level.{holds, offsetField, carriedField, leafField, levelField, levelInTurn, nextTurn, written, andOffset}
+use Rattle.format.specs.Level.{holds, offsetField, carriedField, leafField, levelField, levelInTurn, nextTurn, levelOfTurn, andOffset}
 use Rattle.format.specs.Refusals.{OVER-LIMIT, BAD-OFFSET, REPEATED, MAX-LEAVES}
-use Rattle.format.specs.Bytes.{same-eq}
+use Rattle.format.specs.BytesLaws.{same-eq}
 use Rattle.format.specs.Search.{hashAt, carries, leastOffset}
 use Rattle.format.specs.SearchLaws.{hash-at-length}
 use Rattle.format.specs.Bump.{Bump, bumpWhole}
@@ -28,11 +28,13 @@ use Rattle.format.specs.Cmp.{Cmp, cmpWhole}
 use Rattle.format.specs.Tsc.{Tsc, tscWhole, indexFits}
 use Rattle.format.specs.TscLaws.{TscRead, tsc-whole-told}
 use Rattle.format.specs.BumpLaws.{BumpRead, bump-whole-told, CmpRead, cmp-whole-told}
-use Rattle.spv.specs.Compare.{any, read, Proof, proved, judgeBy, judge}
-use Rattle.spv.specs.CompareLaws.{judge-proved}
+use Rattle.spv.specs.Result.{accepted}
+use Rattle.spv.specs.Compare.{any, read, Proof, proveBy, prove}
+use Rattle.spv.specs.CompareLaws.{prove-accepted}
 use Rattle.spv.specs.Siblings.{levelSiblings, nodeSiblings}
 use Rattle.format.specs.Id.{subjectId}
-use Rattle.spv.specs.Readings.{read-proved, starting, levelsReading, bumpReading, cmpReading, tscTarget, tscReading, reading}
+use Rattle.spv.specs.ReadingsLaws.{read-proved}
+use Rattle.spv.specs.Readings.{starting, levelsReading, bumpReading, cmpReading, tscTarget, tscReading, reading}
 use Rattle.spv.specs.Surplus.{carriedAt, Least, least-is}
 
 -- every offset is below n
@@ -70,24 +72,24 @@ level-below layout limit level s at e =
 
 -- the level written in turn i + j
 levels-below : (layout : Layout) (height n i : ℕ) (s : List ℕ) (at : ℕ) {ls : List (List Leaf)} {q : ℕ} → many (levelInTurn layout height) nextTurn n i s at ≡ got ls q
-    → (j : ℕ) → j < n → Below (2 ^ (height - written layout height (i + j))) (getD ls j [])
+    → (j : ℕ) → j < n → Below (2 ^ (height - levelOfTurn layout height (i + j))) (getD ls j [])
 levels-below layout height zero i s at e j h = absurd (omega arith)
 levels-below layout height (suc n) i s at {ls} e j h =
     let x = many-told (levelInTurn layout height) nextTurn n i s at e in
     go (x .0) (x .2) (x .5) (level-below layout _ _ s at (x .3)) (λ m k. levels-below layout height n (i + 1) s (x .1) (x .4) m k) j h
   where
-    go : (l : List Leaf) (rest : List (List Leaf)) → l ∷ rest ≡ ls → Below (2 ^ (height - written layout height i)) l
-        → ((m : ℕ) → m < n → Below (2 ^ (height - written layout height (i + 1 + m))) (getD rest m []))
-        → (j : ℕ) → j < suc n → Below (2 ^ (height - written layout height (i + j))) (getD ls j [])
+    go : (l : List Leaf) (rest : List (List Leaf)) → l ∷ rest ≡ ls → Below (2 ^ (height - levelOfTurn layout height i)) l
+        → ((m : ℕ) → m < n → Below (2 ^ (height - levelOfTurn layout height (i + 1 + m))) (getD rest m []))
+        → (j : ℕ) → j < suc n → Below (2 ^ (height - levelOfTurn layout height (i + j))) (getD ls j [])
     go l rest d first later zero h = rw (add-zero, ← d) first
     go l rest d first later (suc j) h = let k : i + suc j ≡ i + 1 + j = omega arith in rw (k, ← d) (later j (omega arith))
 
 -- ---- level 0
 
 pub bump-below : (s : List ℕ) {q : ℕ} (b : Bump) → BumpRead s q b → Below (2 ^ b .height) (getD (b .levels) 0 [])
-unfolding written
+unfolding levelOfTurn
 bump-below s b r =
-    let e : b .height - written Layout.Bump (b .height) (0 + 0) ≡ b .height = omega arith in
+    let e : b .height - levelOfTurn Layout.Bump (b .height) (0 + 0) ≡ b .height = omega arith in
     rw e at (levels-below Layout.Bump (b .height) (b .height) 0 s (b .start) (r .levels) 0 (r .some))
 
 reverse-first : {A : Type 0} (l : List A) (d : A) → 0 < length l → getD (reverse l) 0 d ≡ getD l (length l - 1) d
@@ -101,17 +103,17 @@ reverse-first {A = A} (x ∷ (y ∷ l)) d h =
     ∙ ap (λ (m : ℕ). getD (x ∷ (y ∷ l)) m d) e
 
 cmp-below : (s : List ℕ) {q : ℕ} (p : Cmp) → CmpRead s q p → Below (2 ^ p .height) (getD (p .levels) 0 [])
-unfolding written
+unfolding levelOfTurn
 cmp-below s p r = go (r .levels .0) (many-length _ _ _ _ s (p .start) (r .levels .1)) (r .levels .2) (λ j h. levels-below Layout.Cmp (p .height) (p .height) 0 s (p .start) (r .levels .1) j h)
   where
     go : (down : List (List Leaf)) → length down ≡ p .height → reverse down ≡ p .levels
-        → ((j : ℕ) → j < p .height → Below (2 ^ (p .height - written Layout.Cmp (p .height) (0 + j))) (getD down j []))
+        → ((j : ℕ) → j < p .height → Below (2 ^ (p .height - levelOfTurn Layout.Cmp (p .height) (0 + j))) (getD down j []))
         → Below (2 ^ p .height) (getD (p .levels) 0 [])
     go down l d f =
         let some = r .some in
         let last : getD (p .levels) 0 [] ≡ getD down (p .height - 1) [] =
         ap (λ (m : List (List Leaf)). getD m 0 []) (sym d) ∙ reverse-first down [] (omega arith) ∙ ap (λ (n : ℕ). getD down (n - 1) []) l in
-        let e : p .height - written Layout.Cmp (p .height) (0 + (p .height - 1)) ≡ p .height = omega arith in
+        let e : p .height - levelOfTurn Layout.Cmp (p .height) (0 + (p .height - 1)) ≡ p .height = omega arith in
         rw last (rw e at (f (p .height - 1) (omega arith)))
 
 -- ---- the start
@@ -141,29 +143,29 @@ carrier s id o (leaf ∷ l) e = go (eqb (leaf .offset) o) refl (carries s id (le
     go false ex y ey f c = later (c f)
 
 starting-told : (s id : List ℕ) (h n : ℕ) (levels : List (List Leaf)) (x : Start) → Below n (getD levels 0 []) → Least s id (getD levels 0 []) x → (p : Proof)
-    → judge (starting (levelSiblings s levels) h id x) ≡ proved p → (p .position < n) × (p .layers ≡ h)
-unfolding starting Least judgeBy
+    → prove (starting (levelSiblings s levels) h id x) ≡ accepted p → (p .position < n) × (p .layers ≡ h)
+unfolding starting Least proveBy
 starting-told s id h n levels (At i) b l p e =
-    let y = judge-proved (levelSiblings s levels) h i id any p e .0 in
+    let y = prove-accepted (levelSiblings s levels) h i id any p e .0 in
     (rw (ap (λ (q : Proof). q .position) y) (carrier s id i (getD levels 0 []) (l .0) .below n b), ap (λ (q : Proof). q .layers) y)
 starting-told s id h n levels Nowhere b l p e = let z : _≡_ {A = ℕ} 0 1 = cc in absurd (omega arith)
 
 -- an id that the levels prove
-pub levels-position : (s id : List ℕ) (h : ℕ) (levels : List (List Leaf)) → Below (2 ^ h) (getD levels 0 []) → (p : Proof) → judge (levelsReading s h levels id) ≡ proved p → p .position < 2 ^ p .layers
+pub levels-position : (s id : List ℕ) (h : ℕ) (levels : List (List Leaf)) → Below (2 ^ h) (getD levels 0 []) → (p : Proof) → prove (levelsReading s h levels id) ≡ accepted p → p .position < 2 ^ p .layers
 unfolding levelsReading
 levels-position s id h levels b p e =
     let x = starting-told s id h (2 ^ h) levels (leastOffset s id (getD levels 0 [])) b (least-is s id (getD levels 0 [])) p e in
     rw (x .1) (x .0)
 
-tsc-position : (s : List ℕ) (t : Tsc) {q : ℕ} → TscRead s q t → (p : Proof) → judge (read (nodeSiblings s (t .nodes)) (length (t .nodes)) (t .index) (subjectId s (t .subject)) (tscTarget s t)) ≡ proved p
+tsc-position : (s : List ℕ) (t : Tsc) {q : ℕ} → TscRead s q t → (p : Proof) → prove (read (nodeSiblings s (t .nodes)) (length (t .nodes)) (t .index) (subjectId s (t .subject)) (tscTarget s t)) ≡ accepted p
     → p .position < 2 ^ p .layers
 unfolding indexFits
 tsc-position s t r p e =
-    let y = judge-proved (nodeSiblings s (t .nodes)) (length (t .nodes)) (t .index) (subjectId s (t .subject)) (tscTarget s t) p e .0 in
+    let y = prove-accepted (nodeSiblings s (t .nodes)) (length (t .nodes)) (t .index) (subjectId s (t .subject)) (tscTarget s t) p e .0 in
     rw (ap (λ (x : Proof). x .position) y, ap (λ (x : Proof). x .layers) y) (ltb-true _ _ (r .fits))
 
 -- of every form
-pub position-exists : (form : Form) (s id : List ℕ) (p : Proof) → judge (reading form s id) ≡ proved p → p .position < 2 ^ p .layers
+pub position-exists : (form : Form) (s id : List ℕ) (p : Proof) → prove (reading form s id) ≡ accepted p → p .position < 2 ^ p .layers
 unfolding reading bumpReading cmpReading tscReading
 position-exists Form.Bump s id p e =
     let r = read-proved (bumpWhole s) _ p e in

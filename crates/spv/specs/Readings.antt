@@ -1,9 +1,7 @@
 -- The proofs that each form gives, as its reading has them (01, "The climb", "Two climbs").
-use Prim.Native.Nat.{ℕ, _<_}
-use mathlib.Core.Path.{_≡_, refl, sym, ap, _∙_}
+use Prim.Native.Nat.{ℕ}
 use mathlib.Core.List.{List, []}
 use lib.ListN.{length, getD}
-use native.Mathlib.Omega.{arith}
 use Rattle.format.specs.declared.level.Leaf.{Leaf}
 use Rattle.format.specs.declared.path.Form.{Form}
 use Rattle.format.specs.declared.path.Start.{Start}
@@ -12,34 +10,25 @@ use Rattle.format.specs.declared.path.Path.{Path}
 use Rattle.format.specs.Parse.{Parse, got, bad}
 use Rattle.format.specs.Refusals.{NOT-LISTED}
 use Rattle.format.specs.Search.{leastOffset}
-use Rattle.format.specs.Path.{startIn, bumpPathOf, bumpPath, cmpPathOf, cmpPath}
-use Rattle.format.specs.BumpLaws.{BumpRead, bump-whole-told, CmpRead, cmp-whole-told}
-use Rattle.format.specs.PathLaws.{bump-leaf-in, bump-start-in, cmp-leaf-in, cmp-start-in}
-use Rattle.format.specs.Bump.{Bump, bumpWhole}
-use Rattle.format.specs.Cmp.{Cmp, cmpWhole}
-use Rattle.format.specs.Tsc.{Tsc, tscField, tscWhole, tellsRoot, targetRoot}
-use Rattle.format.specs.TscLaws.{TscRead, tsc-whole-told}
-use Rattle.format.specs.TscPath.{tscPathOf, tscPath}
-use Rattle.format.specs.TscPathLaws.{tsc-leaf-in}
+use Rattle.format.specs.Path.{startIn}
+use Rattle.format.specs.Bump.{bumpWhole}
+use Rattle.format.specs.Cmp.{cmpWhole}
+use Rattle.format.specs.Tsc.{Tsc, tscWhole, tellsRoot, targetRoot}
 use Rattle.format.specs.Id.{subjectId}
-use Rattle.format.specs.IdLaws.{subjectHash, subject-hash}
-use Rattle.format.specs.Whole.{whole-size}
+use Rattle.spv.specs.Result.{carrying}
 use Rattle.spv.specs.Climb.{Siblings}
-use Rattle.spv.specs.ClimbLaws.{ascend-same}
-use Rattle.spv.specs.Compare.{Target, any, targetOf, Reading, unread, read, Proof, proved, judgeBy, judge}
-use Rattle.spv.specs.CompareLaws.{judge-climb}
-use Rattle.spv.specs.Siblings.{levelSiblings, nodeSiblings, joinIn, pathSiblings}
-use Rattle.spv.specs.SiblingsLaws.{LeadsTo, path-levels, path-nodes}
+use Rattle.spv.specs.Compare.{Target, any, targetOf, Reading, unread, read}
+use Rattle.spv.specs.Siblings.{levelSiblings, nodeSiblings, pathSiblings}
 
 -- a refusal of reading is the proof's
 abbrev pub readAs : {A : Type 0} → Parse A → (A → Reading) → Reading
 readAs (got a next) f = f a
-readAs (bad number place) f = unread number place
+readAs (bad number place) f = unread (carrying number place)
 
 -- an id starts at the level-0 leaf that carries it; if none does it is not listed
 unfoldable pub starting : Siblings → ℕ → List ℕ → Start → Reading
 starting σ h id (At i) = read σ h i id any
-starting σ h id Nowhere = unread NOT-LISTED 0
+starting σ h id Nowhere = unread (carrying NOT-LISTED 0)
 
 -- an id by the levels of a BUMP or CMP
 unfoldable pub levelsReading : List ℕ → ℕ → List (List Leaf) → List ℕ → Reading
@@ -64,101 +53,6 @@ reading Form.Bump s id = bumpReading s id
 reading Form.Cmp s id = cmpReading s id
 reading Form.Tsc s id = tscReading s
 
--- ---- laws
-
--- an accepted proof was read
-pub read-proved : {A : Type 0} (x : Parse A) (f : A → Reading) (p : Proof) → judge (readAs x f) ≡ proved p → (a : A) × (q : ℕ) × (x ≡ got a q) × (judge (f a) ≡ proved p)
-unfolding judgeBy
-read-proved (got a q) f p e = (a, q, refl, e)
-read-proved (bad number place) f p e = let z : _≡_ {A = ℕ} 0 1 = cc in absurd (omega arith)
-
 -- an id by a path's places
 unfoldable pub pathReading : List ℕ → Path → List ℕ → Reading
 pathReading s path id = starting (pathSiblings s path) (path .layers) id (startIn s path id)
-
-pub judge-same : (σ τ : Siblings) (h i : ℕ) (c : List ℕ) (w : Target) → ((k q : ℕ) → k < h → σ k q ≡ τ k q) → judge (read σ h i c w) ≡ judge (read τ h i c w)
-judge-same σ τ h i c w f = judge-climb σ τ h i c w (ascend-same σ τ h f i c)
-
-starting-same : (σ τ : Siblings) (h : ℕ) (id : List ℕ) (x : Start) → ((k q : ℕ) → k < h → σ k q ≡ τ k q) → judge (starting σ h id x) ≡ judge (starting τ h id x)
-unfolding starting
-starting-same σ τ h id (At i) f = judge-same σ τ h i id any f
-starting-same σ τ h id Nowhere f = refl
-
--- a path whose places lead to the levels proves what the levels prove
-pub path-judge : (s : List ℕ) (path : Path) (h : ℕ) (levels : List (List Leaf)) (id : List ℕ) → LeadsTo s path h levels
-    → startIn s path id ≡ leastOffset s id (getD levels 0 [])
-    → judge (pathReading s path id) ≡ judge (levelsReading s h levels id)
-unfolding pathReading levelsReading
-path-judge s path h levels id l e =
-    ap (λ (n : ℕ). judge (starting (pathSiblings s path) n id (startIn s path id))) (l .layers)
-    ∙ ap (λ (x : Start). judge (starting (pathSiblings s path) h id x)) e
-    ∙ starting-same (pathSiblings s path) (levelSiblings s levels) h id (leastOffset s id (getD levels 0 [])) (path-levels s path h levels l)
-
-pub bump-refused : (s id : List ℕ) (number place : ℕ) → bumpWhole s ≡ bad number place → bumpReading s id ≡ unread number place
-unfolding bumpReading
-bump-refused s id number place e = rw e
-
-pub bump-read : (s id : List ℕ) (b : Bump) (q : ℕ) → bumpWhole s ≡ got b q → bumpReading s id ≡ levelsReading s (b .height) (b .levels) id
-unfolding bumpReading
-bump-read s id b q e = rw e
-
-pub cmp-refused : (s id : List ℕ) (number place : ℕ) → cmpWhole s ≡ bad number place → cmpReading s id ≡ unread number place
-unfolding cmpReading
-cmp-refused s id number place e = rw e
-
-pub cmp-read : (s id : List ℕ) (p : Cmp) (q : ℕ) → cmpWhole s ≡ got p q → cmpReading s id ≡ levelsReading s (p .height) (p .levels) id
-unfolding cmpReading
-cmp-read s id p q e = rw e
-
--- a path has the layers that were read
-pub bump-layers : (s : List ℕ) {q : ℕ} (b : Bump) → BumpRead s q b → bumpPath s b .layers ≡ b .height
-unfolding bumpPathOf
-bump-layers s b r = let low = r .low in omega arith
-
-pub cmp-layers : (s : List ℕ) {q : ℕ} (p : Cmp) → CmpRead s q p → cmpPath s p .layers ≡ p .height
-unfolding cmpPathOf
-cmp-layers s p r = let low = r .low in omega arith
-
--- the places of what was read lead to its levels
-pub bump-leads : (s : List ℕ) {q : ℕ} (b : Bump) → BumpRead s q b → LeadsTo s (bumpPath s b) (b .height) (b .levels)
-unfolding bumpPathOf joinIn
-bump-leads s b r = record { layers = bump-layers s b r; few = let low = r .low in omega arith; leaf = bump-leaf-in s b r; join = λ w k q. refl }
-
-pub cmp-leads : (s : List ℕ) {q : ℕ} (p : Cmp) → CmpRead s q p → LeadsTo s (cmpPath s p) (p .height) (p .levels)
-unfolding cmpPathOf joinIn
-cmp-leads s p r = record { layers = cmp-layers s p r; few = let low = r .low in omega arith; leaf = cmp-leaf-in s p r; join = λ w k q. refl }
-
--- a BUMP that was read, alone or in a bundle: its path proves what its levels prove
-pub bump-path-judge : (s id : List ℕ) {q : ℕ} (b : Bump) → BumpRead s q b → judge (pathReading s (bumpPath s b) id) ≡ judge (levelsReading s (b .height) (b .levels) id)
-bump-path-judge s id b r = path-judge s (bumpPath s b) (b .height) (b .levels) id (bump-leads s b r) (bump-start-in s b r id)
-
-pub bump-judge : (s id : List ℕ) (b : Bump) (q : ℕ) → bumpWhole s ≡ got b q → judge (pathReading s (bumpPath s b) id) ≡ judge (bumpReading s id)
-bump-judge s id b q e = bump-path-judge s id b (bump-whole-told s e) ∙ sym (ap judge (bump-read s id b q e))
-
-pub cmp-judge : (s id : List ℕ) (p : Cmp) (q : ℕ) → cmpWhole s ≡ got p q → judge (pathReading s (cmpPath s p) id) ≡ judge (cmpReading s id)
-cmp-judge s id p q e =
-    let r = cmp-whole-told s e in
-    path-judge s (cmpPath s p) (p .height) (p .levels) id (cmp-leads s p r) (cmp-start-in s p r id) ∙ sym (ap judge (cmp-read s id p q e))
-
-pub tsc-refused : (s : List ℕ) (number place : ℕ) → tscWhole s ≡ bad number place → tscReading s ≡ unread number place
-unfolding tscReading
-tsc-refused s number place e = rw e
-
-pub tsc-read : (s : List ℕ) (t : Tsc) (q : ℕ) → tscWhole s ≡ got t q
-    → tscReading s ≡ read (nodeSiblings s (t .nodes)) (length (t .nodes)) (t .index) (subjectId s (t .subject)) (tscTarget s t)
-unfolding tscReading
-tsc-read s t q e = rw e
-
-pub tsc-layers : (s : List ℕ) {q : ℕ} (t : Tsc) → TscRead s q t → tscPath s t .layers ≡ length (t .nodes)
-unfolding tscPathOf
-tsc-layers s t r = let low = r .low in omega arith
-
-pub tsc-judge : (s : List ℕ) (t : Tsc) (q : ℕ) → tscWhole s ≡ got t q
-    → judge (read (pathSiblings s (tscPath s t)) (tscPath s t .layers) (t .index) (subjectHash s (t .subject)) (tscTarget s t)) ≡ judge (tscReading s)
-tsc-judge s t q e =
-    let r = tsc-whole-told s e in
-    ap (λ (h : ℕ). judge (read (pathSiblings s (tscPath s t)) h (t .index) (subjectHash s (t .subject)) (tscTarget s t))) (tsc-layers s t r)
-    ∙ ap (λ (id : List ℕ). judge (read (pathSiblings s (tscPath s t)) (length (t .nodes)) (t .index) id (tscTarget s t))) (subject-hash s t r (whole-size tscField s e))
-    ∙ judge-same (pathSiblings s (tscPath s t)) (nodeSiblings s (t .nodes)) (length (t .nodes)) (t .index) (subjectId s (t .subject)) (tscTarget s t)
-    (λ k j b. path-nodes s (tscPath s t) k j (t .nodes) (tsc-leaf-in s t r k j b))
-    ∙ sym (ap judge (tsc-read s t q e))

@@ -1,10 +1,8 @@
 -- What the forms give a climb: the leaf or node found, with its 32 bytes.
 use Prim.Native.Nat.{ℕ}
-use mathlib.Core.Path.{_≡_, sym, ap, _∙_}
 use mathlib.Core.List.{List, []}
-use lib.ListN.{length, getD}
+use lib.ListN.{getD}
 use lib.Dec.{ltb}
-use native.Mathlib.Omega.{arith}
 use Rattle.format.specs.declared.level.Kind.{Kind}
 use Rattle.format.specs.declared.level.Kind.the-variants.{Plain, Copy, Client}
 use Rattle.format.specs.declared.level.Layout.{Layout}
@@ -14,11 +12,9 @@ use Rattle.format.specs.declared.path.Found.the-variants.{Here, Missing}
 use Rattle.format.specs.declared.path.Form.{Form}
 use Rattle.format.specs.declared.path.Path.{Path}
 use Rattle.format.specs.Search.{hashAt, lookup, leafOfLevel}
-use Rattle.format.specs.SearchLaws.{hash-at-length}
 use Rattle.format.specs.Parse.{pick}
 use Rattle.format.specs.Path.{leafIn, layersOf}
 use Rattle.spv.specs.Climb.{Sibling, value, copied, absent, Siblings}
-use Rattle.spv.specs.Collide.{Whole}
 use Rattle.spv.specs.Values.{valueBy, joinOf, workedOut}
 
 -- a leaf's 32 bytes, any flags, or a copy
@@ -64,14 +60,3 @@ pathJoin s path k q = pick (ltb k (layersOf (path .layers))) (joinIn (path .form
 -- of a path of any form, by its places
 unfoldable pub pathSiblings : List ℕ → Path → Siblings
 pathSiblings s path k q = valueBy (writtenBy s (leafIn s path) k q) copied (pathJoin s path k q)
-
-pub written-whole : (s : List ℕ) (kind : Kind) → Whole (written s kind)
-unfolding Whole written
-written-whole s (Plain p) q e = let y : hashAt s p ≡ q = cc in ap length (sym y) ∙ hash-at-length s p
-written-whole s Copy q e = let z : _≡_ {A = ℕ} 0 1 = cc in absurd (omega arith)
-written-whole s (Client p) q e = let y : hashAt s p ≡ q = cc in ap length (sym y) ∙ hash-at-length s p
-
-pub sibling-whole : (s : List ℕ) (found : Found) → Whole (sibling s found)
-unfolding Whole sibling
-sibling-whole s (Here kind) q e = written-whole s kind q e
-sibling-whole s Missing q e = let z : _≡_ {A = ℕ} 0 1 = cc in absurd (omega arith)

@@ -2,7 +2,7 @@
 use Prim.Native.Nat.{ℕ, _<_, _≤_}
 use mathlib.Core.Path.{_≡_, refl, sym, ap, _∙_}
 use mathlib.Core.List.{List}
-use lib.ListN.{getD}
+use lib.ListN.{length, getD}
 use borrow.Author.Tests.{lt-ltb, le-ltb}
 use native.Mathlib.Omega.{arith}
 use Rattle.format.specs.declared.level.Kind.{Kind}
@@ -13,13 +13,25 @@ use Rattle.format.specs.declared.path.Found.{Found}
 use Rattle.format.specs.declared.path.Found.the-variants.{Here, Missing}
 use Rattle.format.specs.declared.path.Form.{Form}
 use Rattle.format.specs.declared.path.Path.{Path}
-use Rattle.format.specs.Search.{leafOfLevel}
+use Rattle.format.specs.Search.{hashAt, leafOfLevel}
+use Rattle.format.specs.SearchLaws.{hash-at-length}
 use Rattle.format.specs.Path.{leafIn, leafAtPlace, LAYERS, layersOf}
 use Rattle.spv.specs.Climb.{Sibling, copied, absent, Siblings}
 use Rattle.spv.specs.Collide.{Whole}
 use Rattle.spv.specs.Values.{valueBy, joinOf, valueOf, workedOut}
 use Rattle.spv.specs.ValuesLaws.{join-same, worked-same, worked-whole}
-use Rattle.spv.specs.Siblings.{written, sibling, sibling-whole, writtenBy, findIn, findAt, levelSiblings, nodeSiblings, joinIn, pathJoin, pathSiblings}
+use Rattle.spv.specs.Siblings.{written, sibling, writtenBy, findIn, findAt, levelSiblings, nodeSiblings, joinIn, pathJoin, pathSiblings}
+
+pub written-whole : (s : List ℕ) (kind : Kind) → Whole (written s kind)
+unfolding Whole written
+written-whole s (Plain p) q e = let y : hashAt s p ≡ q = cc in ap length (sym y) ∙ hash-at-length s p
+written-whole s Copy q e = let z : _≡_ {A = ℕ} 0 1 = cc in absurd (omega arith)
+written-whole s (Client p) q e = let y : hashAt s p ≡ q = cc in ap length (sym y) ∙ hash-at-length s p
+
+pub sibling-whole : (s : List ℕ) (found : Found) → Whole (sibling s found)
+unfolding Whole sibling
+sibling-whole s (Here kind) q e = written-whole s kind q e
+sibling-whole s Missing q e = let z : _≡_ {A = ℕ} 0 1 = cc in absurd (omega arith)
 
 pub levelSiblings-whole : (s : List ℕ) (levels : List (List Leaf)) (k q : ℕ) → Whole (levelSiblings s levels k q)
 unfolding levelSiblings

@@ -20,10 +20,11 @@ use Rattle.format.specs.Cmp.{Cmp, cmpWhole}
 use Rattle.spv.specs.Climb.{Siblings, ascend}
 use Rattle.spv.specs.Asked.{climbAsks, SameAt}
 use Rattle.spv.specs.AskedLaws.{climb-agree}
-use Rattle.spv.specs.Compare.{any, judge}
-use Rattle.spv.specs.CompareLaws.{judge-climb}
+use Rattle.spv.specs.Compare.{any, prove}
+use Rattle.spv.specs.CompareLaws.{prove-climb}
 use Rattle.spv.specs.Siblings.{writtenBy, findIn, levelSiblings}
-use Rattle.spv.specs.Readings.{starting, levelsReading, bumpReading, cmpReading, bump-read, cmp-read}
+use Rattle.spv.specs.Readings.{starting, levelsReading, bumpReading, cmpReading}
+use Rattle.spv.specs.ReadingsLaws.{bump-read, cmp-read}
 
 -- a leaf at the offset o carries the id
 unfoldable pub carriedAt : List ℕ → List ℕ → ℕ → List Leaf → Bool
@@ -95,31 +96,31 @@ pub record Agree (s t id : List ℕ) (h : ℕ) (levels others : List (List Leaf)
   pub leaves : (i : ℕ) → leastOffset s id (getD levels 0 []) ≡ At i
       → SameAt (writtenBy s (findIn levels)) (writtenBy t (findIn others)) (climbAsks (writtenBy s (findIn levels)) 0 h i id)
 
-starting-agree : (σ τ : Siblings) (h : ℕ) (id : List ℕ) (x : Start) → ((i : ℕ) → x ≡ At i → ascend σ 0 h i id ≡ ascend τ 0 h i id) → judge (starting σ h id x) ≡ judge (starting τ h id x)
+starting-agree : (σ τ : Siblings) (h : ℕ) (id : List ℕ) (x : Start) → ((i : ℕ) → x ≡ At i → ascend σ 0 h i id ≡ ascend τ 0 h i id) → prove (starting σ h id x) ≡ prove (starting τ h id x)
 unfolding starting
 starting-agree σ τ h id Nowhere f = refl
-starting-agree σ τ h id (At i) f = judge-climb σ τ h i id any (f i refl)
+starting-agree σ τ h id (At i) f = prove-climb σ τ h i id any (f i refl)
 
-pub surplus : (s t id : List ℕ) (h : ℕ) (levels others : List (List Leaf)) → Agree s t id h levels others → judge (levelsReading s h levels id) ≡ judge (levelsReading t h others id)
+pub surplus : (s t id : List ℕ) (h : ℕ) (levels others : List (List Leaf)) → Agree s t id h levels others → prove (levelsReading s h levels id) ≡ prove (levelsReading t h others id)
 unfolding levelsReading levelSiblings
 surplus s t id h levels others a =
     starting-agree (levelSiblings s levels) (levelSiblings t others) h id (leastOffset s id (getD levels 0 []))
     (λ i e. climb-agree (writtenBy s (findIn levels)) (writtenBy t (findIn others)) 0 h i id (a .leaves i e))
-    ∙ ap (λ (x : Start). judge (starting (levelSiblings t others) h id x)) (start-same s t id (getD levels 0 []) (getD others 0 []) (a .carriers))
+    ∙ ap (λ (x : Start). prove (starting (levelSiblings t others) h id x)) (start-same s t id (getD levels 0 []) (getD others 0 []) (a .carriers))
 
 -- the two forms that have such leaves
 pub surplus-bump : (s t id : List ℕ) {b c : Bump} {p q : ℕ} → bumpWhole s ≡ got b p → bumpWhole t ≡ got c q → b .height ≡ c .height → Agree s t id (b .height) (b .levels) (c .levels)
-    → judge (bumpReading s id) ≡ judge (bumpReading t id)
+    → prove (bumpReading s id) ≡ prove (bumpReading t id)
 surplus-bump s t id {b} {c} {p} {q} e f h a =
-    ap judge (bump-read s id b p e)
+    ap prove (bump-read s id b p e)
     ∙ surplus s t id (b .height) (b .levels) (c .levels) a
-    ∙ ap (λ (n : ℕ). judge (levelsReading t n (c .levels) id)) h
-    ∙ sym (ap judge (bump-read t id c q f))
+    ∙ ap (λ (n : ℕ). prove (levelsReading t n (c .levels) id)) h
+    ∙ sym (ap prove (bump-read t id c q f))
 
 pub surplus-cmp : (s t id : List ℕ) {b c : Cmp} {p q : ℕ} → cmpWhole s ≡ got b p → cmpWhole t ≡ got c q → b .height ≡ c .height → Agree s t id (b .height) (b .levels) (c .levels)
-    → judge (cmpReading s id) ≡ judge (cmpReading t id)
+    → prove (cmpReading s id) ≡ prove (cmpReading t id)
 surplus-cmp s t id {b} {c} {p} {q} e f h a =
-    ap judge (cmp-read s id b p e)
+    ap prove (cmp-read s id b p e)
     ∙ surplus s t id (b .height) (b .levels) (c .levels) a
-    ∙ ap (λ (n : ℕ). judge (levelsReading t n (c .levels) id)) h
-    ∙ sym (ap judge (cmp-read t id c q f))
+    ∙ ap (λ (n : ℕ). prove (levelsReading t n (c .levels) id)) h
+    ∙ sym (ap prove (cmp-read t id c q f))

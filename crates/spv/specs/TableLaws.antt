@@ -11,9 +11,11 @@ use lib.ListN.{length, getD, take, drop, replicate, length-append, length-drop, 
 use lib.Seq.{ext-getD, getD-at, getD-drop, drop-drop, take-all, take-append-le, drop-append-le, length-take-le, paste, length-paste, take-paste}
 use borrow.Author.Tests.{lt-ltb, le-leb, ltb-true, ltb-false}
 use Rattle.format.specs.Search.{hashAt}
-use Rattle.format.specs.Gather.{padded, padded-length}
+use Rattle.format.specs.Padded.{padded}
+use Rattle.format.specs.Gather.{padded-length}
+use Rattle.format.specs.Refusals.{MAX-TXS}
 use Rattle.spv.specs.declared.table.Record.{Record}
-use Rattle.spv.specs.Table.{blankRecord, flatHead, flat, flatRecord, rows}
+use Rattle.spv.specs.Table.{blankRecord, flatHead, flat, flatRecord, rows, IDS-ROOM, NUMBERS-ROOM}
 
 pub rows-length : {A : Type 0} (f : ℕ → A) (n : ℕ) → length (rows f n) ≡ n
 unfolding rows
@@ -126,7 +128,7 @@ flat-at (suc n) ids numbers (suc k) d h =
     ∙ ap (flatHead (drop (32 * suc k) ids)) (drop-drop (5 * k) 5 numbers ∙ ap (λ (j : ℕ). drop j numbers) b)
 
 -- the rows of a flat form are its records, and past them blank
-module _ (ids numbers : List ℕ) (wide : 8192 ≤ length ids) (long : 1280 ≤ length numbers) (n : ℕ) (few : n ≤ 256) where
+module _ (ids numbers : List ℕ) (wide : IDS-ROOM ≤ length ids) (long : NUMBERS-ROOM ≤ length numbers) (n : ℕ) (few : n ≤ MAX-TXS) where
   pub flat-row : (k : ℕ) → flatRecord ids numbers n k ≡ getD (flat n ids numbers) k blankRecord
   unfolding flatRecord flatHead hashAt
   flat-row k = go (ltb k n) refl
@@ -136,7 +138,7 @@ module _ (ids numbers : List ℕ) (wide : 8192 ≤ length ids) (long : 1280 ≤ 
           let low : k < n = ltb-true k n e in
           let at : (j : ℕ) → getD numbers (5 * k + j) 0 ≡ getD (drop (5 * k) numbers) j 0 = λ j. sym (getD-drop (5 * k) numbers j 0) in
           let first : getD numbers (5 * k) 0 ≡ getD (drop (5 * k) numbers) 0 0 = ap (λ (i : ℕ). getD numbers i 0) (sym (add-zero (5 * k))) ∙ at 0 in
-          rw (e, lt-ltb k 256 (omega arith), le-leb 1280 (length numbers) long, le-leb (32 * k + 32) (length ids) (omega arith), first, at 1, at 2, at 3, at 4)
+          rw (e, lt-ltb k MAX-TXS (omega arith), le-leb NUMBERS-ROOM (length numbers) long, le-leb (32 * k + 32) (length ids) (omega arith), first, at 1, at 2, at 3, at 4)
           (sym (flat-at n ids numbers k blankRecord low))
       go false e =
           let past : length (flat n ids numbers) ≤ k = let z = flat-length n ids numbers in omega (arith, ltb-false k n e) in

@@ -15,7 +15,8 @@ use Rattle.format.specs.Bump.{Bump, bumpField}
 use Rattle.format.specs.Beef.{Beef, beefWhole}
 use Rattle.format.specs.BeefLaws.{beef-told}
 use Rattle.format.specs.Refusals.{BAD-ROOTS, MAX-INPUT, MAX-BUMPS}
-use Rattle.spv.specs.Bundle.{nthBump, refusedAs, judgeEntries, judgeRead, judgeBeef}
+use Rattle.spv.specs.Result.{refused, carrying}
+use Rattle.spv.specs.Bundle.{nthBump, judgeEntries, judgeRead, judgeBeef}
 use Rattle.spv.specs.BundleTheorems.{map-at, emptyEntry}
 use Rattle.spv.specs.RereadBundle.{bumpSaid, txSaid, entrySaid}
 use Rattle.spv.specs.OneMoreBump.{past, renumbered, later, eachRecord, entryAt, OneMore, one-more}
@@ -75,7 +76,7 @@ same-place m (p ∷ parts) (suc k) =
     omega (arith, length-append (partBytes (renumberedPart m p)) us, length-append (partBytes p) ws, length-append (p .raw) (anchorBytes (p .anchor)), length-append (p .raw) (anchorBytes (renumbered m (p .anchor))))
 
 -- a bundle that was read is judged by its transactions, if the roots are whole
-judge-read : (s roots : List ℕ) (room : ℕ) (b : Beef) (q : ℕ) → length s ≤ MAX-INPUT → beefWhole room s ≡ got b q → judgeBeef s roots room ≡ pick (eqb (length roots % 32) 0) (judgeEntries s roots b) (refusedAs BAD-ROOTS 0)
+judge-read : (s roots : List ℕ) (room : ℕ) (b : Beef) (q : ℕ) → length s ≤ MAX-INPUT → beefWhole room s ≡ got b q → judgeBeef s roots room ≡ pick (eqb (length roots % 32) 0) (judgeEntries s roots b) (refused (carrying BAD-ROOTS 0))
 unfolding judgeBeef judgeRead
 judge-read s roots room b q size e = rw (le-leb _ _ size, e)
 
@@ -181,14 +182,14 @@ module _ (room : ℕ) (before after : List (List ℕ)) (extra count : List ℕ) 
           below = λ k n h e. beef-told room s (one .read) .entry k emptyEntry h .anchored n e;
         }
 
-    judged-alike : (roots : List ℕ) → judgeBeef t roots room ≡ eachRecord (later m (length extra)) (judgeBeef s roots room)
+    proved-alike : (roots : List ℕ) → judgeBeef t roots room ≡ eachRecord (later m (length extra)) (judgeBeef s roots room)
     unfolding eachRecord
-    judged-alike roots =
+    proved-alike roots =
         judge-read t roots room (two .bundle) (length t) size (two .read)
         ∙ go (eqb (length roots % 32) 0)
         ∙ sym (ap (eachRecord (later m (length extra))) (judge-read s roots room (one .bundle) (length s) (p .size) (one .read)))
       where
-        go : (x : Bool) → pick x (judgeEntries t roots (two .bundle)) (refusedAs BAD-ROOTS 0) ≡ eachRecord (later m (length extra)) (pick x (judgeEntries s roots (one .bundle)) (refusedAs BAD-ROOTS 0))
+        go : (x : Bool) → pick x (judgeEntries t roots (two .bundle)) (refused (carrying BAD-ROOTS 0)) ≡ eachRecord (later m (length extra)) (pick x (judgeEntries s roots (one .bundle)) (refused (carrying BAD-ROOTS 0)))
         go true = one-more s t roots m (length extra) (one .bundle) (two .bundle) alike
         go false = refl
 
@@ -202,4 +203,4 @@ pub unused-bump : (room : ℕ) (roots : List ℕ) (before after : List (List ℕ
     → length (bundleBytes (before ++ extra ∷ after) count (map (renumberedPart (length before)) parts)) ≤ MAX-INPUT
     → judgeBeef (bundleBytes (before ++ extra ∷ after) count (map (renumberedPart (length before)) parts)) roots room
     ≡ eachRecord (later (length before) (length extra)) (judgeBeef (bundleBytes (before ++ after) count parts) roots room)
-unused-bump room roots before after extra count parts x p spells few size = judged-alike room before after extra count parts x p spells few size roots
+unused-bump room roots before after extra count parts x p spells few size = proved-alike room before after extra count parts x p spells few size roots

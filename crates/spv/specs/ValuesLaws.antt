@@ -5,7 +5,8 @@ use mathlib.Core.Bool.{false}
 use mathlib.Core.List.{List, _++_}
 use lib.ListN.{length}
 use native.Mathlib.Omega.{arith}
-use Rattle.hash.specs.Sha256.{sha256d, sha256d-length}
+use Rattle.hash.specs.Sha256.{sha256d}
+use Rattle.hash.specs.Sha256Laws.{sha256d-length}
 use Rattle.spv.specs.Climb.{Sibling, value, copied, absent, Siblings}
 use Rattle.spv.specs.Collide.{Whole}
 use Rattle.spv.specs.Values.{hasValue, valueBy, joinBoth, joinOf, valueOf, workedOut}

@@ -1,15 +1,21 @@
 // Judging a BEEF against a list of trusted roots (paper 01, "The bundle rule").
-use super::prove::Judged;
+use super::prove::Outcome;
 use super::prove::prove_in;
+use super::rejection::Rejection;
+use super::rejection::reject;
+use super::rejection::reject_reading;
 use format::Anchor;
+use format::Beef;
 use format::BeefAnswer;
 use format::BumpHead;
 use format::Cursor;
 use format::EntryAnswer;
 use format::EntryHead;
+use format::Form;
 use format::InputAnswer;
 use format::Items;
-use format::Refusal;
+use format::LAYERS;
+use format::Path;
 use format::TxHead;
 use format::refusal::BAD_INDEX;
 use format::refusal::BAD_ROOTS;
@@ -23,20 +29,31 @@ ghost use Prim.Native.Nat.{_+_, _*_, _<_, _≤_};
 ghost use lib.ListN.{length, take, drop};
 ghost use lib.Seq.{paste};
 ghost use Rattle.format.specs.Bytes.{same};
+ghost use Rattle.format.specs.Refusals.{MAX-TXS, MAX-BUMPS};
+ghost use Rattle.spv.specs.Result.{carrying, blaming};
 ghost use Rattle.spv.specs.Bundle.{hashesOf, among, trusted, judgeFrom, judgeBeef};
-ghost use Rattle.spv.specs.BundleHeads.{numbersOf, restsFrom, headProving, headStanding, headId, headStands, headRow, headsFrom, standingOf};
+ghost use Rattle.spv.specs.BundleHeads.{numbersOf, restsFrom, IsKept, Names, headStanding, headId, headStands, headRow, headsFrom};
+ghost use Rattle.spv.specs.Compare.{prove};
+ghost use Rattle.spv.specs.Readings.{pathReading};
 ghost use Rattle.spv.specs.BundleAnswer.{judgementOf};
-ghost use mathlib.Core.List.{[]};
+ghost use Rattle.spv.specs.Table.{IDS-ROOM, NUMBERS-ROOM};
+ghost use mathlib.Core.List.{List, []};
+
+// The room of the flat form: an id of 32 bytes and five numbers for each of the most transactions that a bundle has.
+pub(crate) const IDS_ROOM: usize = 8192;
+
+pub(crate) const NUMBERS_ROOM: usize = 1280;
 
 // What judging answers: the number of transactions, or a refusal.
 pub enum Verdict {
     Accepted(usize),
-    Refused(Refusal),
+    Refused(Rejection),
 }
 
-// How a transaction stands after the earlier ones.
+// How a transaction stands after the earlier ones: refused, or passed with what its record says of its anchor: 1, the number of its BUMP and its
+// position in the block, or 0, 0, 0.
 pub enum Standing {
-    Refuses(u8),
+    Refuses(Rejection),
     Passes {
         anchored: u64,
         bump: u64,
@@ -76,7 +93,7 @@ fn is_among(x: [u8; 32], list: &[u8]) -> bool
 
 // The numbers of the i-th record, five for each.
 fn put_numbers(numbers: &mut [u64], i: usize, row: [u64; 5])
-    requires { ⌜ i < 256 ⌝ }
+    requires { ⌜ i < MAX-TXS ⌝ }
     requires { ⌜ 5 * i + 5 ≤ length (now numbers) ⌝ }
     ensures { λ _. ⌜ now (numbers .exit) ≡ paste (now (numbers .entry)) (5 * i) row 5 ⌝ }
 {
@@ -119,19 +136,55 @@ fn rests_on(s: &[u8], inputs: Items, ids: &[u8]) -> bool
     true
 }
 
-// An anchored transaction: by its BUMP to a root of the list.
-fn judge_anchor(s: &[u8], roots: &[u8], head: BumpHead, bump: u64, id: [u8; 32]) -> Standing
-    ensures { λ r. ⌜ standingOf r ≡ trusted (now (roots .entry)) bump (headProving (now (s .entry)) head id) ⌝ }
+// The path of one of a bundle's BUMPs, kept for the transactions that name the same BUMP; past the BUMPs none is kept.
+pub(crate) struct Kept {
+    bump: u64,
+    path: Path,
+}
+
+fn none_kept() -> Kept
+    ensures { λ r. ⌜ r .bump ≡ MAX-BUMPS ⌝ }
 {
+    Kept {
+        bump: Beef::MAX_BUMPS as u64,
+        path: Path {
+            form: Form::Bump,
+            layers: 0,
+            at: [0usize; LAYERS],
+        },
+    }
+}
+
+// The path that an anchor names, found anew only if another is kept.
+fn keep_path(s: &[u8], bumps: [BumpHead; Beef::MAX_BUMPS], anchor: Anchor, kept: Kept) -> Kept
+    ensures { λ r. ⌜ (IsKept (now (s .entry)) bumps kept → IsKept (now (s .entry)) bumps r × Names (now (s .entry)) bumps anchor (r .path)) ⌝ }
+{
+    let Anchor::Bump(n) = anchor else {
+        return kept;
+    };
+    if Beef::MAX_BUMPS as u64 <= n {
+        return kept;
+    }
+    if n == kept.bump {
+        return kept;
+    }
+    let head = bumps[n as usize];
     let path = format::bump_path(s, head);
+    Kept { bump: n, path }
+}
+
+// An anchored transaction: by the path of its BUMP to a root of the list.
+fn judge_anchor(s: &[u8], roots: &[u8], path: Path, bump: u64, id: [u8; 32]) -> Standing
+    ensures { λ r. ⌜ r ≡ trusted (now (roots .entry)) bump (prove (pathReading (now (s .entry)) path id)) ⌝ }
+{
     let proved = prove_in(s, path, id);
-    let judged = proved.judged;
+    let outcome = proved.outcome;
     let root = proved.root;
-    match judged {
-        Judged::Refused(refusal) => Standing::Refuses(refusal.number),
-        Judged::Accepted { position, layers } => {
+    match outcome {
+        Outcome::Refused(rejection) => Standing::Refuses(rejection),
+        Outcome::Accepted { position, layers } => {
             if !is_among(root, roots) {
-                return Standing::Refuses(UNTRUSTED);
+                return Standing::Refuses(reject(UNTRUSTED));
             }
             Standing::Passes {
                 anchored: 1,
@@ -142,33 +195,32 @@ fn judge_anchor(s: &[u8], roots: &[u8], head: BumpHead, bump: u64, id: [u8; 32])
     }
 }
 
-// A transaction after those with the ids.
+// A transaction after those with the ids, by the path that its anchor names.
 fn judge_entry(
     s: &[u8],
     roots: &[u8],
-    bumps: [BumpHead; 64],
+    path: Path,
     ids: &[u8],
     id: [u8; 32],
     e: EntryHead,
 ) -> Standing
-    ensures { λ r. ⌜ standingOf r ≡ headStanding (now (s .entry)) (now (roots .entry)) bumps (hashesOf (now (ids .entry))) id e ⌝ }
+    ensures { λ r. ⌜ ((bumps : List BumpHead) → Names (now (s .entry)) bumps (e .anchor) path → r ≡ headStanding (now (s .entry)) (now (roots .entry)) bumps (hashesOf (now (ids .entry))) id e) ⌝ }
 {
     if is_among(id, ids) {
-        return Standing::Refuses(SAME_TX);
+        return Standing::Refuses(reject(SAME_TX));
     }
     let tx = e.transaction;
     let anchor = e.anchor;
     match anchor {
         Anchor::Bump(n) => {
-            if 64 <= n {
-                return Standing::Refuses(BAD_INDEX);
+            if Beef::MAX_BUMPS as u64 <= n {
+                return Standing::Refuses(reject(BAD_INDEX));
             }
-            let head = bumps[n as usize];
-            judge_anchor(s, roots, head, n, id)
+            judge_anchor(s, roots, path, n, id)
         }
         Anchor::Unanchored => {
             if !rests_on(s, tx.inputs, ids) {
-                return Standing::Refuses(NO_PARENT);
+                return Standing::Refuses(reject(NO_PARENT));
             }
             Standing::Passes {
                 anchored: 0,
@@ -180,27 +232,40 @@ fn judge_entry(
 }
 
 fn refused(number: u8) -> Verdict
-    ensures { λ r. ⌜ r ≡ Verdict.Refused (record { number = number; place = 0 }) ⌝ }
+    ensures { λ r. ⌜ r ≡ Verdict.Refused (carrying number 0) ⌝ }
 {
-    Verdict::Refused(Refusal { number, place: 0 })
+    Verdict::Refused(reject(number))
+}
+
+// The refusal of the n-th transaction.
+fn blame(rejection: Rejection, n: usize) -> Rejection
+    ensures { λ r. ⌜ r ≡ blaming n rejection ⌝ }
+{
+    Rejection {
+        number: rejection.number,
+        carried: n,
+        layer: rejection.layer,
+        sibling: rejection.sibling,
+    }
 }
 
 // So many transactions, each read again at its place and judged, from the first. The ids and the numbers of those that pass are written.
 fn judge_entries(
     s: &[u8],
     roots: &[u8],
-    bumps: [BumpHead; 64],
+    bumps: [BumpHead; Beef::MAX_BUMPS],
     count: u64,
     start: Cursor,
     n: usize,
     ids: &mut [u8],
     numbers: &mut [u64],
 ) -> Verdict
-    requires { ⌜ n ≤ 256 ⌝ }
-    requires { ⌜ 8192 ≤ length (now ids) ⌝ }
-    requires { ⌜ 1280 ≤ length (now numbers) ⌝ }
+    requires { ⌜ n ≤ MAX-TXS ⌝ }
+    requires { ⌜ IDS-ROOM ≤ length (now ids) ⌝ }
+    requires { ⌜ NUMBERS-ROOM ≤ length (now numbers) ⌝ }
     ensures { λ r. ⌜ judgementOf r (now (ids .exit)) (now (numbers .exit)) ≡ judgeFrom (headId (now (s .entry))) (headStands (now (s .entry)) (now (roots .entry)) bumps) (headRow (now (s .entry))) [] (headsFrom count (now (s .entry)) n (start .at)) ⌝ }
 {
+    let mut kept = none_kept();
     let mut next = start;
     let mut i = 0;
     while i < n {
@@ -208,12 +273,14 @@ fn judge_entries(
         let EntryAnswer::Value(e, after) = field else {
             return Verdict::Accepted(i);
         };
+        let anchor = e.anchor;
+        kept = keep_path(s, bumps, anchor, kept);
         let tx = e.transaction;
         let id = format::tx_id(s, tx);
-        let standing = judge_entry(s, roots, bumps, &ids[..32 * i], id, e);
+        let standing = judge_entry(s, roots, kept.path, &ids[..32 * i], id, e);
         match standing {
-            Standing::Refuses(number) => {
-                return Verdict::Refused(Refusal { number, place: i });
+            Standing::Refuses(rejection) => {
+                return Verdict::Refused(blame(rejection, i));
             }
             Standing::Passes {
                 anchored,
@@ -241,12 +308,12 @@ pub(crate) fn judge_flat(
     ids: &mut [u8],
     numbers: &mut [u64],
 ) -> Verdict
-    ensures { λ r. ⌜ (8192 ≤ length (now (ids .entry)) → 1280 ≤ length (now (numbers .entry)) → judgementOf r (now (ids .exit)) (now (numbers .exit)) ≡ judgeBeef (now (s .entry)) (now (roots .entry)) room) ⌝ }
+    ensures { λ r. ⌜ (IDS-ROOM ≤ length (now (ids .entry)) → NUMBERS-ROOM ≤ length (now (numbers .entry)) → judgementOf r (now (ids .exit)) (now (numbers .exit)) ≡ judgeBeef (now (s .entry)) (now (roots .entry)) room) ⌝ }
 {
-    if ids.len() < 8192 {
+    if ids.len() < IDS_ROOM {
         return refused(NO_ROOM);
     }
-    if numbers.len() < 1280 {
+    if numbers.len() < NUMBERS_ROOM {
         return refused(NO_ROOM);
     }
     if hash::MAX_INPUT < s.len() {
@@ -257,7 +324,7 @@ pub(crate) fn judge_flat(
     }
     let answer = format::read_bundle(s, room);
     match answer {
-        BeefAnswer::Refused(refusal) => Verdict::Refused(refusal),
+        BeefAnswer::Refused(refusal) => Verdict::Refused(reject_reading(refusal)),
         BeefAnswer::Value(head, _) => {
             let bumps = format::bump_heads(s);
             let count = head.bumps;

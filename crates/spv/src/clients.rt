@@ -1,10 +1,12 @@
 // A BUMP's all-clients check (01, "The climb").
 use super::prove::Claim;
-use super::prove::Judged;
+use super::prove::Outcome;
 use super::prove::Proved;
 use super::prove::Status;
-use super::prove::refusal_of;
 use super::prove::settle;
+use super::rejection::Rejection;
+use super::rejection::reject;
+use super::rejection::reject_reading;
 use format::BumpAnswer;
 use format::Cursor;
 use format::Kind;
@@ -13,19 +15,20 @@ use format::Leaf;
 use format::LeafAnswer;
 use format::Number;
 use format::Path;
-use format::Refusal;
 use format::refusal::NOT_LISTED;
 ghost use mathlib.Core.Path.{_≡_};
 ghost use Rattle.format.specs.Refusals.{NOT-LISTED};
-ghost use Rattle.spv.specs.Compare.{targetOf, Verdict, any};
+ghost use Rattle.spv.specs.Result.{Result, refused, carrying};
+ghost use Rattle.spv.specs.Compare.{targetOf, Proof, any};
 ghost use Rattle.spv.specs.Siblings.{pathSiblings};
-ghost use Rattle.spv.specs.Clients.{wantedBy, afterLeaf, closing, rejected, clientsIn, clientsOfLevel, bumpClients};
+ghost use Rattle.spv.specs.Clients.{wantedBy, afterLeaf, closing, bumpClients};
+ghost use Rattle.spv.specs.ClientsLaws.{clientsIn, clientsOfLevel};
 ghost use Rattle.spv.specs.Shapes.{provedOf};
-ghost use Rattle.spv.specs.ClientsShapes.{wantSays, shown, refusedCheck, checkedOf};
+ghost use Rattle.spv.specs.ClientsShapes.{wantSays, refusedCheck, checkedOf};
 
 pub enum Agreement {
     Agreed,
-    Refused(Refusal),
+    Refused(Rejection),
 }
 
 // The root that all clients come to; zero if refused.
@@ -41,29 +44,29 @@ pub struct Want {
     pub root: [u8; 32],
 }
 
-fn refused_check(refusal: Refusal) -> Checked
-    ensures { λ r. ⌜ r ≡ refusedCheck refusal ⌝ }
+fn refused_check(rejection: Rejection) -> Checked
+    ensures { λ r. ⌜ r ≡ refusedCheck rejection ⌝ }
 {
     Checked {
-        agreement: Agreement::Refused(refusal),
+        agreement: Agreement::Refused(rejection),
         root: [0u8; 32],
     }
 }
 
 fn unlisted() -> Checked
-    ensures { λ r. ⌜ r ≡ checkedOf (rejected NOT-LISTED 0 0 0) ⌝ }
+    ensures { λ r. ⌜ r ≡ checkedOf (refused (carrying NOT-LISTED 0)) ⌝ }
 {
-    refused_check(refusal_of(NOT_LISTED, 0, 0, 0))
+    refused_check(reject(NOT_LISTED))
 }
 
 // What is wanted after a client was judged.
 fn want_after(p: Proved) -> Want
-    ensures { λ r. ⌜ ((v : Verdict) → p ≡ provedOf v → wantSays r ≡ shown (wantedBy v)) ⌝ }
+    ensures { λ r. ⌜ ((v : Result Proof) → p ≡ provedOf v → wantSays r ≡ wantedBy v) ⌝ }
 {
-    let judged = p.judged;
+    let outcome = p.outcome;
     let root = p.root;
-    match judged {
-        Judged::Accepted {
+    match outcome {
+        Outcome::Accepted {
             position: _,
             layers: _,
         } => Want {
@@ -71,8 +74,8 @@ fn want_after(p: Proved) -> Want
             bound: true,
             root,
         },
-        Judged::Refused(refusal) => Want {
-            status: Status::Unread(refusal),
+        Outcome::Refused(rejection) => Want {
+            status: Status::Unread(rejection),
             bound: false,
             root: [0u8; 32],
         },
@@ -81,7 +84,7 @@ fn want_after(p: Proved) -> Want
 
 // A client leaf climbs from its own offset; other leaves change nothing.
 fn try_leaf(s: &[u8], path: Path, leaf: Leaf, bound: bool, root: [u8; 32]) -> Want
-    ensures { λ r. ⌜ wantSays r ≡ shown (afterLeaf (pathSiblings (now (s .entry)) path) (path .layers) (now (s .entry)) (targetOf bound root) leaf) ⌝ }
+    ensures { λ r. ⌜ wantSays r ≡ afterLeaf (pathSiblings (now (s .entry)) path) (path .layers) (now (s .entry)) (targetOf bound root) leaf ⌝ }
 {
     let kind = leaf.kind;
     match kind {
@@ -138,8 +141,8 @@ fn check_leaves(s: &[u8], path: Path, c: Cursor, count: u64) -> Checked
         let want = try_leaf(s, path, leaf, bound, root);
         let status = want.status;
         match status {
-            Status::Unread(refusal) => {
-                return refused_check(refusal);
+            Status::Unread(rejection) => {
+                return refused_check(rejection);
             }
             Status::Read => {
                 bound = want.bound;
@@ -168,7 +171,7 @@ pub fn check_clients(s: &[u8]) -> Checked
 {
     let answer = format::read_bump(s);
     let BumpAnswer::Value(head, _) = answer else {
-        return refused_check(answer.refusal());
+        return refused_check(reject_reading(answer.refusal()));
     };
     let path = format::bump_path(s, head);
     let levels = head.levels;

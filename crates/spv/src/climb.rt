@@ -1,4 +1,5 @@
 // The climb of 01, the same for every form.
+use super::rejection::Rejection;
 use super::values::join_in;
 use format::Found;
 use format::Kind;
@@ -7,7 +8,7 @@ use format::refusal::MISSING;
 use format::refusal::TWIN;
 ghost use mathlib.Core.Path.{_≡_};
 ghost use Prim.Native.Nat.{_<_};
-ghost use Rattle.spv.specs.Climb.{joined, step, odd, beside, ascend, outcome, absent, value, fails};
+ghost use Rattle.spv.specs.Climb.{joined, step, odd, siblingPosition, ascend, endOf, absent, value, fails};
 ghost use Rattle.format.specs.Search.{hashAt};
 ghost use Rattle.spv.specs.Siblings.{written, pathSiblings};
 ghost use Rattle.spv.specs.Low.{Low};
@@ -26,25 +27,21 @@ pub struct Node {
 }
 
 // One layer: the two halves of what is hashed, zero where the layer fails by a refusal's number.
-pub enum Fate {
+pub enum StepKind {
     Joins,
     Fails(u8),
 }
 
 pub struct Joined {
-    pub fate: Fate,
+    pub kind: StepKind,
     pub left: [u8; 32],
     pub right: [u8; 32],
 }
 
-// Where a climb ends: at the root, or refused by a number at a layer, with the sibling's position there. The root is zero if refused.
+// Where a climb ends: at the root, or refused at a layer, with the sibling's position there. The root is zero if refused.
 pub enum End {
     Root,
-    Stop {
-        number: u8,
-        layer: usize,
-        sibling: u64,
-    },
+    Stop(Rejection),
 }
 
 pub struct Climbed {
@@ -101,7 +98,7 @@ fn failed(number: u8) -> Joined
     ensures { λ r. ⌜ r ≡ joinedOf (fails number) ⌝ }
 {
     Joined {
-        fate: Fate::Fails(number),
+        kind: StepKind::Fails(number),
         left: [0u8; 32],
         right: [0u8; 32],
     }
@@ -116,13 +113,13 @@ fn placed(odd: bool, c: [u8; 32], p: [u8; 32]) -> Joined
             return failed(TWIN);
         }
         return Joined {
-            fate: Fate::Joins,
+            kind: StepKind::Joins,
             left: p,
             right: c,
         };
     }
     Joined {
-        fate: Fate::Joins,
+        kind: StepKind::Joins,
         left: c,
         right: p,
     }
@@ -141,8 +138,8 @@ fn fold(node: Node, odd: bool, c: [u8; 32]) -> Joined
 }
 
 // The position beside j.
-fn beside_of(j: u64) -> u64
-    ensures { λ r. ⌜ r ≡ beside j ⌝ }
+fn sibling_position(j: u64) -> u64
+    ensures { λ r. ⌜ r ≡ siblingPosition j ⌝ }
 {
     if j % 2 == 1 { j - 1 } else { j + 1 }
 }
@@ -150,9 +147,9 @@ fn beside_of(j: u64) -> u64
 // One layer of a climb in a path, from c at position j.
 pub(crate) fn layer_of(s: &[u8], path: Path, layer: usize, j: u64, c: [u8; 32]) -> Joined
     requires { ⌜ Low layer j ⌝ }
-    ensures { λ r. ⌜ r ≡ joinedOf (step (pathSiblings (now (s .entry)) path layer (beside j)) (odd j) c) ⌝ }
+    ensures { λ r. ⌜ r ≡ joinedOf (step (pathSiblings (now (s .entry)) path layer (siblingPosition j)) (odd j) c) ⌝ }
 {
-    let q = beside_of(j);
+    let q = sibling_position(j);
     let node = sibling_at(s, path, layer, q);
     let o = j % 2 == 1;
     fold(node, o, c)
@@ -160,7 +157,7 @@ pub(crate) fn layer_of(s: &[u8], path: Path, layer: usize, j: u64, c: [u8; 32]) 
 
 // The climb from id at position i of a path.
 pub fn climb(s: &[u8], path: Path, i: u64, id: [u8; 32]) -> Climbed
-    ensures { λ r. ⌜ r ≡ climbedOf (outcome id (ascend (pathSiblings (now (s .entry)) path) 0 (path .layers) i id)) ⌝ }
+    ensures { λ r. ⌜ r ≡ climbedOf (endOf id (ascend (pathSiblings (now (s .entry)) path) 0 (path .layers) i id)) ⌝ }
 {
     let h = path.layers;
     let mut k: usize = 0;
@@ -168,23 +165,25 @@ pub fn climb(s: &[u8], path: Path, i: u64, id: [u8; 32]) -> Climbed
     let mut c = id;
     while k < h {
         let t = layer_of(s, path, k, j, c);
-        let fate = t.fate;
+        let kind = t.kind;
         let left = t.left;
         let right = t.right;
-        match fate {
-            Fate::Joins => {
+        match kind {
+            StepKind::Joins => {
                 c = hash::join(left, right);
                 j = j / 2;
                 k += 1;
             }
-            Fate::Fails(number) => {
-                let q = beside_of(j);
+            StepKind::Fails(number) => {
+                let q = sibling_position(j);
+                let rejection = Rejection {
+                    number,
+                    carried: 0,
+                    layer: k,
+                    sibling: q,
+                };
                 return Climbed {
-                    end: End::Stop {
-                        number,
-                        layer: k,
-                        sibling: q,
-                    },
+                    end: End::Stop(rejection),
                     root: [0u8; 32],
                 };
             }

@@ -1,24 +1,28 @@
 // Proving an id by one proof (01, "The climb").
 use super::climb::End;
 use super::climb::climb;
+use super::rejection::Rejection;
+use super::rejection::reject;
+use super::rejection::reject_reading;
 use format::BumpAnswer;
 use format::CmpAnswer;
 use format::Form;
+use format::LAYERS;
 use format::Path;
-use format::Refusal;
 use format::Start;
 use format::TscAnswer;
 use format::refusal::NOT_LISTED;
 use format::refusal::ROOTS_DIFFER;
 ghost use mathlib.Core.Path.{_≡_};
-ghost use Rattle.spv.specs.Compare.{targetOf, judge, denied, hits};
+ghost use Rattle.spv.specs.Result.{refused};
+ghost use Rattle.spv.specs.Compare.{targetOf, prove, hits};
 ghost use Rattle.spv.specs.Readings.{pathReading, bumpReading, cmpReading, tscReading, reading};
-ghost use Rattle.spv.specs.Shapes.{refusalOf, opened, claimed, acceptedOf, provedOf};
+ghost use Rattle.spv.specs.Shapes.{opened, claimed, acceptedOf, provedOf};
 
 // Whether a proof was read.
 pub enum Status {
     Read,
-    Unread(Refusal),
+    Unread(Rejection),
 }
 
 // A proof as it was read: where its siblings stand, its position and id, and the root that its target names if it is bound to one.
@@ -31,31 +35,23 @@ pub struct Claim {
     pub target: [u8; 32],
 }
 
-pub enum Judged {
+pub enum Outcome {
     Accepted { position: u64, layers: usize },
-    Refused(Refusal),
+    Refused(Rejection),
 }
 
 // What a proof proves: the id and the root are zero if it is refused.
 pub struct Proved {
-    pub judged: Judged,
+    pub outcome: Outcome,
     pub id: [u8; 32],
     pub root: [u8; 32],
 }
 
-// A refusal as it is answered: the layer and the sibling of 14 and 15 are left out.
-pub(crate) fn refusal_of(number: u8, place: usize, layer: usize, sibling: u64) -> Refusal
-    ensures { λ r. ⌜ r ≡ refusalOf number place layer sibling ⌝ }
+fn refused_proof(rejection: Rejection) -> Proved
+    ensures { λ r. ⌜ r ≡ provedOf (refused rejection) ⌝ }
 {
-    Refusal { number, place }
-}
-
-fn refused_proof(number: u8, place: usize, layer: usize, sibling: u64) -> Proved
-    ensures { λ r. ⌜ r ≡ provedOf (denied number place layer sibling) ⌝ }
-{
-    let refusal = refusal_of(number, place, layer, sibling);
     Proved {
-        judged: Judged::Refused(refusal),
+        outcome: Outcome::Refused(rejection),
         id: [0u8; 32],
         root: [0u8; 32],
     }
@@ -74,7 +70,7 @@ fn accepted(position: u64, layers: usize, id: [u8; 32], root: [u8; 32]) -> Prove
     ensures { λ r. ⌜ r ≡ acceptedOf position layers id root ⌝ }
 {
     Proved {
-        judged: Judged::Accepted { position, layers },
+        outcome: Outcome::Accepted { position, layers },
         id,
         root,
     }
@@ -82,7 +78,7 @@ fn accepted(position: u64, layers: usize, id: [u8; 32], root: [u8; 32]) -> Prove
 
 // The climb of a proof that was read, and its target.
 pub(crate) fn settle(s: &[u8], x: Claim) -> Proved
-    ensures { λ r. ⌜ r ≡ provedOf (judge (opened (now (s .entry)) x)) ⌝ }
+    ensures { λ r. ⌜ r ≡ provedOf (prove (opened (now (s .entry)) x)) ⌝ }
 {
     let path = x.path;
     let id = x.id;
@@ -91,41 +87,37 @@ pub(crate) fn settle(s: &[u8], x: Claim) -> Proved
     let end = climbed.end;
     let root = climbed.root;
     match end {
-        End::Stop {
-            number,
-            layer,
-            sibling,
-        } => refused_proof(number, 0, layer, sibling),
+        End::Stop(rejection) => refused_proof(rejection),
         End::Root => {
             if hits_target(x.bound, target, root) {
                 accepted(x.position, path.layers, id, root)
             } else {
-                refused_proof(ROOTS_DIFFER, 0, 0, 0)
+                refused_proof(reject(ROOTS_DIFFER))
             }
         }
     }
 }
 
 // A proof as it was read, judged.
-pub(crate) fn judge_claim(s: &[u8], x: Claim) -> Proved
-    ensures { λ r. ⌜ r ≡ provedOf (judge (claimed (now (s .entry)) x)) ⌝ }
+pub(crate) fn prove_claim(s: &[u8], x: Claim) -> Proved
+    ensures { λ r. ⌜ r ≡ provedOf (prove (claimed (now (s .entry)) x)) ⌝ }
 {
     let status = x.status;
     match status {
         Status::Read => settle(s, x),
-        Status::Unread(refusal) => refused_proof(refusal.number, refusal.place, 0, 0),
+        Status::Unread(rejection) => refused_proof(rejection),
     }
 }
 
-fn unread_claim(refusal: Refusal) -> Claim
-    ensures { λ r. ⌜ r .status ≡ Status.Unread refusal ⌝ }
+fn unread_claim(rejection: Rejection) -> Claim
+    ensures { λ r. ⌜ r .status ≡ Status.Unread rejection ⌝ }
 {
     Claim {
-        status: Status::Unread(refusal),
+        status: Status::Unread(rejection),
         path: Path {
             form: Form::Tsc,
             layers: 0,
-            at: [0usize; 64],
+            at: [0usize; LAYERS],
         },
         position: 0,
         id: [0u8; 32],
@@ -148,41 +140,38 @@ fn claim_in(s: &[u8], path: Path, id: [u8; 32]) -> Claim
             bound: false,
             target: [0u8; 32],
         },
-        Start::Nowhere => unread_claim(Refusal {
-            number: NOT_LISTED,
-            place: 0,
-        }),
+        Start::Nowhere => unread_claim(reject(NOT_LISTED)),
     }
 }
 
 fn claim_bump(s: &[u8], id: [u8; 32]) -> Claim
-    ensures { λ r. ⌜ judge (claimed (now (s .entry)) r) ≡ judge (bumpReading (now (s .entry)) id) ⌝ }
+    ensures { λ r. ⌜ prove (claimed (now (s .entry)) r) ≡ prove (bumpReading (now (s .entry)) id) ⌝ }
 {
     let answer = format::read_bump(s);
     let BumpAnswer::Value(head, _) = answer else {
-        return unread_claim(answer.refusal());
+        return unread_claim(reject_reading(answer.refusal()));
     };
     let path = format::bump_path(s, head);
     claim_in(s, path, id)
 }
 
 fn claim_cmp(s: &[u8], id: [u8; 32]) -> Claim
-    ensures { λ r. ⌜ judge (claimed (now (s .entry)) r) ≡ judge (cmpReading (now (s .entry)) id) ⌝ }
+    ensures { λ r. ⌜ prove (claimed (now (s .entry)) r) ≡ prove (cmpReading (now (s .entry)) id) ⌝ }
 {
     let answer = format::read_cmp(s);
     let CmpAnswer::Value(head, _) = answer else {
-        return unread_claim(answer.refusal());
+        return unread_claim(reject_reading(answer.refusal()));
     };
     let path = format::cmp_path(s, head);
     claim_in(s, path, id)
 }
 
 fn claim_tsc(s: &[u8]) -> Claim
-    ensures { λ r. ⌜ judge (claimed (now (s .entry)) r) ≡ judge (tscReading (now (s .entry))) ⌝ }
+    ensures { λ r. ⌜ prove (claimed (now (s .entry)) r) ≡ prove (tscReading (now (s .entry))) ⌝ }
 {
     let answer = format::read_tsc(s);
     let TscAnswer::Value(head, _) = answer else {
-        return unread_claim(answer.refusal());
+        return unread_claim(reject_reading(answer.refusal()));
     };
     let path = format::tsc_path(s, head);
     let subject = head.subject;
@@ -201,35 +190,35 @@ fn claim_tsc(s: &[u8]) -> Claim
 
 // Prove a lent id by a path: for the parts of a bundle.
 pub fn prove_in(s: &[u8], path: Path, id: [u8; 32]) -> Proved
-    ensures { λ r. ⌜ r ≡ provedOf (judge (pathReading (now (s .entry)) path id)) ⌝ }
+    ensures { λ r. ⌜ r ≡ provedOf (prove (pathReading (now (s .entry)) path id)) ⌝ }
 {
-    judge_claim(s, claim_in(s, path, id))
+    prove_claim(s, claim_in(s, path, id))
 }
 
 // Prove a lent id by a BUMP.
 pub fn prove_bump(s: &[u8], id: [u8; 32]) -> Proved
-    ensures { λ r. ⌜ r ≡ provedOf (judge (bumpReading (now (s .entry)) id)) ⌝ }
+    ensures { λ r. ⌜ r ≡ provedOf (prove (bumpReading (now (s .entry)) id)) ⌝ }
 {
-    judge_claim(s, claim_bump(s, id))
+    prove_claim(s, claim_bump(s, id))
 }
 
 // Prove a lent id by a CMP.
 pub fn prove_cmp(s: &[u8], id: [u8; 32]) -> Proved
-    ensures { λ r. ⌜ r ≡ provedOf (judge (cmpReading (now (s .entry)) id)) ⌝ }
+    ensures { λ r. ⌜ r ≡ provedOf (prove (cmpReading (now (s .entry)) id)) ⌝ }
 {
-    judge_claim(s, claim_cmp(s, id))
+    prove_claim(s, claim_cmp(s, id))
 }
 
 // Prove a TSC proof's own id.
 pub fn prove_tsc(s: &[u8]) -> Proved
-    ensures { λ r. ⌜ r ≡ provedOf (judge (tscReading (now (s .entry)))) ⌝ }
+    ensures { λ r. ⌜ r ≡ provedOf (prove (tscReading (now (s .entry)))) ⌝ }
 {
-    judge_claim(s, claim_tsc(s))
+    prove_claim(s, claim_tsc(s))
 }
 
 // A proof of any form as it is read. A TSC proof has its own id: the lent one is not looked at.
 pub(crate) fn claim_of(s: &[u8], form: Form, id: [u8; 32]) -> Claim
-    ensures { λ r. ⌜ judge (claimed (now (s .entry)) r) ≡ judge (reading form (now (s .entry)) id) ⌝ }
+    ensures { λ r. ⌜ prove (claimed (now (s .entry)) r) ≡ prove (reading form (now (s .entry)) id) ⌝ }
 {
     match form {
         Form::Bump => claim_bump(s, id),

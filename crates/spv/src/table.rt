@@ -1,11 +1,17 @@
 // The table of transaction records that a caller lends (paper 01, "The bundle rule").
+use super::bundle::IDS_ROOM;
+use super::bundle::NUMBERS_ROOM;
 use super::bundle::Verdict;
 use super::bundle::judge_flat;
+use format::Beef;
 ghost use mathlib.Core.Path.{_≡_};
 ghost use lib.ListN.{length};
 ghost use Rattle.spv.specs.Bundle.{judgeBeef, verdictOf, tableOf};
 ghost use Rattle.spv.specs.BundleAnswer.{countOf, rowIn};
 ghost use Rattle.spv.specs.Table.{blankRecord, flatRecord, rows};
+
+// How many values a field of 32 bits has.
+const U32: u64 = 4294967296;
 
 // A transaction of a bundle: where it starts and its length, its id, the number of its BUMP, 1 if it is anchored and else 0, and its position in the
 // block; BUMP and position are 0 if it is not anchored. Any bytes are a value of each field, so that a caller may lend any memory, and no byte lies
@@ -42,10 +48,10 @@ pub(crate) fn record_at(ids: &[u8], numbers: &[u64], count: usize, row: usize) -
     if count <= row {
         return blank();
     }
-    if 256 <= row {
+    if Beef::MAX_TRANSACTIONS <= row {
         return blank();
     }
-    if numbers.len() < 1280 {
+    if numbers.len() < NUMBERS_ROOM {
         return blank();
     }
     let at = 5 * row;
@@ -55,8 +61,8 @@ pub(crate) fn record_at(ids: &[u8], numbers: &[u64], count: usize, row: usize) -
         length: numbers[at + 1],
         id,
         bump: numbers[at + 2],
-        anchored: (numbers[at + 3] % 4294967296) as u32,
-        position: (numbers[at + 4] % 4294967296) as u32,
+        anchored: (numbers[at + 3] % U32) as u32,
+        position: (numbers[at + 4] % U32) as u32,
     }
 }
 
@@ -85,8 +91,8 @@ fn fill(table: &mut [Record], ids: &[u8], numbers: &[u64], count: usize)
 pub fn judge_beef(s: &[u8], roots: &[u8], table: &mut [Record]) -> Verdict
     ensures { λ r. ⌜ (r ≡ verdictOf (judgeBeef (now (s .entry)) (now (roots .entry)) (length (now (table .entry))))) × (now (table .exit) ≡ tableOf (judgeBeef (now (s .entry)) (now (roots .entry)) (length (now (table .entry)))) (length (now (table .entry)))) ⌝ }
 {
-    let mut ids = [0u8; 8192];
-    let mut numbers = [0u64; 1280];
+    let mut ids = [0u8; IDS_ROOM];
+    let mut numbers = [0u64; NUMBERS_ROOM];
     let verdict = judge_flat(s, roots, table.len(), &mut ids, &mut numbers);
     fill(table, &ids, &numbers, count_of(verdict));
     verdict
@@ -102,8 +108,8 @@ pub struct Row {
 pub fn judge_row(s: &[u8], roots: &[u8], room: usize, row: usize) -> Row
     ensures { λ r. ⌜ r ≡ rowIn (judgeBeef (now (s .entry)) (now (roots .entry)) room) room row ⌝ }
 {
-    let mut ids = [0u8; 8192];
-    let mut numbers = [0u64; 1280];
+    let mut ids = [0u8; IDS_ROOM];
+    let mut numbers = [0u64; NUMBERS_ROOM];
     let verdict = judge_flat(s, roots, room, &mut ids, &mut numbers);
     let record = record_at(&ids, &numbers, count_of(verdict), row);
     Row { verdict, record }

@@ -8,6 +8,7 @@ use super::marks::mark_at;
 use format::Form;
 use format::Found;
 use format::Kind;
+use format::LAYERS;
 use format::Layout;
 use format::Path;
 ghost use mathlib.Core.Path.{_≡_};
@@ -107,7 +108,7 @@ fn value_of(
 
 // The join of a node's children in levels at these places, by the marks of those below the layer. (The marks are made where they lie, so that they are
 // on the stack once.)
-fn join_at(s: &[u8], places: [usize; 64], layout: Layout, layer: usize, position: u64) -> Node
+fn join_at(s: &[u8], places: [usize; LAYERS], layout: Layout, layer: usize, position: u64) -> Node
     requires { ⌜ (layer ≤ 64) × (Low layer position) ⌝ }
     ensures { λ r. ⌜ siblingOf r ≡ joinOf (writtenBy (now (s .entry)) (findAt layout (now (s .entry)) places)) layer position ⌝ }
 {
@@ -131,7 +132,7 @@ pub(crate) fn join_in(s: &[u8], path: Path, layer: usize, position: u64) -> Node
     if path.layers <= layer {
         return absent_node();
     }
-    if 64 <= layer {
+    if LAYERS <= layer {
         return absent_node();
     }
     let places = path.at;

@@ -8,9 +8,10 @@ use format::EntryAnswer;
 use format::Refusal;
 use format::TscAnswer;
 use libc::STDOUT_FILENO;
-use spv::Judged;
+use spv::Outcome;
 use spv::Proved;
 use spv::Record;
+use spv::Rejection;
 use spv::Verdict;
 ghost use Rattle.io.specs.Counts.{Counts};
 
@@ -41,6 +42,11 @@ fn line(name: &[u8], bytes: [u8; 32]) {
 fn refused(refusal: Refusal) {
     number(b"refused", refusal.number as u64);
     number(b"at", refusal.place as u64);
+}
+
+fn rejected(rejection: Rejection) {
+    number(b"refused", rejection.number as u64);
+    number(b"at", rejection.carried as u64);
 }
 
 // Double SHA-256: the messages of the Secure Hash Standard's examples, lengths at the padding's edges, and a join.
@@ -201,12 +207,12 @@ fn bundles() {
 }
 
 fn proved(answer: Proved) {
-    let judged = answer.judged;
+    let outcome = answer.outcome;
     let id = answer.id;
     let root = answer.root;
-    match judged {
-        Judged::Refused(refusal) => refused(refusal),
-        Judged::Accepted { position, layers } => {
+    match outcome {
+        Outcome::Refused(rejection) => rejected(rejection),
+        Outcome::Accepted { position, layers } => {
             number(b"position", position);
             number(b"layers", layers as u64);
             text(b" id ");
@@ -233,7 +239,7 @@ fn judged(message: &[u8], roots: &[u8]) {
     let second = spv::judge_row(message, roots, 2, 1);
     let verdict = first.verdict;
     match verdict {
-        Verdict::Refused(refusal) => refused(refusal),
+        Verdict::Refused(rejection) => rejected(rejection),
         Verdict::Accepted(n) => {
             number(b"accepted", n as u64);
             record(first.record);

@@ -1,9 +1,13 @@
-//! Reading: the paths that cost the most to read.
+//! Reading paths, and searching in what was read.
 
-use reference::bump;
+use barrowtide::{prove_page_into, Answer, Hash, MAX_PAGE};
 use reference::generate::path::{Leaf, Plan};
+use reference::generate::random::Random;
+use reference::generate::tree::Tree;
+use reference::page::prove_page;
+use reference::{bump, generate, tsc};
 
-use crate::measure::{subject, time, time_of};
+use crate::measure::{seconds, subject, time, time_of};
 
 /// A path of the tallest tree with as many leaves on each level as fit, up to 1,024, their offsets
 /// falling. Copies stand on odd offsets and take six bytes at most.
@@ -18,18 +22,91 @@ pub fn falling(copies: bool) -> Plan {
     Plan { block_height: 1, levels: (0..32).map(level).collect() }
 }
 
-/// Prints the worst cases of reading a path.
+/// Prints the tables of reading a path and of searching in it.
 pub fn run() {
+    heading("Reading small paths");
+    let levels =
+        quick_row("BUMP, 32 levels of one leaf", &small_bump(), barrowtide::read_bump, bump::read);
+    let nodes = quick_row("TSC proof of 32 nodes", &small_tsc(), barrowtide::read_tsc, tsc::read);
+    println!(
+        "{:<85} {:>6.2}",
+        "the library's time for the BUMP over that for the TSC proof",
+        levels / nodes
+    );
+
     heading("Worst cases of reading");
+    let mut random = Random::of("read");
     for (name, copies) in [("hashes", false), ("copies", true)] {
-        let path = falling(copies).bump().bytes;
-        row(
-            &format!("BUMP, 32 levels of 1,024 falling {name}"),
-            path.len(),
-            seconds_of(|| barrowtide::read_bump(&path).expect("a well-formed path")),
-            seconds_of(|| bump::read(&path).expect("a well-formed path")),
-        );
+        let mut path = falling(copies);
+        large_row(&format!("BUMP, 32 levels of 1,024 falling {name}"), &path);
+        path.levels.iter_mut().for_each(|leaves| leaves.reverse());
+        large_row(&format!("BUMP, 32 levels of 1,024 rising {name}"), &path);
+        path.levels.iter_mut().for_each(|leaves| random.shuffle(leaves));
+        large_row(&format!("BUMP, 32 levels of 1,024 shuffled {name}"), &path);
     }
+    searches(&mut random);
+}
+
+fn large_row(name: &str, path: &Plan) {
+    let path = path.bump().bytes;
+    row(
+        name,
+        path.len(),
+        seconds_of(|| barrowtide::read_bump(&path).expect("a well-formed path")),
+        seconds_of(|| bump::read(&path).expect("a well-formed path")),
+    );
+}
+
+/// A path of 32 levels with one leaf each.
+fn small_bump() -> Vec<u8> {
+    let level = |level| vec![Leaf { offset: 1, flags: 0, hash: [level; 32] }];
+    Plan { block_height: 1, levels: (0..32).map(level).collect() }.bump().bytes
+}
+
+/// A TSC proof of 32 nodes.
+fn small_tsc() -> Vec<u8> {
+    let mut proof = generate::tsc::Plan::of(&Tree::new(vec![[7; 32], [8; 32]]), 0);
+    proof.nodes.resize(32, (0, [9; 32]));
+    proof.draft().bytes
+}
+
+/// Pages of ids that make a search and no join: ids that no leaf carries, and ids whose sibling is
+/// not written.
+fn searches(random: &mut Random) {
+    heading("Searching a level of 1,024 leaves for 256 ids");
+    let ids: Vec<Hash> = (0..1_024).map(|_| random.hash()).collect();
+    let first = (1 << 32) - 2_048;
+    let leaf = |(n, &hash): (u64, &Hash)| Leaf { offset: first + 2 * n, flags: 2, hash };
+    let mut levels = vec![Vec::new(); 32];
+    levels[0] = (0..).zip(&ids).map(leaf).collect();
+    let path = Plan { block_height: 1, levels }.bump().bytes;
+    let absent: Vec<Hash> = (0..MAX_PAGE).map(|_| random.hash()).collect();
+    search("ids that are not there", &path, &absent);
+    search("ids at the end, then their siblings", &path, &ids[1_024 - MAX_PAGE..]);
+}
+
+fn search(name: &str, path: &[u8], ids: &[Hash]) {
+    let ids = ids.as_flattened();
+    let mut answers = [Answer::default(); MAX_PAGE];
+    prove_page_into(path, ids, &mut answers).expect("a well-formed path");
+    assert!(answers.iter().all(|answer| answer.refusal != 0));
+    let times = seconds(vec![
+        subject(|| prove_page_into(path, ids, &mut answers)),
+        subject(|| prove_page(path, ids, MAX_PAGE)),
+    ]);
+    row(name, path.len(), times[0], times[1]);
+}
+
+/// Prints a row of a quick call, and gives the library's time.
+fn quick_row<T, U>(
+    name: &str,
+    data: &[u8],
+    library: impl Fn(&[u8]) -> T,
+    reference: impl Fn(&[u8]) -> U,
+) -> f64 {
+    let times = seconds(vec![subject(|| library(data)), subject(|| reference(data))]);
+    row(name, data.len(), times[0], times[1]);
+    times[0]
 }
 
 /// Prints the heading of a table of worst cases.

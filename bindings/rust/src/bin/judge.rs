@@ -76,12 +76,13 @@ fn row(number: usize, record: &Record) -> String {
 
 /// What the refusal blames, and why.
 fn blame(refusal: &Refusal) -> String {
-    let Refusal { reason, carried } = refusal;
+    let Refusal { reason, carried, .. } = refusal;
+    let fault = refusal.fault();
     if reason.blames_place() {
-        format!("at byte {carried}: {reason}")
+        format!("at byte {carried}: {fault}")
     } else if reason.blames_transaction() {
-        format!("at transaction {carried}: {reason}")
+        format!("at transaction {carried}: {fault}")
     } else {
-        format!("as a whole: {reason}")
+        format!("as a whole: {fault}")
     }
 }

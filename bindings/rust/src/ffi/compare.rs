@@ -1,5 +1,6 @@
 //! Comparing two proofs.
 
+use super::Blame;
 use crate::Hash;
 
 extern "C" {
@@ -12,7 +13,7 @@ extern "C" {
         second: *const u8,
         second_len: usize,
         second_id: *const u8,
-        carried: *mut u64,
+        blame: *mut Blame,
         first_string: *mut u8,
         second_string: *mut u8,
     ) -> u32;
@@ -33,12 +34,12 @@ pub struct Lent<'a> {
 pub fn compare(
     first: Lent,
     second: Lent,
-    carried: &mut u64,
+    blame: &mut Blame,
     first_string: &mut [u8; 64],
     second_string: &mut [u8; 64],
 ) -> u32 {
     // SAFETY: the call reads both proofs within their lengths and the ids' 32 bytes, and writes a
-    // u64 and twice 64 bytes, all of which are borrowed for the call.
+    // blame and twice 64 bytes, all of which are borrowed for the call.
     unsafe {
         barrowtide_compare(
             first.form,
@@ -49,7 +50,7 @@ pub fn compare(
             second.data.as_ptr(),
             second.data.len(),
             second.id.as_ptr(),
-            carried,
+            blame,
             first_string.as_mut_ptr(),
             second_string.as_mut_ptr(),
         )

@@ -1,5 +1,6 @@
 //! Judging a bundle.
 
+use super::Blame;
 use crate::Record;
 
 extern "C" {
@@ -10,7 +11,7 @@ extern "C" {
         roots_len: usize,
         table: *mut Record,
         table_len: usize,
-        carried: *mut u64,
+        blame: *mut Blame,
         transactions: *mut u64,
     ) -> u32;
 }
@@ -23,11 +24,11 @@ pub fn judge_beef(
     data: &[u8],
     roots: &[u8],
     table: &mut [Record],
-    carried: &mut u64,
+    blame: &mut Blame,
     transactions: &mut u64,
 ) -> u32 {
-    // SAFETY: the call reads `data` and `roots` within their lengths and writes two u64 and the
-    // table's records, whose layout is C's; all of it is borrowed for the call.
+    // SAFETY: the call reads `data` and `roots` within their lengths and writes a blame, a u64
+    // and the table's records, whose layout is C's; all of it is borrowed for the call.
     unsafe {
         barrowtide_judge_beef(
             data.as_ptr(),
@@ -36,7 +37,7 @@ pub fn judge_beef(
             roots.len(),
             table.as_mut_ptr(),
             table.len(),
-            carried,
+            blame,
             transactions,
         )
     }

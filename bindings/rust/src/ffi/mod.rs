@@ -1,15 +1,16 @@
 //! The C interface of `include/barrowtide.h`, call by call, with slices and references in place of
 //! pointers.
 //!
-//! Each call (but [`join`]) returns 01's refusal number, or 0 if it accepts. A refusal writes what
-//! it carries to `carried` and leaves all other lent memory as it was, except that a lent table or
-//! row is zeroed. Acceptance writes the values and leaves `carried` as it was, and the room past
-//! what is written.
+//! Each call (but [`join`]) returns 01's refusal number, or 0 if it accepts. A refusal writes all
+//! three numbers of `blame` and leaves all other lent memory as it was, except that a lent table or
+//! row is zeroed. Acceptance writes the values and leaves `blame` as it was, and the room past what
+//! is written.
 //!
 //! The functions one module up are made of these and are nicer to use; these show what becomes of
 //! lent memory. All the unsafe code of the crate is here.
 #![allow(unsafe_code)]
 
+mod blame;
 mod bundle;
 mod compare;
 mod hash;
@@ -19,6 +20,7 @@ mod path;
 mod prove;
 mod write;
 
+pub use blame::Blame;
 pub use bundle::{read_beef, read_transaction, read_tsc};
 pub use compare::{compare, Lent};
 pub use hash::{join, sha256d};

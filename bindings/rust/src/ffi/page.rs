@@ -1,5 +1,6 @@
 //! Proving a page of ids.
 
+use super::Blame;
 use crate::Answer;
 
 extern "C" {
@@ -10,18 +11,18 @@ extern "C" {
         ids_len: usize,
         row: *mut Answer,
         row_len: usize,
-        carried: *mut u64,
+        blame: *mut Blame,
     ) -> u32;
 }
 
 /// The size of `barrowtide_answer`.
-const _: () = assert!(size_of::<Answer>() == 64);
+const _: () = assert!(size_of::<Answer>() == 80);
 
 /// `barrowtide_prove_page`: ids that stand end to end by one BUMP, into a lent row.
-pub fn prove_page(data: &[u8], ids: &[u8], row: &mut [Answer], carried: &mut u64) -> u32 {
-    // SAFETY: the call reads `data` and `ids` within their lengths and writes a u64 and the row's
-    // answers, whose layout is C's and of which any bytes are values; all of it is borrowed for the
-    // call.
+pub fn prove_page(data: &[u8], ids: &[u8], row: &mut [Answer], blame: &mut Blame) -> u32 {
+    // SAFETY: the call reads `data` and `ids` within their lengths and writes a blame and the
+    // row's answers, whose layout is C's and of which any bytes are values; all of it is borrowed
+    // for the call.
     unsafe {
         barrowtide_prove_page(
             data.as_ptr(),
@@ -30,7 +31,7 @@ pub fn prove_page(data: &[u8], ids: &[u8], row: &mut [Answer], carried: &mut u64
             ids.len(),
             row.as_mut_ptr(),
             row.len(),
-            carried,
+            blame,
         )
     }
 }

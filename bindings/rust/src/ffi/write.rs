@@ -1,5 +1,7 @@
 //! Writing BUMPs.
 
+use super::Blame;
+
 extern "C" {
     fn barrowtide_write_bump(
         block_height: u64,
@@ -9,7 +11,7 @@ extern "C" {
         positions_count: usize,
         out: *mut u8,
         out_len: usize,
-        carried: *mut u64,
+        blame: *mut Blame,
         written: *mut u64,
     ) -> u32;
 }
@@ -20,11 +22,11 @@ pub fn write_bump(
     ids: &[u8],
     positions: &[u64],
     out: &mut [u8],
-    carried: &mut u64,
+    blame: &mut Blame,
     written: &mut u64,
 ) -> u32 {
-    // SAFETY: the call reads `ids` and `positions` within their lengths and writes within `out` and
-    // to two u64, all of which are borrowed for the call.
+    // SAFETY: the call reads `ids` and `positions` within their lengths and writes within `out`, a
+    // blame and a u64, all of which are borrowed for the call.
     unsafe {
         barrowtide_write_bump(
             block_height,
@@ -34,7 +36,7 @@ pub fn write_bump(
             positions.len(),
             out.as_mut_ptr(),
             out.len(),
-            carried,
+            blame,
             written,
         )
     }

@@ -1,13 +1,23 @@
-/* Prints what the header says of numbers and sizes, and calls with null where a length is 0. */
+/* Prints what the header says of numbers and sizes, and what calls leave in a lent blame; where a
+   length is 0 they are lent null. */
 #include <inttypes.h>
 #include <stdio.h>
 #include <string.h>
 
 #include "barrowtide.h"
 
+/* Prints what a call said, and the blame that it left; then fills the blame anew. */
+static void print_call(const char *call, uint32_t number, barrowtide_blame *blame)
+{
+    printf("%s %" PRIu32 ", blame %" PRIu64 " %" PRIu64 " %" PRIu64 "\n", call, number,
+           blame->carried, blame->layer, blame->sibling);
+    *blame = (barrowtide_blame){7, 8, 9};
+}
+
 int main(void)
 {
-    uint64_t carried = 7, transactions = 7, written = 7;
+    barrowtide_blame blame = {7, 8, 9};
+    uint64_t transactions = 7, written = 7, position = 7, layers = 7;
     uint8_t digest[32];
 
     for (uint32_t number = 0; number <= BARROWTIDE_SAME_ID + 1; number++)
@@ -19,13 +29,18 @@ int main(void)
     printf("write room %d\n", BARROWTIDE_WRITE_ROOM);
     printf("record %zu\n", sizeof(barrowtide_record));
     printf("answer %zu\n", sizeof(barrowtide_answer));
+    printf("blame %zu\n", sizeof(barrowtide_blame));
 
-    printf("hash of nothing %" PRIu32 "\n", barrowtide_sha256d(NULL, 0, &carried, digest));
-    printf("no bundle %" PRIu32 "\n",
-           barrowtide_judge_beef(NULL, 0, NULL, 0, NULL, 0, &carried, &transactions));
-    printf("no path %" PRIu32 "\n", barrowtide_prove_page(NULL, 0, NULL, 0, NULL, 0, &carried));
-    printf("no list %" PRIu32 "\n",
-           barrowtide_write_bump(0, NULL, 0, NULL, 0, NULL, 0, &carried, &written));
-    printf("carried %" PRIu64 "\n", carried);
+    print_call("hash of nothing", barrowtide_sha256d(NULL, 0, &blame, digest), &blame);
+    print_call("no bundle",
+               barrowtide_judge_beef(NULL, 0, NULL, 0, NULL, 0, &blame, &transactions), &blame);
+    print_call("no path", barrowtide_prove_page(NULL, 0, NULL, 0, NULL, 0, &blame), &blame);
+    print_call("no list", barrowtide_write_bump(0, NULL, 0, NULL, 0, NULL, 0, &blame, &written),
+               &blame);
+    /* A BUMP of five levels with one leaf, an id of zeros at position 21. */
+    static const uint8_t bump[41] = {0, 5, 1, 21, 2}, id[32] = {0};
+    print_call("missing",
+               barrowtide_prove_bump(bump, sizeof bump, id, &blame, &position, &layers, digest),
+               &blame);
     return 0;
 }

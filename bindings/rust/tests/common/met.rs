@@ -5,7 +5,7 @@ use std::collections::BTreeMap;
 use barrowtide::Hash;
 use reference::climb::climb;
 use reference::path::{Node, Path};
-use reference::refusal::{MISSING, TWIN};
+use reference::refusal::{Refusal, MISSING, TWIN};
 use reference::sha256::join;
 use reference::values::Values;
 
@@ -98,13 +98,14 @@ impl Seen {
                     self.note(Met::Equal, string[..32] == string[32..]);
                 }
             }
-            Err(MISSING) => {
+            Err(Refusal { number, layer, sibling, .. }) => {
+                assert_eq!((layer as usize, sibling), last);
                 let had = |(other, value): (&Place, &Option<Hash>)| {
                     value.is_some() && other.0 < last.0 && under(*other, last)
                 };
-                self.note(Met::Gap, asked.iter().any(had));
+                self.note(Met::Gap, number == MISSING && asked.iter().any(had));
+                self.note(Met::Twin, number == TWIN && worked_out(&last));
             }
-            Err(number) => self.note(Met::Twin, number == TWIN && worked_out(&last)),
         }
         for &(level, offset) in &siblings {
             let copy = level > 0 && is_copy(path, (level, offset));

@@ -6,7 +6,7 @@ use reference::hex::show;
 use reference::prove;
 use reference::refusal::Refusal;
 
-use crate::common::{expected, plain, FILL};
+use crate::common::{expected, plain, FILL, GUARDED};
 
 /// What a call that proves an id answers.
 pub type Answer = Result<Proof, Refusal>;
@@ -25,10 +25,10 @@ pub fn fill(id: Hash) -> Proof {
 /// Compares what the two say of an id by a BUMP.
 pub fn check_bump(data: &[u8], id: &Hash) -> Answer {
     let told = prove::by_bump(data, id).map(proof);
-    let (mut carried, mut lent) = (FILL, fill(*id));
+    let (mut guarded, mut lent) = (GUARDED, fill(*id));
     let Proof { position, layers, root, .. } = &mut lent;
-    let number = ffi::prove_bump(data, id, &mut carried, position, layers, root);
-    assert_eq!((number, carried, lent), expected(told, fill(*id)), "{}", show(data));
+    let number = ffi::prove_bump(data, id, &mut guarded.blame, position, layers, root);
+    assert_eq!((number, guarded, lent), expected(told, fill(*id)), "{}", show(data));
     assert_eq!(barrowtide::prove_bump(data, id).map_err(plain), told, "{}", show(data));
     told
 }
@@ -36,10 +36,10 @@ pub fn check_bump(data: &[u8], id: &Hash) -> Answer {
 /// Compares what they say of an id by a CMP.
 pub fn check_cmp(data: &[u8], id: &Hash) -> Answer {
     let told = prove::by_cmp(data, id).map(proof);
-    let (mut carried, mut lent) = (FILL, fill(*id));
+    let (mut guarded, mut lent) = (GUARDED, fill(*id));
     let Proof { position, layers, root, .. } = &mut lent;
-    let number = ffi::prove_cmp(data, id, &mut carried, position, layers, root);
-    assert_eq!((number, carried, lent), expected(told, fill(*id)), "{}", show(data));
+    let number = ffi::prove_cmp(data, id, &mut guarded.blame, position, layers, root);
+    assert_eq!((number, guarded, lent), expected(told, fill(*id)), "{}", show(data));
     assert_eq!(barrowtide::prove_cmp(data, id).map_err(plain), told, "{}", show(data));
     told
 }
@@ -47,9 +47,9 @@ pub fn check_cmp(data: &[u8], id: &Hash) -> Answer {
 /// Compares what they say of all clients of a BUMP.
 pub fn check_clients(data: &[u8]) -> Result<Hash, Refusal> {
     let told = prove::all_clients(data);
-    let (mut carried, mut root) = (FILL, [0xa5; 32]);
-    let number = ffi::check_clients(data, &mut carried, &mut root);
-    assert_eq!((number, carried, root), expected(told, [0xa5; 32]), "{}", show(data));
+    let (mut guarded, mut root) = (GUARDED, [0xa5; 32]);
+    let number = ffi::check_clients(data, &mut guarded.blame, &mut root);
+    assert_eq!((number, guarded, root), expected(told, [0xa5; 32]), "{}", show(data));
     assert_eq!(barrowtide::check_clients(data).map_err(plain), told, "{}", show(data));
     told
 }

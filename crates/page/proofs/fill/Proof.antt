@@ -100,7 +100,7 @@ stayed = (stay-slice (0 ∷ []) tt (plain (λ _. R)), (stay-none-slice (1 ∷ []
 
 -- how many bytes an answer takes
 abbrev size : ℕ
-size = 64
+size = 80
 
 offset-fits : (i n : ℕ) → i < n → n * size < 2 ^ 63 → i * size < 2 ^ 64
 offset-fits i n l g = omega arith

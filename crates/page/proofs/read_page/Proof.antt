@@ -3,6 +3,7 @@ use Rattle.format.specs.declared.path.Path.{Path}
 use Rattle.format.specs.ParseLaws.{answered, each-got, each-bad}
 use Rattle.format.specs.Bump.{headOf, bumpWhole, bumpAnswer, refusalOfBump}
 use Rattle.format.specs.Path.{bumpPathOf}
+use Rattle.spv.specs.Result.{refusedReading}
 use Rattle.page.specs.declared.Paged.{Paged}
 use Rattle.page.specs.declared.Opening.{Opening}
 use Rattle.page.specs.Opening.{unopened, openingOf}
@@ -22,16 +23,19 @@ enum-told c = search needs
 refusal-requires : tie.Need-refusal-requires
 refusal-requires c κs = search needs
 
+reject-reading-requires : tie.Need-reject-reading-requires
+reject-reading-requires c κs = search needs
+
 refused-page-requires : tie.Need-refused-page-requires
 refused-page-requires c κs = search needs
 
 returns : tie.Need-returns
 unfolding openingOf
 returns c =
-    let a = c .before .before .before .before .before .before .args in
-    let told = c .before .before .enum-told .given .1 in
-    let e = each-bad headOf (bumpWhole (a .s .now)) (answered bumpAnswer (c .before .before .before .before .read-bump .ensures) told) in
-    c .refused-page .ensures ∙ ap unopened (c .before .refusal .ensures ∙ ap refusalOfBump told) ∙ ap (openingOf (a .s .now) (a .count)) (sym e)
+    let a = c .before .before .before .before .before .before .before .args in
+    let told = c .before .before .before .enum-told .given .1 in
+    let e = each-bad headOf (bumpWhole (a .s .now)) (answered bumpAnswer (c .before .before .before .before .before .read-bump .ensures) told) in
+    c .refused-page .ensures ∙ ap unopened (c .before .reject-reading .ensures ∙ ap refusedReading (c .before .before .refusal .ensures ∙ ap refusalOfBump told)) ∙ ap (openingOf (a .s .now) (a .count)) (sym e)
 
 bump-path-requires : tie.Need-bump-path-requires
 bump-path-requires c κs = search needs
@@ -52,6 +56,7 @@ read-page-spec =
     enum-known-answer
     enum-told
     refusal-requires
+    reject-reading-requires
     refused-page-requires
     returns
     bump-path-requires

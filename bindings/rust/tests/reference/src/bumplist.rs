@@ -7,11 +7,8 @@ use crate::refusal::{Refusal, TOO_LONG};
 
 /// The program's text for what stands on its standard input.
 pub fn text(input: &[u8]) -> String {
-    let answer = if input.len() > 65_536 {
-        Err(Refusal { number: TOO_LONG, carried: 0 })
-    } else {
-        bump::read(input)
-    };
+    let answer =
+        if input.len() > 65_536 { Err(Refusal::new(TOO_LONG, 0)) } else { bump::read(input) };
     match answer {
         Ok(bump) => listing(&bump),
         Err(refusal) => format!("refused {} at {}\n", refusal.number, refusal.carried),

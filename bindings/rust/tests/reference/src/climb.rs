@@ -1,6 +1,6 @@
 //! "The climb".
 
-use crate::refusal::{MISSING, TWIN};
+use crate::refusal::{Refusal, MISSING, TWIN};
 use crate::sha256::sha256d;
 use crate::Hash;
 
@@ -52,25 +52,27 @@ pub fn beside(position: u64) -> u64 {
 }
 
 /// Climbs `height` layers from `id` at `position`; `sibling` gives the node at a layer and position
-/// of the tree. A refusal is 14 or 15.
+/// of the tree. A refusal is 14 or 15 and blames the first sibling that is missing or a twin.
 pub fn climb(
     id: Hash,
     position: u64,
     height: u64,
     mut sibling: impl FnMut(usize, u64) -> Sibling,
-) -> Result<Climb, u32> {
+) -> Result<Climb, Refusal> {
     let mut layers = Vec::new();
     let mut working = id;
     let mut at = position;
     for layer in 0..height as usize {
-        let other = match sibling(layer, beside(at)) {
+        let place = beside(at);
+        let blamed = |number| Err(Refusal::of_sibling(number, layer as u64, place));
+        let other = match sibling(layer, place) {
             Sibling::Value(hash) => hash,
             Sibling::Copy => working,
-            Sibling::Missing => return Err(MISSING),
+            Sibling::Missing => return blamed(MISSING),
         };
         let odd = at % 2 == 1;
         if odd && other == working {
-            return Err(TWIN);
+            return blamed(TWIN);
         }
         let (left, right) = if odd { (other, working) } else { (working, other) };
         let string: [u8; 64] =

@@ -44,18 +44,24 @@ fn records(data: &[u8], roots: &[u8], room: usize) -> Result<Vec<Record>, Refusa
     let mut records = Vec::new();
     for number in 0..beef.entries.len() {
         let judged = judge_one(&beef, roots, &records, number);
-        records.push(judged.or_else(|refusal| refuse(refusal, number))?);
+        let carried = number as u64;
+        records.push(judged.map_err(|refusal| Refusal { carried, ..refusal })?);
     }
     Ok(records)
 }
 
-/// Judges transaction `number` after the `earlier` ones; a refusal carries that number.
-fn judge_one(beef: &Beef, roots: &[u8], earlier: &[Record], number: usize) -> Result<Record, u32> {
+/// Judges transaction `number` after the `earlier` ones; its refusal is to carry that number.
+fn judge_one(
+    beef: &Beef,
+    roots: &[u8],
+    earlier: &[Record],
+    number: usize,
+) -> Result<Record, Refusal> {
     let entry = &beef.entries[number];
     let transaction = &entry.transaction;
     let known = |id: &Hash| earlier.iter().any(|record| record.id == *id);
     if known(&transaction.id) {
-        return Err(SAME_TX);
+        return refuse(SAME_TX, 0);
     }
     let mut record = Record {
         start: transaction.start as u64,
@@ -66,12 +72,12 @@ fn judge_one(beef: &Beef, roots: &[u8], earlier: &[Record], number: usize) -> Re
     if let Some(bump) = entry.anchor {
         let climb = climb_path(&beef.bumps[bump as usize].path, &transaction.id)?;
         if !roots.chunks_exact(32).any(|root| root == climb.root()) {
-            return Err(UNTRUSTED);
+            return refuse(UNTRUSTED, 0);
         }
         let position = u32::try_from(climb.position).expect("a tree of 32 layers");
         record = Record { anchored: true, bump, position, ..record };
     } else if !transaction.inputs.iter().all(|input| known(&input.parent)) {
-        return Err(NO_PARENT);
+        return refuse(NO_PARENT, 0);
     }
     Ok(record)
 }

@@ -12,6 +12,10 @@ pub struct Answer {
     pub refusal: u64,
     /// What the refusal carries.
     pub carried: u64,
+    /// Of 14 and 15 the sibling's layer.
+    pub layer: u64,
+    /// Of 14 and 15 the sibling's position in that layer.
+    pub sibling: u64,
     /// The id's position in the block.
     pub position: u64,
     /// The number of layers above it.
@@ -40,7 +44,9 @@ fn answers(data: &[u8], ids: &[u8], room: usize) -> Result<Vec<Answer>, Refusal>
     }
     let path = bump::read(data)?.path;
     let single = |id: &[u8]| match climb_path(&path, &std::array::from_fn(|i| id[i])) {
-        Err(number) => Answer { refusal: u64::from(number), ..Answer::default() },
+        Err(Refusal { number, carried, layer, sibling }) => {
+            Answer { refusal: u64::from(number), carried, layer, sibling, ..Answer::default() }
+        }
         Ok(climb) => Answer {
             position: climb.position,
             layers: climb.layers.len() as u64,

@@ -1,17 +1,34 @@
 //! 01's "Numbers of refusal".
 
-/// A refusal: its number, and the place or transaction number that it carries.
+/// A refusal: its number, the place or transaction number that it carries, and of 14 and 15 the
+/// sibling to blame (02, Item 5).
 #[derive(Debug, Clone, Copy, PartialEq, Eq)]
 pub struct Refusal {
     /// The number of 01's table.
     pub number: u32,
     /// A place in the input, a transaction's number, or 0.
     pub carried: u64,
+    /// Of 14 and 15 the sibling's layer, else 0.
+    pub layer: u64,
+    /// Of 14 and 15 the sibling's position in that layer, else 0.
+    pub sibling: u64,
+}
+
+impl Refusal {
+    /// A refusal that blames no sibling.
+    pub fn new(number: u32, carried: u64) -> Self {
+        Self { number, carried, layer: 0, sibling: 0 }
+    }
+
+    /// 14 or 15 of a climb; it carries 0 outside of a BEEF.
+    pub fn of_sibling(number: u32, layer: u64, sibling: u64) -> Self {
+        Self { number, carried: 0, layer, sibling }
+    }
 }
 
 /// The refusal `number` that blames the place `at`.
 pub fn refuse<T>(number: u32, at: usize) -> Result<T, Refusal> {
-    Err(Refusal { number, carried: at as u64 })
+    Err(Refusal::new(number, at as u64))
 }
 
 /// Input over its size.

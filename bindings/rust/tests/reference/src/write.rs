@@ -4,7 +4,7 @@ use std::collections::{BTreeSet, HashSet};
 
 use crate::climb::{beside, climb, Sibling};
 use crate::generate::draft::varint;
-use crate::refusal::{refuse, Refusal, BAD_OFFSET, NOT_LISTED, NO_ROOM, OVER_LIMIT, SAME_TX, TWIN};
+use crate::refusal::{refuse, Refusal, BAD_OFFSET, NOT_LISTED, NO_ROOM, OVER_LIMIT, SAME_TX};
 use crate::sha256::join;
 use crate::Hash;
 
@@ -33,8 +33,8 @@ pub fn write_bump(
     }
     let chosen: BTreeSet<u64> = positions.iter().copied().collect();
     let tree = layers(ids);
-    if chosen.iter().any(|&position| meets_twin(&tree, position)) {
-        return refuse(TWIN, 0);
+    if let Some(refusal) = twin(&tree, &chosen) {
+        return Err(refusal);
     }
     let bytes = bump(block_height, &tree, &chosen);
     if bytes.len() > room {
@@ -63,10 +63,11 @@ fn node(layer: &[Hash], position: u64) -> Sibling {
     layer.get(position as usize).map_or(Sibling::Copy, |hash| Sibling::Value(*hash))
 }
 
-fn meets_twin(tree: &[Vec<Hash>], position: u64) -> bool {
-    let id = tree[0][position as usize];
+/// The refusal of the least chosen position whose climb meets a twin; a tree misses no sibling.
+fn twin(tree: &[Vec<Hash>], chosen: &BTreeSet<u64>) -> Option<Refusal> {
     let sibling = |layer: usize, offset| node(&tree[layer], offset);
-    climb(id, position, tree.len() as u64, sibling) == Err(TWIN)
+    let from = |&position| climb(tree[0][position as usize], position, tree.len() as u64, sibling);
+    chosen.iter().find_map(|position: &u64| from(position).err())
 }
 
 /// The bytes: at each level the siblings that the chosen positions' climbs need, and at level 0 the
@@ -102,6 +103,7 @@ fn bump(block_height: u64, tree: &[Vec<Hash>], chosen: &BTreeSet<u64>) -> Vec<u8
 mod tests {
     use super::*;
     use crate::hex::expand;
+    use crate::refusal::TWIN;
 
     fn written(ids: &str, positions: &[u64]) -> Vec<u8> {
         write_bump(0, &expand(ids), positions, 999).expect("a sound list")
@@ -125,12 +127,33 @@ mod tests {
         );
     }
 
-    /// No list of different ids leads to a twin that is known, so a tree is made by hand: the
-    /// nodes of layer 1 are equal, which only the climb that comes from the right refuses.
+    /// No list of different ids leads to a twin that is known, so trees are made by hand. In the
+    /// first the nodes of layer 1 are equal, which only the climb that comes from the right refuses.
     #[test]
     fn twins() {
-        let parent = join(&[0xcc; 32], &[0xcc; 32]);
-        let tree = [vec![[0xaa; 32], [0xbb; 32], [0xcc; 32]], vec![parent, parent]];
-        assert_eq!([0, 1, 2].map(|position| meets_twin(&tree, position)), [false, false, true]);
+        let blamed = |tree: &[Vec<Hash>], positions: &[u64]| {
+            let chosen = positions.iter().copied().collect();
+            twin(tree, &chosen).map(|refusal| {
+                assert_eq!((refusal.number, refusal.carried), (TWIN, 0));
+                (refusal.layer, refusal.sibling)
+            })
+        };
+        let hash = |byte: u8| [byte; 32];
+        let parent = join(&hash(0xcc), &hash(0xcc));
+        let tree = [vec![hash(0xaa), hash(0xbb), hash(0xcc)], vec![parent, parent]];
+        let told = [0, 1, 2].map(|position| blamed(&tree, &[position]));
+        assert_eq!(told, [None, None, Some((1, 0))]);
+        assert_eq!(blamed(&tree, &[1, 2, 0]), Some((1, 0)));
+
+        // The climb from 3 has twins at layers 0 and 1, from 2 at layer 1, from 5 at layer 0: the
+        // lowest layer of the least chosen position is blamed, not the lowest of all.
+        let leaves = [1, 2, 3, 3, 5, 5, 7, 8].map(hash);
+        let low = [join(&leaves[2], &leaves[3]), hash(9), hash(10), hash(11)];
+        let tree = [leaves.to_vec(), low.to_vec(), vec![hash(12), hash(13)]];
+        assert_eq!(blamed(&tree, &[3]), Some((0, 2)));
+        assert_eq!(blamed(&tree, &[5, 3, 2]), Some((1, 0)));
+        assert_eq!(blamed(&tree, &[5, 3]), Some((0, 2)));
+        assert_eq!(blamed(&tree, &[7, 5]), Some((0, 4)));
+        assert_eq!(blamed(&tree, &[7, 4, 1, 0]), None);
     }
 }

@@ -1,6 +1,6 @@
 -- `barrowtide_prove_page` meets its contract: a walk of its MIR, by hand. It passes the row on to `page::prove_page`, and the number to `tell`, for good: each at its own lifetime, share and name (`gave-slice`, `gave-ref`).
 -- Assumes nothing.
-use mathlib.Core.Path.{_≡_, refl, ap, _∙_}
+use mathlib.Core.Path.{_≡_, refl}
 use Prim.Native.Nat.{ℕ, _<_, _^_}
 use mathlib.Core.List.{[], _∷_, List}
 use lib.ListN.{length, getD}
@@ -24,6 +24,7 @@ use denote.RattleType.{RattleType, owns}
 use denote.Laws.{Is, shows}
 use denote.Plain.{uint-lawful}
 use denote.Builtin.{u8, u32, u64}
+use denote.Array.{Array}
 use denote.Ref.{RefT, MutRef, ptr-vals, mut-tells}
 use denote.Slice.{sliceVal, MutSlice, ShrSlice, Room, finally, slice-vals, mut-slice-tells, shr-slice-tells, shr-slice-copy}
 use denote.Signature.{plain}
@@ -37,12 +38,11 @@ use denote.Triple.Spec.{Meets, tripleOf}
 use denote.Triple.Table.{entered, cited}
 use denote.Triple.Walked.{says, Stays, stay-none-slice, gave-slice, gave-ref, walkOf, AllGo, goes-none-slice, goes-gave-slice, goes-gave-ref, Walks, ends-at, walked, walk-meets}
 use denote.Exit.{yes}
-use Rattle.format.specs.Parse.{Parse}
+use Rattle.spv.specs.Result.{Result}
+use Rattle.barrowtide.specs.Interface.{refusal, blame}
 use Rattle.page.specs.declared.Answer.{Answer}
 use Rattle.page.specs.declared.Paged.{Paged}
 use Rattle.page.specs.Page.{page, pagedOf, rowOf}
-use Rattle.barrowtide.specs.Interface.{refusal, place}
-use Rattle.barrowtide.specs.Pages.{ofPaged, paged-refusal, paged-place}
 use Rattle.page.proofs.Answer as T
 use Rattle.page.proofs.Paged as E
 use Rattle.page.proofs.Paged.Laws as E′
@@ -62,6 +62,10 @@ use Rattle.barrowtide.proofs.pages.barrowtide_prove_page.Code as code
 abbrev R : RattleType
 R = T.the-row
 
+-- what a refusal blames
+abbrev Three : RattleType
+Three = Array u64 3
+
 -- the type of the local k
 abbrev local-type : Local → Ty
 local-type (local τ h) = τ
@@ -70,7 +74,7 @@ abbrev ty : ℕ → Ty
 ty k = local-type (getD (code.function .locals) k (local tyUnit valueLocal))
 
 abbrev stayed : Stays (f.ended .signature .params) (f.ended .kept)
-stayed = (stay-none-slice (0 ∷ []) tt (plain (λ _. u8)) yes, (stay-none-slice (1 ∷ []) tt (plain (λ _. u8)) yes, (gave-slice (2 ∷ []) tt (plain (λ _. R)), (gave-ref (3 ∷ []) tt (plain (λ _. u64)), tt))))
+stayed = (stay-none-slice (0 ∷ []) tt (plain (λ _. u8)) yes, (stay-none-slice (1 ∷ []) tt (plain (λ _. u8)) yes, (gave-slice (2 ∷ []) tt (plain (λ _. R)), (gave-ref (3 ∷ []) tt (plain (λ _. Three)), tt))))
 
 -- the contracts that the proof cites
 module _ {M : Type 1} (𝓤 : URA M) (H : Heap 𝓤) (A : Atoms 𝓤) (mem : Memory → SProp 𝓤) (run : Routine → Fun 𝓤) where
@@ -81,15 +85,15 @@ module _ {M : Type 1} (𝓤 : URA M) (H : Heap 𝓤) (A : Atoms 𝓤) (mem : Mem
   K = tripleOf 𝓤 H A h.signature (h.spec 𝓤 H A mem run)
 
 module _ {M : Type 1} (𝓤 : URA M) (H : Heap 𝓤) (A : Atoms 𝓤) (W : Given 𝓤 H A) (mem : Memory → SProp 𝓤) (run : Routine → Fun 𝓤) (κ₀ κ₁ κ₂ κ₃ : Lft) (q₀ q₁ q₂ q₃ : Share)
-    (input ids : RefT (List ℕ)) (b o : ℕ) (γ : GName) (ys : List Answer) (carried : RefT ℕ) (input-fits : length (input .now) < 2 ^ 64) (ids-fits : length (ids .now) < 2 ^ 64) (room : Room R (length ys)) where
+    (input ids : RefT (List ℕ)) (b o : ℕ) (γ : GName) (ys : List Answer) (blames : RefT (List ℕ)) (input-fits : length (input .now) < 2 ^ 64) (ids-fits : length (ids .now) < 2 ^ 64) (room : Room R (length ys)) where
   abbrev x : RefT (List Answer)
   x = record { ptr = (b, o); name = γ; now = ys }
 
   abbrev Arg : Type 0
-  Arg = RefT (List ℕ) × (RefT (List ℕ) × (RefT (List Answer) × (RefT ℕ × Unit {0})))
+  Arg = RefT (List ℕ) × (RefT (List ℕ) × (RefT (List Answer) × (RefT (List ℕ) × Unit {0})))
 
   abbrev a : Arg
-  a = (input, (ids, (x, (carried, tt))))
+  a = (input, (ids, (x, (blames, tt))))
 
   abbrev len : ℕ
   len = length ys
@@ -104,7 +108,7 @@ module _ {M : Type 1} (𝓤 : URA M) (H : Heap 𝓤) (A : Atoms 𝓤) (W : Given
   s₂ = sliceVal (b, o) len
 
   abbrev p₃ : Val
-  p₃ = vptr (carried .ptr .0) (carried .ptr .1)
+  p₃ = vptr (blames .ptr .0) (blames .ptr .1)
 
   abbrev vals : List Val × (List Val × (List Val × (List Val × Unit {0})))
   vals = (s₀ ∷ [], (s₁ ∷ [], (s₂ ∷ [], (p₃ ∷ [], tt))))
@@ -120,10 +124,10 @@ module _ {M : Type 1} (𝓤 : URA M) (H : Heap 𝓤) (A : Atoms 𝓤) (W : Given
   X = MutSlice (named 2) κ₂ R .own x (s₂ ∷ [])
 
   abbrev P : Fml
-  P = MutRef (named 3) κ₃ u64 .own carried (p₃ ∷ [])
+  P = MutRef (named 3) κ₃ Three .own blames (p₃ ∷ [])
 
   -- the page that is asked for
-  abbrev wanted : Parse (List Answer)
+  abbrev wanted : Result (List Answer)
   wanted = page (input .now) (ids .now) len
 
   abbrev Post : Val → SProp 𝓤
@@ -146,10 +150,10 @@ module _ {M : Type 1} (𝓤 : URA M) (H : Heap 𝓤) (A : Atoms 𝓤) (W : Given
 
   -- ---- the call of `tell`: the number's own lifetime, share and name
   abbrev Arg₂ : Type 0
-  Arg₂ = Paged × (RefT ℕ × Unit {0})
+  Arg₂ = Paged × (RefT (List ℕ) × Unit {0})
 
   abbrev a₂ : Paged → Arg₂
-  a₂ v = (v, (carried, tt))
+  a₂ v = (v, (blames, tt))
 
   abbrev to-tell : Paged → Val → K 𝓤 H A mem run .Ghost
   to-tell v w = (((κ₃, tt), (q₃, tt), tt, a₂ v, (w ∷ [], (p₃ ∷ [], tt))), tt)
@@ -163,24 +167,25 @@ module _ {M : Type 1} (𝓤 : URA M) (H : Heap 𝓤) (A : Atoms 𝓤) (W : Given
   abbrev Proved : Paged → List Answer → Type 0
   Proved v zs = (v ≡ pagedOf wanted) × (zs ≡ rowOf wanted len)
 
-  abbrev Told : Paged → ℕ → ℕ → Type 0
-  Told v n c = (n ≡ refusal (ofPaged v)) × (c ≡ place (ofPaged v) (carried .now))
+  abbrev Told : Paged → ℕ → List ℕ → Type 0
+  Told v n c = (w : Result (List Answer)) → v ≡ pagedOf w → (n ≡ refusal w) × (c ≡ blame w (blames .now))
 
-  exits : (v : Paged) (zs : List Answer) (n c : ℕ) (u : Val) → length zs ≡ len → Proved v zs → Told v n c
-      → ent 𝓤 (⋆ 𝓤 H A (‵ (u32 .own n (u ∷ [])) ∷ (‵ (flft κ₃ q₃) ⊛ ‵ ftrue) ∷ ‵ (fres (carried .name) (u64 .coded .code c)) ∷ (‵ (flft κ₀ q₀) ⊛ ‵ (flft κ₁ q₁) ⊛ ‵ (flft κ₂ q₂) ⊛ ‵ ftrue) ∷ ‵ (finally R γ zs) ∷ ‵ N ∷ ‵ I ∷ [])) (Post u)
+  exits : (v : Paged) (zs : List Answer) (n : ℕ) (c : List ℕ) (u : Val) → length zs ≡ len → Proved v zs → Told v n c
+      → ent 𝓤 (⋆ 𝓤 H A (‵ (u32 .own n (u ∷ [])) ∷ (‵ (flft κ₃ q₃) ⊛ ‵ ftrue) ∷ ‵ (fres (blames .name) (Three .coded .code c)) ∷ (‵ (flft κ₀ q₀) ⊛ ‵ (flft κ₁ q₁) ⊛ ‵ (flft κ₂ q₂) ⊛ ‵ ftrue) ∷ ‵ (finally R γ zs) ∷ ‵ N ∷ ‵ I ∷ [])) (Post u)
   exits v zs n c u l d e =
-      qed W (‵ (u32 .own n (u ∷ [])) ∷ (‵ (flft κ₃ q₃) ⊛ ‵ ftrue) ∷ ‵ (fres (carried .name) (u64 .coded .code c)) ∷ (‵ (flft κ₀ q₀) ⊛ ‵ (flft κ₁ q₁) ⊛ ‵ (flft κ₂ q₂) ⊛ ‵ ftrue) ∷ ‵ (finally R γ zs) ∷ ‵ N ∷ ‵ I ∷ []) ∵
+      qed W (‵ (u32 .own n (u ∷ [])) ∷ (‵ (flft κ₃ q₃) ⊛ ‵ ftrue) ∷ ‵ (fres (blames .name) (Three .coded .code c)) ∷ (‵ (flft κ₀ q₀) ⊛ ‵ (flft κ₁ q₁) ⊛ ‵ (flft κ₂ q₂) ⊛ ‵ ftrue) ∷ ‵ (finally R γ zs) ∷ ‵ N ∷ ‵ I ∷ []) ∵
       suffices ! _ (ends-at 𝓤 H A f.ended stayed (f.clauses 𝓤 H A mem run) W (((κ₀, (κ₁, (κ₂, (κ₃, tt)))), (q₀, (q₁, (q₂, (q₃, tt)))), tt, a, vals), tt) u n (tt, (tt, (zs, (c, tt)))) (tt, (tt, (l, (tt, tt))))) $
-      says ! (e .0 ∙ ap (λ (y : Paged). refusal (ofPaged y)) (d .0) ∙ paged-refusal wanted, d .1, e .1 ∙ ap (λ (y : Paged). place (ofPaged y) (carried .now)) (d .0) ∙ paged-place wanted (carried .now)) $
+      let t = e wanted (d .0) in
+      says ! (t .0, d .1, t .1) $
       -- the tokens
       move ! (3 ∷ []) $ split ! $ move ! (1 ∷ []) $ split ! $ move ! (1 ∷ []) $ split ! $ move ! (1 ∷ []) $ drop ! $ move ! (0 ∷ 4 ∷ []) $ join ! $ move ! (1 ∷ 0 ∷ []) $ join ! $ move ! (1 ∷ 0 ∷ []) $ join ! $ frame ! $
-      -- [the result; carried; the last list; ids; input]
+      -- [the result; blames; the last list; ids; input]
       nothing ! $ move ! (2 ∷ 0 ∷ []) $ fjoin ! $ move ! (2 ∷ 0 ∷ []) $ fjoin ! $ move ! (2 ∷ 0 ∷ []) $ fjoin ! $ move ! (2 ∷ 0 ∷ []) $ fjoin ! $ done !
 
   module _ (C : Calls 𝓤 H) (Λ : Loops 𝓤 H) (fm : FmC 𝓤 H (W .laws) C) (proves : Triple 𝓤 (C #page·prove-page) (G 𝓤 H A mem run)) (tells : Triple 𝓤 (C #barrowtide·pages·tell) (K 𝓤 H A mem run)) where
     walk : ent 𝓤 (onEntry 𝓤 H A f.signature (κ₀, (κ₁, (κ₂, (κ₃, tt)))) (q₀, (q₁, (q₂, (q₃, tt)))) a vals) (WpFn 𝓤 H C Λ code.function (s₀ ∷ s₁ ∷ s₂ ∷ p₃ ∷ []) Post)
     walk =
-        qed W ((‵ (flft κ₀ q₀) ⊛ ‵ (flft κ₁ q₁) ⊛ ‵ (flft κ₂ q₂) ⊛ ‵ (flft κ₃ q₃) ⊛ ‵ ftrue) ∷ ‵ (owns (ShrSlice (named 0) κ₀ u8 ∷ ShrSlice (named 1) κ₁ u8 ∷ MutSlice (named 2) κ₂ R ∷ MutRef (named 3) κ₃ u64 ∷ []) a vals) ∷ []) ∵ enter ! C Λ code.function (s₀ ∷ s₁ ∷ s₂ ∷ p₃ ∷ []) _ $
+        qed W ((‵ (flft κ₀ q₀) ⊛ ‵ (flft κ₁ q₁) ⊛ ‵ (flft κ₂ q₂) ⊛ ‵ (flft κ₃ q₃) ⊛ ‵ ftrue) ∷ ‵ (owns (ShrSlice (named 0) κ₀ u8 ∷ ShrSlice (named 1) κ₁ u8 ∷ MutSlice (named 2) κ₂ R ∷ MutRef (named 3) κ₃ Three ∷ []) a vals) ∷ []) ∵ enter ! C Λ code.function (s₀ ∷ s₁ ∷ s₂ ∷ p₃ ∷ []) _ $
         alloc1 ! (λ l₀. alloc1 ! (λ l₁. alloc1 ! (λ l₂. alloc1 ! (λ l₃. alloc1 ! (λ l₄. alloc1 ! (λ l₅. alloc1 ! (λ l₆. alloc1 ! (λ l₇. alloc1 ! (λ l₈. alloc0 ! $ params1 ! $
         pass1 ! (init ! 14 refl (tt, (tt, (record { fits = input-fits }, tt)))) $ pass1 ! (init ! 12 refl (tt, (tt, (record { fits = ids-fits }, tt)))) $ pass1 ! (init ! 10 refl (tt, (tt, (record { fits = room .0 }, tt)))) $
         pass1 ! (init ! 8 refl (tt, tt)) $ pass0 ! $
@@ -188,33 +193,33 @@ module _ {M : Type 1} (𝓤 : URA M) (H : Heap 𝓤) (A : Atoms 𝓤) (W : Given
         assigns ! (addr ! (from ! (fld ! refl (hop ! (look-in ! 10 (sub ! 0 refl (whole !))) (stop !))))) (from ! (stop !)) (init ! 4 refl (tt, tt)) $
         assigns ! (agg ! (and-then ! (load ! (from ! (stop !)) (look ! 4 refl)) (and-then ! (load ! (from ! (fld ! refl (stop !))) (look-in ! 10 (sub ! 1 refl (whole !)))) (no-more !)))) (from ! (stop !)) (init ! 2 refl (tt, (tt, (record { fits = room .0 }, tt)))) $
         move ! (19 ∷ 18 ∷ []) $ fsplit ! $ move ! (1 ∷ []) $ fsplit ! $ move ! (1 ∷ []) $ fsplit ! $ move ! (1 ∷ []) $ fsplit ! $
-        -- [carried; true; the row; ids; input; the tokens; _8; …]
+        -- [blames; true; the row; ids; input; the tokens; _8; …]
         move ! (5 ∷ []) $ split ! $ move ! (1 ∷ []) $ split ! $ move ! (1 ∷ []) $ split ! $
-        -- [the row's token; the number's; ids'; input's; carried; true; the row; ids; input; _8; …]: what a `&` owns is had twice
+        -- [the row's token; the number's; ids'; input's; blames; true; the row; ids; input; _8; …]: what a `&` owns is had twice
         move ! (8 ∷ []) $ use1 W (‵ I ⊛ ‵ I) (shr-slice-copy 𝓤 H A W (named 0) κ₀ u8 .twice input (s₀ ∷ [])) $ split ! $
         move ! (9 ∷ []) $ use1 W (‵ N ⊛ ‵ N) (shr-slice-copy 𝓤 H A W (named 1) κ₁ u8 .twice ids (s₁ ∷ [])) $ split ! $
-        -- [ids; ids; input; input; the row's token; the number's; ids'; input's; carried; true; the row; _8; …]
+        -- [ids; ids; input; input; the row's token; the number's; ids'; input's; blames; true; the row; _8; …]
         move ! (7 ∷ 6 ∷ 4 ∷ 2 ∷ 0 ∷ 10 ∷ []) $ cut (‵ (flft κ₀ q₀) ∷ ‵ (flft κ₁ q₁) ∷ ‵ (flft κ₂ q₂) ∷ ‵ I ∷ ‵ N ∷ ‵ X ∷ []) (raw (G 𝓤 H A mem run .pre to-prove) ∷ []) _ asks-prove $
-        -- [what the call asks; ids; input; the number's token; carried; true; _8; …]
+        -- [what the call asks; ids; input; the number's token; blames; true; _8; …]
         calls-at ! fm (G 𝓤 H A mem run) proves to-prove (and-then ! (load ! (from ! (stop !)) (look ! 20 refl)) (and-then ! (load ! (from ! (stop !)) (look ! 18 refl)) (and-then ! (load ! (from ! (stop !)) (look ! 8 refl)) (no-more !)))) (λ w.
         use1 W (later (some (λ (v : Paged). ((‵ (flft κ₀ q₀) ⊛ ‵ (flft κ₁ q₁) ⊛ ‵ (flft κ₂ q₂) ⊛ ‵ ftrue) ⊛ ‵ (E.the-row .own v (w ∷ []))) ⊛ raw (ensured 𝓤 H A g.ended (g.clauses 𝓤 H A mem run) (κ₀, (κ₁, (κ₂, tt))) a₁ tt v)))) (id⊢ 𝓤 _) $ await ! tt $ pick ! (λ v. split ! $
         move ! (1 ∷ []) $ use1 W (some (λ (zs : Unit {0} × (Unit {0} × (List Answer × Unit {0}))). ‵ (lasts g.ended (κ₀, (κ₁, (κ₂, tt))) a₁ zs) ⊛ raw (fact 𝓤 (Proved v (zs .1 .1 .0))))) (id⊢ 𝓤 _) $ pick ! (λ zs. split ! $ move ! (1 ∷ []) $
         heard ! (Proved v (zs .1 .1 .0)) (λ d. fsplit ! $ drop ! $ fsplit ! $ drop ! $ fsplit ! $ fsplit ! $ move ! (1 ∷ []) $ feqL ! (λ l.
-        -- [the last list; true; the tokens and the result; ids; input; the number's token; carried; true; _8; …]
+        -- [the last list; true; the tokens and the result; ids; input; the number's token; blames; true; _8; …]
         move ! (2 ∷ []) $ split ! $ move ! (1 ∷ []) $ peeks ! E.the-row (Is E.the-row) (shows 𝓤 H A E.the-row) v (w ∷ []) (λ is.
         land ! (from ! (stop !)) (init ! 15 refl (EL.lawful E.the-type E′.the-laws 𝓤 H A W tt .typed v (w ∷ []) is .0)) $
-        -- [the answer; the tokens; the last list; true; ids; input; the number's token; carried; true; _8; …; _7; …; _6; …; _5; …; _4; …; _3; …; _2; …; _1; …; _0; …]
+        -- [the answer; the tokens; the last list; true; ids; input; the number's token; blames; true; _8; …; _7; …; _6; …; _5; …; _4; …; _3; …; _2; …; _1; …; _0; …]
         assigns ! (addr ! (from ! (hop ! (look ! 17 refl) (stop !)))) (from ! (stop !)) (init ! 9 refl (tt, tt)) $
         move ! (6 ∷ 0 ∷ 7 ∷ []) $ cut ((‵ (flft κ₃ q₃) ⊛ ‵ ftrue) ∷ ‵ (E.the-row .own v (w ∷ [])) ∷ ‵ P ∷ []) (raw (K 𝓤 H A mem run .pre (to-tell v w)) ∷ []) _ (asks-tell v w) $
         -- [what the call asks; the tokens; the last list; true; ids; input; true; _8; …]
         calls-at ! fm (K 𝓤 H A mem run) tells (to-tell v w) (and-then ! (load ! (from ! (stop !)) (look ! 13 refl)) (and-then ! (load ! (from ! (stop !)) (look ! 7 refl)) (no-more !))) (λ u.
         use1 W (later (some (λ (n : ℕ). ((‵ (flft κ₃ q₃) ⊛ ‵ ftrue) ⊛ ‵ (u32 .own n (u ∷ []))) ⊛ raw (ensured 𝓤 H A h.ended (h.clauses 𝓤 H A mem run) (κ₃, tt) (a₂ v) tt n)))) (id⊢ 𝓤 _) $ await ! tt $ pick ! (λ n. split ! $
-        move ! (1 ∷ []) $ use1 W (some (λ (ms : Unit {0} × (ℕ × Unit {0})). ‵ (lasts h.ended (κ₃, tt) (a₂ v) ms) ⊛ raw (fact 𝓤 (Told v n (ms .1 .0))))) (id⊢ 𝓤 _) $ pick ! (λ ms. split ! $ move ! (1 ∷ []) $
+        move ! (1 ∷ []) $ use1 W (some (λ (ms : Unit {0} × (List ℕ × Unit {0})). ‵ (lasts h.ended (κ₃, tt) (a₂ v) ms) ⊛ raw (fact 𝓤 (Told v n (ms .1 .0))))) (id⊢ 𝓤 _) $ pick ! (λ ms. split ! $ move ! (1 ∷ []) $
         heard ! (Told v n (ms .1 .0)) (λ e. fsplit ! $ drop ! $ fsplit ! $ move ! (1 ∷ []) $ drop ! $
-        -- [carried's last; the token and the result; the others' tokens; the last list; true; ids; input; true; _8; …]
+        -- [blames's last; the token and the result; the others' tokens; the last list; true; ids; input; true; _8; …]
         move ! (1 ∷ []) $ split ! $ move ! (1 ∷ []) $ peeks ! u32 (Is u32) (shows 𝓤 H A u32) n (u ∷ []) (λ in32.
         land ! (from ! (stop !)) (init ! 25 refl (uint-lawful 𝓤 H A W w32 .typed n _ in32 .0)) $
-        -- [the result; the number's token; carried's last; the others' tokens; the last list; true; ids; input; true; _8; …; _0; …]
+        -- [the result; the number's token; blames's last; the others' tokens; the last list; true; ids; input; true; _8; …; _0; …]
         returns ! (look ! 25 refl) $ forget ! 9 refl $ forget ! 11 refl $ forget ! 13 refl $ forget ! 15 refl $ forget ! 17 refl $ forget ! 19 refl $ forget ! 21 refl $ forget ! 23 refl $ forget ! 25 refl $
         move ! (25 ∷ 26 ∷ []) $ free1 ! $ move ! (23 ∷ 24 ∷ []) $ free1 ! $ move ! (21 ∷ 22 ∷ []) $ free1 ! $ move ! (19 ∷ 20 ∷ []) $ free1 ! $ move ! (17 ∷ 18 ∷ []) $ free1 ! $ move ! (15 ∷ 16 ∷ []) $ free1 ! $ move ! (13 ∷ 14 ∷ []) $ free1 ! $ move ! (11 ∷ 12 ∷ []) $ free1 ! $ move ! (9 ∷ 10 ∷ []) $ free1 ! $ free0 ! $
         keep ! (0 ∷ 1 ∷ 2 ∷ 3 ∷ 4 ∷ 6 ∷ 7 ∷ []) $ by ! (exits v (zs .1 .1 .0) n (ms .1 .0) u l d e)))))))))))))))))))))
@@ -222,12 +227,12 @@ module _ {M : Type 1} (𝓤 : URA M) (H : Heap 𝓤) (A : Atoms 𝓤) (W : Given
 module _ {M : Type 1} (𝓤 : URA M) (H : Heap 𝓤) (A : Atoms 𝓤) (W : Given 𝓤 H A) (mem : Memory → SProp 𝓤) (run : Routine → Fun 𝓤) where
   page-walks : (C : Calls 𝓤 H) (Λ : Loops 𝓤 H) → FmC 𝓤 H (W .laws) C → Triple 𝓤 (C #page·prove-page) (G 𝓤 H A mem run) → Triple 𝓤 (C #barrowtide·pages·tell) (K 𝓤 H A mem run) → Walks 𝓤 H A f.ended stayed (WpFn 𝓤 H C Λ code.function) (f.clauses 𝓤 H A mem run)
   page-walks C Λ fm proves tells = walked 𝓤 H A f.ended stayed (f.clauses 𝓤 H A mem run) (WpFn 𝓤 H C Λ code.function)
-      (λ κs. (slice-vals, (slice-vals, (slice-vals, (ptr-vals, tt))))) (λ κs. (shr-slice-tells (named 0) (κs .0) u8, (shr-slice-tells (named 1) (κs .1 .0) u8, (mut-slice-tells (named 2) (κs .1 .1 .0) R, (mut-tells (named 3) (κs .1 .1 .1 .0) u64, tt)))))
+      (λ κs. (slice-vals, (slice-vals, (slice-vals, (ptr-vals, tt))))) (λ κs. (shr-slice-tells (named 0) (κs .0) u8, (shr-slice-tells (named 1) (κs .1 .0) u8, (mut-slice-tells (named 2) (κs .1 .1 .0) R, (mut-tells (named 3) (κs .1 .1 .1 .0) Three, tt)))))
       (λ κs qs bounds a g are. via 𝓤 _ (fst∗ 𝓤 _ (emp 𝓤))
       (walk 𝓤 H A W mem run (κs .0) (κs .1 .0) (κs .1 .1 .0) (κs .1 .1 .1 .0) (qs .0) (qs .1 .0) (qs .1 .1 .0) (qs .1 .1 .1 .0) (a .0) (a .1 .0) (a .1 .1 .0 .ptr .0) (a .1 .1 .0 .ptr .1) (a .1 .1 .0 .name) (a .1 .1 .0 .now) (a .1 .1 .1 .0) (are .0 .0 .1 .0) (are .1 .0 .0 .1 .0) (are .1 .1 .0 .0 .1) C Λ fm proves tells))
 
   goes : AllGo 𝓤 H A W 4 (f.signature .params) (f.ended .kept) stayed
-  goes = (goes-none-slice 𝓤 H A W 4 (0 ∷ []) tt (plain (λ _. u8)) yes, (goes-none-slice 𝓤 H A W 4 (1 ∷ []) tt (plain (λ _. u8)) yes, (goes-gave-slice 𝓤 H A W 4 2 tt (plain (λ _. R)), (goes-gave-ref 𝓤 H A W 4 3 tt (plain (λ _. u64)), tt))))
+  goes = (goes-none-slice 𝓤 H A W 4 (0 ∷ []) tt (plain (λ _. u8)) yes, (goes-none-slice 𝓤 H A W 4 (1 ∷ []) tt (plain (λ _. u8)) yes, (goes-gave-slice 𝓤 H A W 4 2 tt (plain (λ _. R)), (goes-gave-ref 𝓤 H A W 4 3 tt (plain (λ _. Three)), tt))))
 
 page-meets : {M : Type 1} (𝓤 : URA M) (H : Heap 𝓤) (A : Atoms 𝓤) → Given 𝓤 H A → (mem : Memory → SProp 𝓤) (run : Routine → Fun 𝓤) (𝓣 : Tables 𝓤 H) → Triple 𝓤 (𝓣 .C #page·prove-page) (G 𝓤 H A mem run) → Triple 𝓤 (𝓣 .C #barrowtide·pages·tell) (K 𝓤 H A mem run)
     → Meets 𝓤 H A f.signature (WpFn 𝓤 H (𝓣 .C) (𝓣 .Λ) code.function) (f.spec 𝓤 H A mem run)

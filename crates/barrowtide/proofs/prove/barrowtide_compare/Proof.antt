@@ -1,6 +1,7 @@
 use borrow.Author.Needs.{needs}
-use Rattle.barrowtide.specs.Interface.{refused-number, refused-place, refused-taken, read-number, read-place, read-taken}
-use Rattle.barrowtide.specs.Answers.{compared-pair, compared-refused}
+use mathlib.Core.Path.{sym, _∙_}
+use Rattle.barrowtide.specs.InterfaceLaws.{refused-number, refused-blame, refused-taken, given-number, given-blame, given-taken}
+use Rattle.barrowtide.specs.AnswersLaws.{compared-pair, compared-refused}
 use Rattle.barrowtide.proofs.prove.barrowtide_compare.Statement.{statement}
 use Rattle.barrowtide.proofs.prove.barrowtide_compare.Tie as tie
 use Rattle.barrowtide.proofs.prove.barrowtide_compare.Reads as reads
@@ -20,6 +21,9 @@ compare-requires c κs = search needs
 enum-known-comparison : tie.Need-enum-known-comparison
 enum-known-comparison c = search needs
 
+blame-of-requires : tie.Need-blame-of-requires
+blame-of-requires c κs = search needs
+
 cast-result : tie.Need-cast-result
 cast-result c = search needs
 
@@ -28,15 +32,16 @@ enum-told c = search needs
 
 returns : tie.Need-returns
 returns c =
-    let e = compared-refused _ _ (c .before .before .comparison .given .1) in
-    rw (← c .before .before .before .before .before .before .before .before .before .before .form-of .ensures, ← c .before .before .before .before .before .before .before .before .form-of2 .ensures, ← c .before .before .before .before .before .before .compare .ensures)
-    (refused-number _ e, (refused-place _ _ e, (refused-taken _ _ _ e, refused-taken _ _ _ e)))
+    let e = compared-refused _ _ _ (c .before .before .before .before .before .before .before .compare .ensures) (c .before .before .before .comparison .given .1) in
+    rw (← c .before .before .before .before .before .before .before .before .before .before .before .form-of .ensures, ← c .before .before .before .before .before .before .before .before .before .form-of2 .ensures)
+    (refused-number _ e, c .before .blame-of .ensures ∙ refused-blame _ _ e, refused-taken _ _ _ e, refused-taken _ _ _ e)
 
 returns-2 : tie.Need-returns-2
 returns-2 c =
-    let e = compared-pair _ (c .enum-told .given .1) in
-    rw (← c .before .before .before .before .before .before .before .before .form-of .ensures, ← c .before .before .before .before .before .before .form-of2 .ensures, ← c .before .before .before .before .compare .ensures)
-    (read-number _ e, (read-place _ _ e, (read-taken _ _ _ e, read-taken _ _ _ e)))
+    let t = compared-pair _ _ (c .before .before .before .before .compare .ensures) (c .enum-told .given .1) in
+    let e = t .1 in
+    rw (← c .before .before .before .before .before .before .before .before .form-of .ensures, ← c .before .before .before .before .before .before .form-of2 .ensures)
+    (given-number _ e, given-blame _ _ e, sym (t .2) ∙ given-taken _ _ _ e, sym (t .3) ∙ given-taken _ _ _ e)
 
 pub barrowtide-compare-spec : {M : Type 1} → statement M
 barrowtide-compare-spec =
@@ -46,6 +51,7 @@ barrowtide-compare-spec =
     form-of-requires-2
     compare-requires
     enum-known-comparison
+    blame-of-requires
     cast-result
     enum-told
     returns

@@ -1,5 +1,4 @@
 use borrow.Author.Needs.{needs}
-use mathlib.Core.Path.{_≡_}
 use Rattle.barrowtide.proofs.prove.barrowtide_prove_bump.Statement.{statement}
 use Rattle.barrowtide.proofs.prove.barrowtide_prove_bump.Tie as tie
 use Rattle.barrowtide.proofs.prove.barrowtide_prove_bump.Reads as reads
@@ -14,8 +13,7 @@ give-requires : tie.Need-give-requires
 give-requires c κs = search needs
 
 returns : tie.Need-returns
-returns c =
-    rw (← c .before .before .before .before .before .prove-bump .ensures) (c .give .ensures)
+returns c = c .give .ensures _ (c .before .before .before .before .before .prove-bump .ensures)
 
 pub barrowtide-prove-bump-spec : {M : Type 1} → statement M
 barrowtide-prove-bump-spec = tie.close (tie.spec prove-bump-requires give-requires returns)

@@ -1,30 +1,34 @@
 use borrow.Author.Needs.{needs}
-use Rattle.barrowtide.specs.Interface.{refused-number, refused-place, refused-taken, read-number, read-place, read-taken}
-use Rattle.barrowtide.specs.Answers.{proved-accepted, proved-refused}
+use mathlib.Core.Path.{sym, _∙_}
+use Rattle.spv.specs.ShapesLaws.{told-accepted}
+use Rattle.barrowtide.specs.InterfaceLaws.{refused-number, refused-blame, refused-taken, given-number, given-blame, given-taken}
+use Rattle.barrowtide.specs.AnswersLaws.{proved-refused}
 use Rattle.barrowtide.proofs.prove.give.Statement.{statement}
 use Rattle.barrowtide.proofs.prove.give.Tie as tie
-use Rattle.barrowtide.proofs.prove.give.Reads as reads
-use Rattle.barrowtide.proofs.prove.give.Lts as lts
 
-enum-known-judged : tie.Need-enum-known-judged
-enum-known-judged c = search needs
+enum-known-outcome : tie.Need-enum-known-outcome
+enum-known-outcome c = search needs
+
+blame-of-requires : tie.Need-blame-of-requires
+blame-of-requires c κs = search needs
 
 cast-result : tie.Need-cast-result
 cast-result c = search needs
 
-enum-known-judged-2 : tie.Need-enum-known-judged-2
-enum-known-judged-2 c = search needs
+enum-known-outcome-2 : tie.Need-enum-known-outcome-2
+enum-known-outcome-2 c = search needs
 
 returns : tie.Need-returns
-returns c =
-    let e = proved-refused _ _ (c .before .before .judged .given .1) in
-    (refused-number _ e, (refused-place _ _ e, (refused-taken _ _ _ e, (refused-taken _ _ _ e, refused-taken _ _ _ e))))
+returns c = λ v h.
+    let e = proved-refused _ v _ h (c .before .before .before .outcome .given .1) in
+    (refused-number v e, c .before .blame-of .ensures ∙ refused-blame v _ e, refused-taken v _ _ e, refused-taken v _ _ e, refused-taken v _ _ e)
 
 returns-2 : tie.Need-returns-2
-returns-2 c =
-    let e = proved-accepted _ _ _ (c .before .judged2 .given .1) in
-    (read-number _ e, (read-place _ _ e, (read-taken _ _ _ e, (read-taken _ _ _ e, read-taken _ _ _ e))))
+returns-2 c = λ v h.
+    let t = told-accepted _ v _ _ h (c .before .outcome2 .given .1) in
+    let e = t .1 in
+    (given-number v e, given-blame v _ e, sym (t .3) ∙ given-taken v _ _ e, sym (t .4) ∙ given-taken v _ _ e, sym (t .2) ∙ given-taken v _ _ e)
 
 pub give-spec : {M : Type 1} → statement M
 give-spec =
-    tie.close (tie.spec enum-known-judged cast-result enum-known-judged-2 returns returns-2)
+    tie.close (tie.spec enum-known-outcome blame-of-requires cast-result enum-known-outcome-2 returns returns-2)

@@ -3,10 +3,10 @@ use Rattle.format.specs.ParseLaws.{answered, each-got, each-bad}
 use Rattle.format.specs.TransactionAnswer.{txAnswer}
 use Rattle.format.specs.Transaction.{txField, txHeadOf}
 use Rattle.format.specs.Whole.{whole-size}
-use Rattle.hash.specs.Sha256.{hashed-accepted}
+use Rattle.hash.specs.Sha256Laws.{hashed-accepted}
 use Rattle.hash.specs.declared.Hashed.{Hashed}
 use mathlib.Core.Path.{ap, _∙_}
-use Rattle.barrowtide.specs.Interface.{refused-number, refused-place, refused-taken, read-number, read-place, read-taken, read-view}
+use Rattle.barrowtide.specs.InterfaceLaws.{refused-number, refused-blame, refused-taken, given-number, given-blame, given-taken, given-view, reading-bad, reading-got}
 use Rattle.barrowtide.proofs.read.barrowtide_read_transaction.Statement.{statement}
 use Rattle.barrowtide.proofs.read.barrowtide_read_transaction.Tie as tie
 use Rattle.barrowtide.proofs.read.barrowtide_read_transaction.Reads as reads
@@ -32,9 +32,9 @@ cast-result c = search needs
 
 returns : tie.Need-returns
 returns c =
-    let e = each-bad txHeadOf _ (answered txAnswer (c .before .before .before .before .read-transaction .ensures) (c .before .before .enum-told .given .1)) in
-    rw (c .before .refusal .ensures, c .before .before .enum-told .given .1)
-    (refused-number _ e, (refused-place _ _ e, (refused-taken _ _ _ e, (refused-taken _ _ _ e, refused-taken _ _ _ e))))
+    let e = reading-bad _ (each-bad txHeadOf _ (answered txAnswer (c .before .before .before .before .before .read-transaction .ensures) (c .before .before .before .enum-told .given .1))) in
+    rw (c .before .before .refusal .ensures, c .before .before .before .enum-told .given .1)
+    (refused-number _ e, refused-blame _ _ e, refused-taken _ _ _ e, refused-taken _ _ _ e, refused-taken _ _ _ e)
 
 sha256d-requires : tie.Need-sha256d-requires
 sha256d-requires c κs = search needs
@@ -42,9 +42,10 @@ sha256d-requires c κs = search needs
 returns-2 : tie.Need-returns-2
 returns-2 c =
     let e = answered txAnswer (c .before .before .before .before .before .before .before .read-transaction .ensures) (c .before .before .before .before .before .answer .given .1) in
-    let x = each-got txHeadOf _ e .1 in
-    let digest = c .before .before .before .sha256d .ensures ∙ hashed-accepted _ (whole-size txField _ x) in
-    (read-number _ x, (read-place _ _ x, (read-view txHeadOf (λ h. h .inputs .count) _ _ e, (read-view txHeadOf (λ h. h .outputs .count) _ _ e, ap (λ (h : Hashed). h .digest) digest ∙ read-taken _ _ _ x))))
+    let whole = each-got txHeadOf _ e .1 in
+    let x = reading-got _ whole in
+    let digest = c .before .before .before .sha256d .ensures ∙ hashed-accepted _ (whole-size txField _ whole) in
+    (given-number _ x, given-blame _ _ x, given-view txHeadOf (λ h. h .inputs .count) _ _ e, given-view txHeadOf (λ h. h .outputs .count) _ _ e, ap (λ (h : Hashed). h .digest) digest ∙ given-taken _ _ _ x)
 
 pub barrowtide-read-transaction-spec : {M : Type 1} → statement M
 barrowtide-read-transaction-spec =

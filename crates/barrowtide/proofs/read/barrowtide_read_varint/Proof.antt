@@ -1,8 +1,7 @@
 use borrow.Author.Needs.{needs}
-use mathlib.Core.Path.{_∙_}
 use Rattle.format.specs.FieldAnswer.{numberOf}
 use Rattle.format.specs.ParseLaws.{answered}
-use Rattle.barrowtide.specs.Interface.{first-sized, first-too-long, refused-number, refused-place, refused-taken, refused-next, read-number, read-place, read-taken, read-next}
+use Rattle.barrowtide.specs.InterfaceLaws.{first-got, first-bad, first-too-long, refused-number, refused-blame, refused-taken, given-number, given-blame, given-taken}
 use Rattle.barrowtide.proofs.read.barrowtide_read_varint.Statement.{statement}
 use Rattle.barrowtide.proofs.read.barrowtide_read_varint.Tie as tie
 use Rattle.barrowtide.proofs.read.barrowtide_read_varint.Reads as reads
@@ -15,8 +14,8 @@ cast-result c = search needs
 
 returns : tie.Need-returns
 returns c =
-    let e = first-too-long _ (c .if1 .taken) in
-    (refused-number _ e, (refused-place _ _ e, (refused-taken _ _ _ e, refused-next _ _ e)))
+    let e = first-too-long _ (c .before .if1 .taken) in
+    (refused-number _ e, refused-blame _ _ e, refused-taken _ _ _ e, refused-taken _ _ _ e)
 
 read-varint-requires : tie.Need-read-varint-requires
 read-varint-requires c κs = search needs
@@ -35,14 +34,14 @@ cast-result-2 c = search needs
 
 returns-2 : tie.Need-returns-2
 returns-2 c =
-    let e = first-sized _ (c .before .before .before .before .before .if1 .left) ∙ answered numberOf (c .before .before .before .before .read-varint .ensures) (c .before .before .enum-told .given .1) in
-    rw (c .before .refusal .ensures, c .before .before .enum-told .given .1)
-    (refused-number _ e, (refused-place _ _ e, (refused-taken _ _ _ e, refused-next _ _ e)))
+    let e = first-bad _ (c .before .before .before .before .before .before .if1 .left) (answered numberOf (c .before .before .before .before .before .read-varint .ensures) (c .before .before .before .enum-told .given .1)) in
+    rw (c .before .before .refusal .ensures, c .before .before .before .enum-told .given .1)
+    (refused-number _ e, refused-blame _ _ e, refused-taken _ _ _ e, refused-taken _ _ _ e)
 
 returns-3 : tie.Need-returns-3
 returns-3 c =
-    let e = first-sized _ (c .before .before .before .before .if1 .left) ∙ answered numberOf (c .before .before .before .read-varint .ensures) (c .before .answer .given .1) in
-    (read-number _ e, (read-place _ _ e, (read-taken _ _ _ e, read-next _ _ e)))
+    let e = first-got _ (c .before .before .before .before .if1 .left) (answered numberOf (c .before .before .before .read-varint .ensures) (c .before .answer .given .1)) in
+    (given-number _ e, given-blame _ _ e, given-taken _ _ _ e, given-taken _ _ _ e)
 
 pub barrowtide-read-varint-spec : {M : Type 1} → statement M
 barrowtide-read-varint-spec =

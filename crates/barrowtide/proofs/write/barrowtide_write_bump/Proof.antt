@@ -14,8 +14,8 @@ same-length c = search needs
 returns : tie.Need-returns
 returns c =
     let w = c .before .before .before .before .before .write-bump .ensures in
-    let t = c .tell .ensures in
-    rw (← w .0) (t .0, (w .1, (t .1, t .2)))
+    let t = c .tell .ensures _ (w .0) in
+    (t .0, w .1, t .1, t .2)
 
 pub barrowtide-write-bump-spec : {M : Type 1} → statement M
 barrowtide-write-bump-spec =

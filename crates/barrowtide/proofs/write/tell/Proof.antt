@@ -1,6 +1,7 @@
-use mathlib.Core.Path.{refl}
-use Rattle.barrowtide.specs.Interface.{refusal, place, taken}
-use Rattle.barrowtide.specs.Answers.{ofWritten}
+use lib.ListN.{length}
+use mathlib.Core.Path.{sym, _∙_}
+use Rattle.barrowtide.specs.InterfaceLaws.{refused-number, refused-blame, refused-taken, given-number, given-blame, given-taken}
+use Rattle.barrowtide.specs.AnswersLaws.{written-refused, written-accepted}
 use borrow.Author.Needs.{needs}
 use Rattle.barrowtide.proofs.write.tell.Statement.{statement}
 use Rattle.barrowtide.proofs.write.tell.Tie as tie
@@ -11,17 +12,23 @@ enum-known-answer c = search needs
 enum-known-answer-2 : tie.Need-enum-known-answer-2
 enum-known-answer-2 c = search needs
 
+blame-of-requires : tie.Need-blame-of-requires
+blame-of-requires c κs = search needs
+
 cast-result : tie.Need-cast-result
 cast-result c = search needs
 
 returns : tie.Need-returns
-unfolding refusal place taken ofWritten
-returns c = rw (c .before .answer .given .1) (refl, refl, refl)
+returns c = λ v h.
+    let t = written-accepted v _ (sym (c .before .answer .given .1) ∙ h) in
+    let e = t .1 in
+    (given-number v e, given-blame v _ e, sym (t .2) ∙ given-taken v length _ e)
 
 returns-2 : tie.Need-returns-2
-unfolding refusal place taken ofWritten
-returns-2 c = rw (c .before .before .answer2 .given .1) (refl, refl, refl)
+returns-2 c = λ v h.
+    let e = written-refused v _ (sym (c .before .before .before .answer2 .given .1) ∙ h) in
+    (refused-number v e, c .before .blame-of .ensures ∙ refused-blame v _ e, refused-taken v _ _ e)
 
 pub tell-spec : {M : Type 1} → statement M
 tell-spec =
-    tie.close (tie.spec enum-known-answer enum-known-answer-2 cast-result returns returns-2)
+    tie.close (tie.spec enum-known-answer enum-known-answer-2 blame-of-requires cast-result returns returns-2)

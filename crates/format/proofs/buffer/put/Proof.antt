@@ -1,5 +1,5 @@
 use mathlib.Core.Path.{sym}
-use Rattle.format.specs.Buffer.{put-stored, put-dropped}
+use Rattle.format.specs.BufferLaws.{put-stored, put-dropped}
 use borrow.Author.Needs.{needs}
 use Rattle.format.proofs.buffer.put.Statement.{statement}
 use Rattle.format.proofs.buffer.put.Tie as tie

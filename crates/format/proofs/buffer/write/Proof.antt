@@ -3,7 +3,8 @@ use Prim.Native.Nat.{_≤_, _-_}
 use native.Mathlib.Omega.{arith}
 use borrow.Author.Needs.{needs}
 use lib.ListN.{length, drop}
-use Rattle.format.specs.Buffer.{buffer, writeOn, write-on, write-end}
+use Rattle.format.specs.Buffer.{buffer, writeOn}
+use Rattle.format.specs.BufferLaws.{write-on, write-end}
 use Rattle.format.proofs.buffer.write.Statement.{statement}
 use Rattle.format.proofs.buffer.write.Tie as tie
 

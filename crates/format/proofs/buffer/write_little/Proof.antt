@@ -3,7 +3,8 @@ use Prim.Native.Nat.{_≤_, _-_}
 use native.Mathlib.Omega.{arith}
 use borrow.Author.Needs.{needs}
 use lib.ListN.{length}
-use Rattle.format.specs.Buffer.{buffer, writeOn, little-start, little-on, little-end}
+use Rattle.format.specs.Buffer.{buffer, writeOn}
+use Rattle.format.specs.BufferLaws.{little-start, little-on, little-end}
 use Rattle.format.specs.Digits.{little}
 use Rattle.format.proofs.buffer.write_little.Statement.{statement}
 use Rattle.format.proofs.buffer.write_little.Tie as tie

@@ -1,5 +1,5 @@
 use native.Mathlib.Omega.{arith}
-use Rattle.format.specs.Buffer.{wrote-byte, wrote-cons}
+use Rattle.format.specs.BufferLaws.{wrote-byte, wrote-cons}
 use Rattle.format.specs.VarintSpelling.{varint-one, varint-two, varint-four, varint-eight}
 use borrow.Author.Needs.{needs}
 use Rattle.format.proofs.buffer.write_varint.Statement.{statement}

@@ -9,6 +9,7 @@ use borrow.Author.Count.{below-more}
 use lib.ListN.{length, getD}
 use lib.Seq.{ext-getD}
 use Rattle.format.specs.Bytes as bytes
+use Rattle.format.specs.BytesLaws.{eq-same, ne-same}
 use Rattle.format.proofs.bytes.same_bytes.Statement.{statement}
 use Rattle.format.proofs.bytes.same_bytes.Tie as tie
 
@@ -16,8 +17,8 @@ differing : (a b : List ℕ) (i : ℕ) → (getD a i 0 ≡ getD b i 0 → ⊥) �
 differing a b i h e = h (ap (λ (l : List ℕ). getD l i 0) e)
 
 alike : (a b : List ℕ) (v : Bool) → length a ≡ 32 → length b ≡ 32 → (v ≡ true → (k : ℕ) → k < 32 → getD a k 0 ≡ getD b k 0) → (v ≡ false → a ≡ b → ⊥) → v ≡ bytes.same a b
-alike a b true m n f g = sym (bytes.eq-same a b (ext-getD 0 a b (m ∙ sym n) (λ k l. f refl k (omega arith))))
-alike a b false m n f g = sym (bytes.ne-same a b (g refl))
+alike a b true m n f g = sym (eq-same a b (ext-getD 0 a b (m ∙ sym n) (λ k l. f refl k (omega arith))))
+alike a b false m n f g = sym (ne-same a b (g refl))
 
 abbrev Inv-loop : tie.InvT-loop
 Inv-loop a b same₀ i₀ same i =

@@ -1,6 +1,6 @@
 use mathlib.Core.Path.{sym, ap, _∙_}
 use borrow.Author.Needs.{needs}
-use Rattle.format.specs.IdLaws.{subjectHash}
+use Rattle.format.specs.Id.{subjectHash}
 use Rattle.format.proofs.id.subject_id.Statement.{statement}
 use Rattle.format.proofs.id.subject_id.Tie as tie
 

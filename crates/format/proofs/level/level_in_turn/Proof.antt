@@ -1,5 +1,5 @@
 use borrow.Author.Needs.{needs}
-use Rattle.format.specs.Level.{written}
+use Rattle.format.specs.Level.{levelOfTurn}
 use Rattle.format.proofs.level.level_in_turn.Statement.{statement}
 use Rattle.format.proofs.level.level_in_turn.Tie as tie
 
@@ -16,11 +16,11 @@ sub-result : tie.Need-sub-result
 sub-result c = search needs
 
 returns : tie.Need-returns
-unfolding written
+unfolding levelOfTurn
 returns c = rw (c .enum-told .given .1)
 
 returns-2 : tie.Need-returns-2
-unfolding written
+unfolding levelOfTurn
 returns-2 c = rw (c .enum-told2 .given .1)
 
 pub level-in-turn-spec : {M : Type 1} → statement M

@@ -1,5 +1,4 @@
 use borrow.Author.Needs.{needs}
-use mathlib.Core.Path.{sym}
 use Rattle.format.specs.FieldAnswer.{numberOf}
 use Rattle.format.specs.ParseLaws.{answered}
 use Rattle.format.specs.StepLaws.{leaf-carried, above-carried}

@@ -6,7 +6,8 @@ use lib.ListN.{length}
 use Rattle.format.specs.ParseLaws.{answered}
 use Rattle.format.specs.LevelAnswer.{leafOf}
 use Rattle.format.specs.Buffer.{buffer}
-use Rattle.listing.specs.Walk.{walkLeaves, leaves-start, leaves-more, leaves-refused, leaves-done}
+use Rattle.listing.specs.Walk.{walkLeaves}
+use Rattle.listing.specs.WalkLaws.{leaves-start, leaves-more, leaves-refused, leaves-done}
 use Rattle.listing.proofs.lines.write_leaves.Statement.{statement}
 use Rattle.listing.proofs.lines.write_leaves.Tie as tie
 

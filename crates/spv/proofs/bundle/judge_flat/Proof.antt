@@ -40,6 +40,9 @@ read-bundle-requires c κs = search needs
 enum-known-answer : tie.Need-enum-known-answer
 enum-known-answer c = search needs
 
+reject-reading-requires : tie.Need-reject-reading-requires
+reject-reading-requires c κs = search needs
+
 enum-known-answer-2 : tie.Need-enum-known-answer-2
 enum-known-answer-2 c = search needs
 
@@ -53,7 +56,9 @@ judge-entries-requires c κs =
 
 returns-5 : tie.Need-returns-5
 unfolding judgementOf
-returns-5 c = λ wide long. judge-refused _ _ _ (c .before .before .before .before .before .if3 .left) (c .before .before .before .before .if4 .left) _ (answered beefAnswer (c .before .before .before .read-bundle .ensures) (c .before .answer .given .1))
+returns-5 c =
+    λ wide long. rw (c .reject-reading .ensures)
+    (judge-refused _ _ _ (c .before .before .before .before .before .before .if3 .left) (c .before .before .before .before .before .if4 .left) _ (answered beefAnswer (c .before .before .before .before .read-bundle .ensures) (c .before .before .answer .given .1)))
 
 same-length : tie.Need-same-length
 same-length c = search needs
@@ -80,6 +85,7 @@ judge-flat-spec =
     returns-4
     read-bundle-requires
     enum-known-answer
+    reject-reading-requires
     enum-known-answer-2
     bump-heads-requires
     judge-entries-requires

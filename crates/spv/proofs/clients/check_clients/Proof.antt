@@ -5,10 +5,10 @@ use Rattle.format.specs.declared.bump.BumpHead.{BumpHead}
 use Rattle.format.specs.ParseLaws.{answered, each-got, each-bad}
 use Rattle.format.specs.Bump.{headOf, bumpWhole, bumpAnswer, refusalOfBump}
 use Rattle.format.specs.Path.{bumpPathOf}
+use Rattle.spv.specs.Result.{refusedReading}
 use Rattle.spv.specs.Siblings.{pathSiblings}
-use Rattle.spv.specs.Clients.{clientsOfLevel, clients-refused, bump-clients}
+use Rattle.spv.specs.ClientsLaws.{clientsOfLevel, clients-refused, bump-clients}
 use Rattle.spv.specs.ClientsShapes.{refusedCheck, checkedOf}
-use Rattle.spv.specs.Shapes.{refusalOf}
 use Rattle.spv.proofs.clients.check_clients.Statement.{statement}
 use Rattle.spv.proofs.clients.check_clients.Tie as tie
 
@@ -24,15 +24,18 @@ enum-told c = search needs
 refusal-requires : tie.Need-refusal-requires
 refusal-requires c κs = search needs
 
+reject-reading-requires : tie.Need-reject-reading-requires
+reject-reading-requires c κs = search needs
+
 refused-check-requires : tie.Need-refused-check-requires
 refused-check-requires c κs = search needs
 
 returns : tie.Need-returns
-unfolding checkedOf refusalOf
+unfolding checkedOf
 returns c =
-    let a = c .before .before .before .before .before .before .args in
-    let e = each-bad headOf (bumpWhole (a .s .now)) (answered bumpAnswer (c .before .before .before .before .read-bump .ensures) (c .before .before .enum-told .given .1)) in
-    c .refused-check .ensures ∙ ap refusedCheck (c .before .refusal .ensures ∙ ap refusalOfBump (c .before .before .enum-told .given .1)) ∙ sym (ap checkedOf (clients-refused (a .s .now) _ _ e))
+    let a = c .before .before .before .before .before .before .before .args in
+    let e = each-bad headOf (bumpWhole (a .s .now)) (answered bumpAnswer (c .before .before .before .before .before .read-bump .ensures) (c .before .before .before .enum-told .given .1)) in
+    c .refused-check .ensures ∙ ap refusedCheck (c .before .reject-reading .ensures ∙ ap refusedReading (c .before .before .refusal .ensures ∙ ap refusalOfBump (c .before .before .before .enum-told .given .1))) ∙ sym (ap checkedOf (clients-refused (a .s .now) _ _ e))
 
 bump-path-requires : tie.Need-bump-path-requires
 bump-path-requires c κs = search needs
@@ -57,6 +60,7 @@ check-clients-spec =
     enum-known-answer
     enum-told
     refusal-requires
+    reject-reading-requires
     refused-check-requires
     returns
     bump-path-requires

@@ -2,7 +2,7 @@ use mathlib.Core.Path.{ap, sym, _∙_}
 use borrow.Author.Needs.{needs}
 use Rattle.format.specs.ParseLaws.{answered}
 use Rattle.format.specs.FieldAnswer.{numberOf}
-use Rattle.spv.specs.Clients.{level-short, level-read}
+use Rattle.spv.specs.ClientsLaws.{level-short, level-read}
 use Rattle.spv.specs.ClientsShapes.{checkedOf}
 use Rattle.spv.proofs.clients.check_level.Statement.{statement}
 use Rattle.spv.proofs.clients.check_level.Tie as tie

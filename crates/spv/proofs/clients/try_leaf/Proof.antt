@@ -3,11 +3,11 @@ use mathlib.Core.Path.{ap, sym, _∙_}
 use mathlib.Core.List.{List}
 use borrow.Author.Needs.{needs}
 use Rattle.format.specs.declared.level.Kind.{Kind}
-use Rattle.spv.specs.Compare.{targetOf, read, judge}
+use Rattle.spv.specs.Compare.{targetOf, read, prove}
 use Rattle.spv.specs.Siblings.{pathSiblings}
 use Rattle.spv.specs.Clients.{afterKind}
 use Rattle.spv.specs.Shapes.{opened, provedOf}
-use Rattle.spv.specs.ClientsShapes.{wantSays, wantBy, shown}
+use Rattle.spv.specs.ClientsShapes.{wantSays, wantBy}
 use Rattle.spv.proofs.clients.try_leaf.Statement.{statement}
 use Rattle.spv.proofs.clients.try_leaf.Tie as tie
 
@@ -34,22 +34,22 @@ unfolding opened afterKind
 returns c =
     let a = c .before .before .before .before .before .before .before .args in
     let s = a .s .now in
-    c .want-after .ensures _ (c .before .settle .ensures ∙ ap (λ (d : List ℕ). provedOf (judge (read (pathSiblings s (a .path)) (a .path .layers) (a .leaf .offset) d (targetOf (a .bound) (a .root))))) (c .before .before .hash-at .ensures))
-    ∙ sym (ap (λ (k : Kind). shown (afterKind (pathSiblings s (a .path)) (a .path .layers) s (targetOf (a .bound) (a .root)) (a .leaf .offset) k)) (c .before .before .before .before .kind .given .1))
+    c .want-after .ensures _ (c .before .settle .ensures ∙ ap (λ (d : List ℕ). provedOf (prove (read (pathSiblings s (a .path)) (a .path .layers) (a .leaf .offset) d (targetOf (a .bound) (a .root))))) (c .before .before .hash-at .ensures))
+    ∙ sym (ap (λ (k : Kind). afterKind (pathSiblings s (a .path)) (a .path .layers) s (targetOf (a .bound) (a .root)) (a .leaf .offset) k) (c .before .before .before .before .kind .given .1))
 
 returns-2 : tie.Need-returns-2
-unfolding afterKind wantSays wantBy shown
+unfolding afterKind wantSays wantBy
 returns-2 c =
     let a = c .before .before .before .args in
     let s = a .s .now in
-    sym (ap (λ (k : Kind). shown (afterKind (pathSiblings s (a .path)) (a .path .layers) s (targetOf (a .bound) (a .root)) (a .leaf .offset) k)) (c .enum-told .given .1))
+    sym (ap (λ (k : Kind). afterKind (pathSiblings s (a .path)) (a .path .layers) s (targetOf (a .bound) (a .root)) (a .leaf .offset) k) (c .enum-told .given .1))
 
 returns-3 : tie.Need-returns-3
-unfolding afterKind wantSays wantBy shown
+unfolding afterKind wantSays wantBy
 returns-3 c =
     let a = c .before .before .before .args in
     let s = a .s .now in
-    sym (ap (λ (k : Kind). shown (afterKind (pathSiblings s (a .path)) (a .path .layers) s (targetOf (a .bound) (a .root)) (a .leaf .offset) k)) (c .enum-told2 .given .1))
+    sym (ap (λ (k : Kind). afterKind (pathSiblings s (a .path)) (a .path .layers) s (targetOf (a .bound) (a .root)) (a .leaf .offset) k) (c .enum-told2 .given .1))
 
 pub try-leaf-spec : {M : Type 1} → statement M
 try-leaf-spec =

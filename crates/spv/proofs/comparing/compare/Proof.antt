@@ -1,6 +1,7 @@
 use mathlib.Core.Path.{_∙_, ap₂}
 use borrow.Author.Needs.{needs}
-use Rattle.spv.specs.Compare.{Verdict, compare}
+use Rattle.spv.specs.Result.{Result}
+use Rattle.spv.specs.Compare.{compare, Proof}
 use Rattle.spv.specs.Shapes.{comparedOf}
 use Rattle.spv.proofs.comparing.compare.Statement.{statement}
 use Rattle.spv.proofs.comparing.compare.Tie as tie
@@ -15,7 +16,7 @@ compare-claims-requires : tie.Need-compare-claims-requires
 compare-claims-requires c κs = search needs
 
 returns : tie.Need-returns
-returns c = c .compare-claims .ensures ∙ ap₂ (λ (v w : Verdict). comparedOf (compare v w)) (c .before .before .claim-of .ensures) (c .before .claim-of2 .ensures)
+returns c = c .compare-claims .ensures ∙ ap₂ (λ (v w : Result Proof). comparedOf (compare v w)) (c .before .before .claim-of .ensures) (c .before .claim-of2 .ensures)
 
 pub compare-spec : {M : Type 1} → statement M
 compare-spec =

@@ -4,15 +4,15 @@ use Rattle.spv.specs.Shapes.{refusedPair, comparedOf}
 use Rattle.spv.proofs.comparing.refuse.Statement.{statement}
 use Rattle.spv.proofs.comparing.refuse.Tie as tie
 
-refusal-of-requires : tie.Need-refusal-of-requires
-refusal-of-requires c κs = search needs
+reject-requires : tie.Need-reject-requires
+reject-requires c κs = search needs
 
 refused-pair-requires : tie.Need-refused-pair-requires
 refused-pair-requires c κs = search needs
 
 returns : tie.Need-returns
 unfolding comparedOf
-returns c = c .refused-pair .ensures ∙ ap refusedPair (c .before .refusal-of .ensures)
+returns c = c .refused-pair .ensures ∙ ap refusedPair (c .before .reject .ensures)
 
 pub refuse-spec : {M : Type 1} → statement M
-refuse-spec = tie.close (tie.spec refusal-of-requires refused-pair-requires returns)
+refuse-spec = tie.close (tie.spec reject-requires refused-pair-requires returns)

@@ -4,9 +4,11 @@ use Rattle.format.specs.declared.path.Path.{Path}
 use Rattle.format.specs.ParseLaws.{answered, each-got, each-bad}
 use Rattle.format.specs.Bump.{headOf, bumpWhole, bumpAnswer, refusalOfBump}
 use Rattle.format.specs.Path.{bumpPathOf}
-use Rattle.spv.specs.Compare.{judge}
-use Rattle.spv.specs.Readings.{pathReading, bump-refused, bump-judge}
-use Rattle.spv.specs.Shapes.{claimed-unread}
+use Rattle.spv.specs.Result.{refusedReading}
+use Rattle.spv.specs.Compare.{prove}
+use Rattle.spv.specs.Readings.{pathReading}
+use Rattle.spv.specs.ReadingsLaws.{bump-refused, bump-proves}
+use Rattle.spv.specs.ShapesLaws.{claimed-unread}
 use Rattle.spv.proofs.prove.claim_bump.Statement.{statement}
 use Rattle.spv.proofs.prove.claim_bump.Tie as tie
 
@@ -22,14 +24,17 @@ enum-told c = search needs
 refusal-requires : tie.Need-refusal-requires
 refusal-requires c κs = search needs
 
+reject-reading-requires : tie.Need-reject-reading-requires
+reject-reading-requires c κs = search needs
+
 unread-claim-requires : tie.Need-unread-claim-requires
 unread-claim-requires c κs = search needs
 
 returns : tie.Need-returns
 returns c =
-    let a = c .before .before .before .before .before .before .args in
-    let e = each-bad headOf (bumpWhole (a .s .now)) (answered bumpAnswer (c .before .before .before .before .read-bump .ensures) (c .before .before .enum-told .given .1)) in
-    ap judge (claimed-unread (a .s .now) _ _ _ (c .unread-claim .ensures) (c .before .refusal .ensures ∙ ap refusalOfBump (c .before .before .enum-told .given .1)) ∙ sym (bump-refused (a .s .now) (a .id) _ _ e))
+    let a = c .before .before .before .before .before .before .before .args in
+    let e = each-bad headOf (bumpWhole (a .s .now)) (answered bumpAnswer (c .before .before .before .before .before .read-bump .ensures) (c .before .before .before .enum-told .given .1)) in
+    ap prove (claimed-unread (a .s .now) _ _ _ (c .unread-claim .ensures) (c .before .reject-reading .ensures ∙ ap refusedReading (c .before .before .refusal .ensures ∙ ap refusalOfBump (c .before .before .before .enum-told .given .1))) ∙ sym (bump-refused (a .s .now) (a .id) _ _ e))
 
 bump-path-requires : tie.Need-bump-path-requires
 bump-path-requires c κs = search needs
@@ -41,8 +46,8 @@ returns-2 : tie.Need-returns-2
 returns-2 c =
     let a = c .before .before .before .before .before .before .before .args in
     let e = each-got headOf (bumpWhole (a .s .now)) (answered bumpAnswer (c .before .before .before .before .before .read-bump .ensures) (c .before .before .before .answer .given .1)) in
-    ap judge (c .claim-in .ensures ∙ ap (λ (p : Path). pathReading (a .s .now) p (a .id)) (c .before .bump-path .ensures ∙ ap (bumpPathOf (a .s .now)) (sym (e .2))))
-    ∙ bump-judge (a .s .now) (a .id) (e .0) _ (e .1)
+    ap prove (c .claim-in .ensures ∙ ap (λ (p : Path). pathReading (a .s .now) p (a .id)) (c .before .bump-path .ensures ∙ ap (bumpPathOf (a .s .now)) (sym (e .2))))
+    ∙ bump-proves (a .s .now) (a .id) (e .0) _ (e .1)
 
 pub claim-bump-spec : {M : Type 1} → statement M
 claim-bump-spec =
@@ -52,6 +57,7 @@ claim-bump-spec =
     enum-known-answer
     enum-told
     refusal-requires
+    reject-reading-requires
     unread-claim-requires
     returns
     bump-path-requires

@@ -4,9 +4,11 @@ use Rattle.format.specs.declared.path.Path.{Path}
 use Rattle.format.specs.ParseLaws.{answered, each-got, each-bad}
 use Rattle.format.specs.Cmp.{cmpHeadOf, cmpWhole, cmpAnswer, refusalOfCmp}
 use Rattle.format.specs.Path.{cmpPathOf}
-use Rattle.spv.specs.Compare.{judge}
-use Rattle.spv.specs.Readings.{pathReading, cmp-refused, cmp-judge}
-use Rattle.spv.specs.Shapes.{claimed-unread}
+use Rattle.spv.specs.Result.{refusedReading}
+use Rattle.spv.specs.Compare.{prove}
+use Rattle.spv.specs.Readings.{pathReading}
+use Rattle.spv.specs.ReadingsLaws.{cmp-refused, cmp-proves}
+use Rattle.spv.specs.ShapesLaws.{claimed-unread}
 use Rattle.spv.proofs.prove.claim_cmp.Statement.{statement}
 use Rattle.spv.proofs.prove.claim_cmp.Tie as tie
 
@@ -22,14 +24,17 @@ enum-told c = search needs
 refusal-requires : tie.Need-refusal-requires
 refusal-requires c κs = search needs
 
+reject-reading-requires : tie.Need-reject-reading-requires
+reject-reading-requires c κs = search needs
+
 unread-claim-requires : tie.Need-unread-claim-requires
 unread-claim-requires c κs = search needs
 
 returns : tie.Need-returns
 returns c =
-    let a = c .before .before .before .before .before .before .args in
-    let e = each-bad cmpHeadOf (cmpWhole (a .s .now)) (answered cmpAnswer (c .before .before .before .before .read-cmp .ensures) (c .before .before .enum-told .given .1)) in
-    ap judge (claimed-unread (a .s .now) _ _ _ (c .unread-claim .ensures) (c .before .refusal .ensures ∙ ap refusalOfCmp (c .before .before .enum-told .given .1)) ∙ sym (cmp-refused (a .s .now) (a .id) _ _ e))
+    let a = c .before .before .before .before .before .before .before .args in
+    let e = each-bad cmpHeadOf (cmpWhole (a .s .now)) (answered cmpAnswer (c .before .before .before .before .before .read-cmp .ensures) (c .before .before .before .enum-told .given .1)) in
+    ap prove (claimed-unread (a .s .now) _ _ _ (c .unread-claim .ensures) (c .before .reject-reading .ensures ∙ ap refusedReading (c .before .before .refusal .ensures ∙ ap refusalOfCmp (c .before .before .before .enum-told .given .1))) ∙ sym (cmp-refused (a .s .now) (a .id) _ _ e))
 
 cmp-path-requires : tie.Need-cmp-path-requires
 cmp-path-requires c κs = search needs
@@ -41,8 +46,8 @@ returns-2 : tie.Need-returns-2
 returns-2 c =
     let a = c .before .before .before .before .before .before .before .args in
     let e = each-got cmpHeadOf (cmpWhole (a .s .now)) (answered cmpAnswer (c .before .before .before .before .before .read-cmp .ensures) (c .before .before .before .answer .given .1)) in
-    ap judge (c .claim-in .ensures ∙ ap (λ (p : Path). pathReading (a .s .now) p (a .id)) (c .before .cmp-path .ensures ∙ ap (cmpPathOf (a .s .now)) (sym (e .2))))
-    ∙ cmp-judge (a .s .now) (a .id) (e .0) _ (e .1)
+    ap prove (c .claim-in .ensures ∙ ap (λ (p : Path). pathReading (a .s .now) p (a .id)) (c .before .cmp-path .ensures ∙ ap (cmpPathOf (a .s .now)) (sym (e .2))))
+    ∙ cmp-proves (a .s .now) (a .id) (e .0) _ (e .1)
 
 pub claim-cmp-spec : {M : Type 1} → statement M
 claim-cmp-spec =
@@ -52,6 +57,7 @@ claim-cmp-spec =
     enum-known-answer
     enum-told
     refusal-requires
+    reject-reading-requires
     unread-claim-requires
     returns
     cmp-path-requires

@@ -3,9 +3,10 @@ use borrow.Author.Needs.{needs}
 use Rattle.format.specs.ParseLaws.{answered, each-got, each-bad}
 use Rattle.format.specs.Tsc.{tscHeadOf, tscWhole}
 use Rattle.format.specs.TscAnswer.{tscAnswer, refusalOfTsc}
-use Rattle.spv.specs.Shapes.{tsc-claim, claimed-unread}
-use Rattle.spv.specs.Compare.{judge}
-use Rattle.spv.specs.Readings.{tsc-refused}
+use Rattle.spv.specs.Result.{refusedReading}
+use Rattle.spv.specs.ShapesLaws.{tsc-claim, claimed-unread}
+use Rattle.spv.specs.Compare.{prove}
+use Rattle.spv.specs.ReadingsLaws.{tsc-refused}
 use Rattle.spv.proofs.prove.claim_tsc.Statement.{statement}
 use Rattle.spv.proofs.prove.claim_tsc.Tie as tie
 
@@ -21,14 +22,17 @@ enum-told c = search needs
 refusal-requires : tie.Need-refusal-requires
 refusal-requires c κs = search needs
 
+reject-reading-requires : tie.Need-reject-reading-requires
+reject-reading-requires c κs = search needs
+
 unread-claim-requires : tie.Need-unread-claim-requires
 unread-claim-requires c κs = search needs
 
 returns : tie.Need-returns
 returns c =
-    let s = c .before .before .before .before .before .before .args .s .now in
-    let e = each-bad tscHeadOf (tscWhole s) (answered tscAnswer (c .before .before .before .before .read-tsc .ensures) (c .before .before .enum-told .given .1)) in
-    ap judge (claimed-unread s _ _ _ (c .unread-claim .ensures) (c .before .refusal .ensures ∙ ap refusalOfTsc (c .before .before .enum-told .given .1)) ∙ sym (tsc-refused s _ _ e))
+    let s = c .before .before .before .before .before .before .before .args .s .now in
+    let e = each-bad tscHeadOf (tscWhole s) (answered tscAnswer (c .before .before .before .before .before .read-tsc .ensures) (c .before .before .before .enum-told .given .1)) in
+    ap prove (claimed-unread s _ _ _ (c .unread-claim .ensures) (c .before .reject-reading .ensures ∙ ap refusedReading (c .before .before .refusal .ensures ∙ ap refusalOfTsc (c .before .before .before .enum-told .given .1))) ∙ sym (tsc-refused s _ _ e))
 
 tsc-path-requires : tie.Need-tsc-path-requires
 tsc-path-requires c κs = search needs
@@ -56,6 +60,7 @@ claim-tsc-spec =
     enum-known-answer
     enum-told
     refusal-requires
+    reject-reading-requires
     unread-claim-requires
     returns
     tsc-path-requires

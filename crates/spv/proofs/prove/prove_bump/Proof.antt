@@ -7,11 +7,11 @@ use Rattle.spv.proofs.prove.prove_bump.Tie as tie
 claim-bump-requires : tie.Need-claim-bump-requires
 claim-bump-requires c κs = search needs
 
-judge-claim-requires : tie.Need-judge-claim-requires
-judge-claim-requires c κs = search needs
+prove-claim-requires : tie.Need-prove-claim-requires
+prove-claim-requires c κs = search needs
 
 returns : tie.Need-returns
-returns c = c .judge-claim .ensures ∙ ap provedOf (c .before .claim-bump .ensures)
+returns c = c .prove-claim .ensures ∙ ap provedOf (c .before .claim-bump .ensures)
 
 pub prove-bump-spec : {M : Type 1} → statement M
-prove-bump-spec = tie.close (tie.spec claim-bump-requires judge-claim-requires returns)
+prove-bump-spec = tie.close (tie.spec claim-bump-requires prove-claim-requires returns)

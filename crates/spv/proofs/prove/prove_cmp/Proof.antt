@@ -7,11 +7,11 @@ use Rattle.spv.proofs.prove.prove_cmp.Tie as tie
 claim-cmp-requires : tie.Need-claim-cmp-requires
 claim-cmp-requires c κs = search needs
 
-judge-claim-requires : tie.Need-judge-claim-requires
-judge-claim-requires c κs = search needs
+prove-claim-requires : tie.Need-prove-claim-requires
+prove-claim-requires c κs = search needs
 
 returns : tie.Need-returns
-returns c = c .judge-claim .ensures ∙ ap provedOf (c .before .claim-cmp .ensures)
+returns c = c .prove-claim .ensures ∙ ap provedOf (c .before .claim-cmp .ensures)
 
 pub prove-cmp-spec : {M : Type 1} → statement M
-prove-cmp-spec = tie.close (tie.spec claim-cmp-requires judge-claim-requires returns)
+prove-cmp-spec = tie.close (tie.spec claim-cmp-requires prove-claim-requires returns)

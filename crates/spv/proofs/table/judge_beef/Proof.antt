@@ -49,7 +49,8 @@ use Rattle.spv.specs.declared.table.Record.{Record}
 use Rattle.spv.specs.declared.bundle.Verdict.{Verdict}
 use Rattle.spv.specs.Table.{flatRecord, rows}
 use Rattle.spv.specs.Bundle.{Judgement, judgeBeef, verdictOf, tableOf}
-use Rattle.spv.specs.BundleAnswer.{judgementOf, countOf, flat-told}
+use Rattle.spv.specs.BundleAnswer.{judgementOf, countOf}
+use Rattle.spv.specs.BundleAnswerLaws.{flat-told}
 use Rattle.spv.proofs.Local.{big-lit, row-out, row-in, row-lend, row-back, row-share, share-back}
 use Rattle.spv.proofs.table.Record as T
 use Rattle.spv.proofs.bundle.Verdict as E
@@ -198,8 +199,8 @@ module _ {M : Type 1} (𝓤 : URA M) (H : Heap 𝓤) (A : Atoms 𝓤) (W : Given
         move ! (3 ∷ 0 ∷ []) $ fjoin ! $ move ! (2 ∷ 0 ∷ []) $ fjoin ! $ move ! (1 ∷ 0 ∷ []) $ join ! $ nothing ! $ move ! (1 ∷ 0 ∷ []) $ done !
 
   -- what is known of the flat form
-  abbrev Judged : Verdict → List ℕ → List ℕ → Type 0
-  Judged r ids numbers = 8192 ≤ length (zeros 8192) → 1280 ≤ length (zeros 1280) → judgementOf r ids numbers ≡ wanted
+  abbrev Outcome : Verdict → List ℕ → List ℕ → Type 0
+  Outcome r ids numbers = 8192 ≤ length (zeros 8192) → 1280 ≤ length (zeros 1280) → judgementOf r ids numbers ≡ wanted
 
   -- ---- the call of `count_of`
   abbrev to-count : Verdict → Val → Q 𝓤 H A mem run .Ghost
@@ -279,8 +280,8 @@ module _ {M : Type 1} (𝓤 : URA M) (H : Heap 𝓤) (A : Atoms 𝓤) (W : Given
         -- [what the call asks; the lender's parts; roots; input; the table's token; the table; true; _18; …; _6; …; … of _5; … of _4; _3; …]
         calls-at ! fm (G 𝓤 H A mem run) known (to-judged ν μ l₄ l₅ γ′ δ (zeros 8192) (zeros 1280)) (and-then ! (load ! (from ! (stop !)) (look ! 40 refl)) (and-then ! (load ! (from ! (stop !)) (look ! 38 refl)) (and-then ! (load ! (from ! (stop !)) (look ! 30 refl)) (and-then ! (load ! (from ! (stop !)) (look ! 26 refl)) (and-then ! (load ! (from ! (stop !)) (look ! 22 refl)) (no-more !)))))) (λ w.
         use1 W (later (some (λ (r : Verdict). ((‵ (flft κ₀ q₀) ⊛ ‵ (flft κ₁ q₁) ⊛ ‵ (flft (ν ∷ []) fullShare) ⊛ ‵ (flft (μ ∷ []) fullShare) ⊛ ‵ ftrue) ⊛ ‵ (E.the-row .own r (w ∷ []))) ⊛ raw (ensured 𝓤 H A g.ended (g.clauses 𝓤 H A mem run) (κ₀, (κ₁, (ν ∷ [], (μ ∷ [], tt)))) (a₁ ν μ l₄ l₅ γ′ δ (zeros 8192) (zeros 1280)) tt r)))) (id⊢ 𝓤 _) $ await ! tt $ pick ! (λ r. split ! $
-        move ! (1 ∷ []) $ use1 W (some (λ (us : Unit {0} × (Unit {0} × (Unit {0} × (List ℕ × (List ℕ × Unit {0}))))). ‵ (lasts g.ended (κ₀, (κ₁, (ν ∷ [], (μ ∷ [], tt)))) (a₁ ν μ l₄ l₅ γ′ δ (zeros 8192) (zeros 1280)) us) ⊛ raw (fact 𝓤 (Judged r (us .1 .1 .1 .0) (us .1 .1 .1 .1 .0))))) (id⊢ 𝓤 _) $ pick ! (λ us. split ! $ move ! (1 ∷ []) $
-        heard ! (Judged r (us .1 .1 .1 .0) (us .1 .1 .1 .1 .0)) (λ e. fsplit ! $ drop ! $ fsplit ! $ drop ! $ fsplit ! $ drop ! $ fsplit ! $ fsplit ! $ move ! (1 ∷ []) $ feqL ! (λ e₄. move ! (1 ∷ []) $ fsplit ! $ fsplit ! $ move ! (1 ∷ []) $ feqL ! (λ e₅.
+        move ! (1 ∷ []) $ use1 W (some (λ (us : Unit {0} × (Unit {0} × (Unit {0} × (List ℕ × (List ℕ × Unit {0}))))). ‵ (lasts g.ended (κ₀, (κ₁, (ν ∷ [], (μ ∷ [], tt)))) (a₁ ν μ l₄ l₅ γ′ δ (zeros 8192) (zeros 1280)) us) ⊛ raw (fact 𝓤 (Outcome r (us .1 .1 .1 .0) (us .1 .1 .1 .1 .0))))) (id⊢ 𝓤 _) $ pick ! (λ us. split ! $ move ! (1 ∷ []) $
+        heard ! (Outcome r (us .1 .1 .1 .0) (us .1 .1 .1 .1 .0)) (λ e. fsplit ! $ drop ! $ fsplit ! $ drop ! $ fsplit ! $ drop ! $ fsplit ! $ fsplit ! $ move ! (1 ∷ []) $ feqL ! (λ e₄. move ! (1 ∷ []) $ fsplit ! $ fsplit ! $ move ! (1 ∷ []) $ feqL ! (λ e₅.
         -- [the last numbers; true; the last ids; the tokens and the verdict; the lender's parts; roots; input; the table's token; the table; true; _18; …]
         move ! (3 ∷ []) $ split ! $ move ! (1 ∷ []) $ peeks ! E.the-row (Is E.the-row) (shows 𝓤 H A E.the-row) r (w ∷ []) (λ is. drop ! $
         land ! (from ! (stop !)) (init ! 35 refl (EL.lawful E.the-type E′.the-laws 𝓤 H A W tt .typed r (w ∷ []) is .0)) $

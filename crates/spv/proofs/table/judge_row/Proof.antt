@@ -1,6 +1,6 @@
 use native.Mathlib.Omega.{arith}
 use borrow.Author.Needs.{needs}
-use Rattle.spv.specs.BundleAnswer.{row-told}
+use Rattle.spv.specs.BundleAnswerLaws.{row-told}
 use Rattle.spv.proofs.table.judge_row.Statement.{statement}
 use Rattle.spv.proofs.table.judge_row.Tie as tie
 

@@ -4,7 +4,8 @@ use borrow.Author.Tests.{not-true, not-false}
 use Rattle.spv.specs.Climb.{absent, value}
 use Rattle.spv.specs.Values.{joinBoth}
 use Rattle.spv.specs.ValuesLaws.{both-left, both-right}
-use Rattle.spv.specs.Shapes.{siblingOf, siblingBy, node-says, is-valued}
+use Rattle.spv.specs.Shapes.{siblingOf, siblingBy}
+use Rattle.spv.specs.ShapesLaws.{node-says, is-valued}
 use Rattle.spv.proofs.values.join_both.Statement.{statement}
 use Rattle.spv.proofs.values.join_both.Tie as tie
 

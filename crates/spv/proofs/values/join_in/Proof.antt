@@ -4,7 +4,7 @@ use native.Mathlib.Omega.{arith}
 use Rattle.format.specs.Path.{layersOf}
 use Rattle.spv.specs.Climb.{absent}
 use Rattle.spv.specs.SiblingsLaws.{join-outside, join-bump, join-cmp, join-tsc}
-use Rattle.spv.specs.Shapes.{node-says}
+use Rattle.spv.specs.ShapesLaws.{node-says}
 use borrow.Author.Needs.{needs}
 use Rattle.spv.proofs.values.join_in.Statement.{statement}
 use Rattle.spv.proofs.values.join_in.Tie as tie

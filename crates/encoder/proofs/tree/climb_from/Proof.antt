@@ -5,8 +5,8 @@ use Prim.Native.Nat.{_-_, _/_, _<_, _≤_}
 use lib.ListN.{length}
 use Rattle.encoder.specs.Heap.{Level, Grown}
 use Rattle.encoder.specs.HeapLaws.{level-start, level-small, level-on, Climbing, climb-start, climb-twin, climb-on, climb-end}
-use Rattle.encoder.proofs.tree.climb_free.Statement.{statement}
-use Rattle.encoder.proofs.tree.climb_free.Tie as tie
+use Rattle.encoder.proofs.tree.climb_from.Statement.{statement}
+use Rattle.encoder.proofs.tree.climb_from.Tie as tie
 
 abbrev Inv-loop : tie.InvT-loop
 Inv-loop ids heap height top i j₀ width₀ k₀ j width k = Level height k width × (j ≤ i) × (Grown ids heap height → i < length ids / 32 → Climbing ids height i k j)
@@ -20,8 +20,14 @@ loop-holds c = (level-start _ _ (omega arith), omega arith, λ g b. climb-start 
 has-twin-requires : tie.Need-has-twin-requires Inv-loop μ-loop
 has-twin-requires c κs = let l = c .before .loop in let w = level-small _ _ _ (l .inv .0) (c .loop-test .taken) (omega arith) in (omega arith, omega arith)
 
+sibling-position-requires : tie.Need-sibling-position-requires Inv-loop μ-loop
+sibling-position-requires c κs = omega arith
+
 returns : tie.Need-returns Inv-loop μ-loop
-returns c = let l = c .before .before .before .loop in let t = c .before .before .loop-test .taken in λ g b. sym (sym (l .inv .2 g b .same-end) ∙ climb-twin g _ _ _ (l .inv .0) t (l .inv .2 g b .inside) (sym (c .before .has-twin .ensures) ∙ c .if1 .taken))
+returns c =
+    let l = c .before .before .before .before .loop in
+    let t = c .before .before .before .loop-test .taken in
+    λ g b. climb-twin g _ _ _ (l .inv .0) t (l .inv .2 g b .inside) _ (sym (c .before .before .has-twin .ensures) ∙ c .before .if1 .taken) (l .inv .2 g b) (c .sibling-position .ensures)
 
 add-k : tie.Need-add-k Inv-loop μ-loop
 add-k c = search needs
@@ -35,14 +41,15 @@ loop-again c = let l = c .before .before .before .loop in let t = c .before .bef
 returns-2 : tie.Need-returns-2 Inv-loop μ-loop
 returns-2 c = λ g b. climb-end _ _ _ _ _ (c .loop-test .left) (c .before .loop .inv .2 g b)
 
-pub climb-free-spec : {M : Type 1} → statement M
-climb-free-spec =
+pub climb-from-spec : {M : Type 1} → statement M
+climb-from-spec =
     tie.close
     (tie.spec
     Inv-loop
     μ-loop
     loop-holds
     has-twin-requires
+    sibling-position-requires
     returns
     add-k
     loop-less

@@ -1,8 +1,8 @@
 use mathlib.Core.Path.{refl}
 use borrow.Author.Needs.{needs}
 use Rattle.encoder.specs.Marks.{marked}
-use Rattle.encoder.proofs.level.is_marked.Statement.{statement}
-use Rattle.encoder.proofs.level.is_marked.Tie as tie
+use Rattle.encoder.proofs.marks.is_marked.Statement.{statement}
+use Rattle.encoder.proofs.marks.is_marked.Tie as tie
 
 shared-slice-read-result : tie.Need-shared-slice-read-result
 shared-slice-read-result c = search needs

@@ -1,9 +1,10 @@
 use mathlib.Core.Path.{sym, refl, _∙_, ap}
 use borrow.Author.Needs.{needs}
-use Rattle.spv.specs.Compare.{Reading, judgeBy, judge}
-use Rattle.spv.specs.Shapes.{provedOf, claimed-read, claimed-unread}
-use Rattle.spv.proofs.prove.judge_claim.Statement.{statement}
-use Rattle.spv.proofs.prove.judge_claim.Tie as tie
+use Rattle.spv.specs.Compare.{Reading, proveBy, prove}
+use Rattle.spv.specs.Shapes.{provedOf}
+use Rattle.spv.specs.ShapesLaws.{claimed-read, claimed-unread}
+use Rattle.spv.proofs.prove.prove_claim.Statement.{statement}
+use Rattle.spv.proofs.prove.prove_claim.Tie as tie
 
 enum-told : tie.Need-enum-told
 enum-told c = search needs
@@ -20,15 +21,15 @@ refused-proof-requires c κs = search needs
 returns : tie.Need-returns
 returns c =
     let a = c .before .before .before .before .args in
-    c .settle .ensures ∙ sym (ap (λ (r : Reading). provedOf (judge r)) (claimed-read (a .s .now) (a .x) (c .before .enum-told .given .1)))
+    c .settle .ensures ∙ sym (ap (λ (r : Reading). provedOf (prove r)) (claimed-read (a .s .now) (a .x) (c .before .enum-told .given .1)))
 
 returns-2 : tie.Need-returns-2
-unfolding judgeBy
+unfolding proveBy
 returns-2 c =
     let a = c .before .before .before .before .before .args in
-    c .refused-proof .ensures ∙ sym (ap (λ (r : Reading). provedOf (judge r)) (claimed-unread (a .s .now) (a .x) _ _ (c .before .before .status .given .1) refl))
+    c .refused-proof .ensures ∙ sym (ap (λ (r : Reading). provedOf (prove r)) (claimed-unread (a .s .now) (a .x) _ _ (c .before .before .status .given .1) refl))
 
-pub judge-claim-spec : {M : Type 1} → statement M
-judge-claim-spec =
+pub prove-claim-spec : {M : Type 1} → statement M
+prove-claim-spec =
     tie.close
     (tie.spec enum-told settle-requires enum-known-status refused-proof-requires returns returns-2)
