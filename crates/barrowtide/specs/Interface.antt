@@ -28,14 +28,14 @@ taken f (accepted a) old = f a
 taken f (refused why) old = old
 
 -- What was read, and what was read with the place after it.
-unfoldable pub reading : {A : Type 0} → Parse A → Result A
-reading (got a next) = accepted a
-reading (bad number place) = refused (carrying number place)
+unfoldable pub ofReading : {A : Type 0} → Parse A → Result A
+ofReading (got a next) = accepted a
+ofReading (bad number place) = refused (carrying number place)
 
-unfoldable pub readingTo : {A : Type 0} → Parse A → Result (A × ℕ)
-readingTo (got a next) = accepted (a, next)
-readingTo (bad number place) = refused (carrying number place)
+unfoldable pub ofReadingTo : {A : Type 0} → Parse A → Result (A × ℕ)
+ofReadingTo (got a next) = accepted (a, next)
+ofReadingTo (bad number place) = refused (carrying number place)
 
 -- A VarInt at the start of an input of at most the input size, and how many bytes it takes.
 unfoldable pub firstVarint : List ℕ → Result (ℕ × ℕ)
-firstVarint s = pick (leb (length s) MAX-INPUT) (readingTo (varint s 0)) (refused (carrying TOO-LONG 0))
+firstVarint s = pick (leb (length s) MAX-INPUT) (ofReadingTo (varint s 0)) (refused (carrying TOO-LONG 0))

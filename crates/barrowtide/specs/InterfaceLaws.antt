@@ -10,7 +10,7 @@ use Rattle.format.specs.Field.{varint}
 use Rattle.format.specs.Refusals.{TOO-LONG, MAX-INPUT}
 use Rattle.spv.specs.declared.rejection.Rejection.{Rejection}
 use Rattle.spv.specs.Result.{Result, accepted, refused, carrying}
-use Rattle.barrowtide.specs.Interface.{refusal, blamed, blame, taken, reading, readingTo, firstVarint}
+use Rattle.barrowtide.specs.Interface.{refusal, blamed, blame, taken, ofReading, ofReadingTo, firstVarint}
 
 module _ {A : Type 0} (v : Result A) where
   pub refused-number : {why : Rejection} → v ≡ refused why → why .number ≡ refusal v
@@ -38,25 +38,25 @@ module _ {A : Type 0} (v : Result A) where
   given-taken f old e = rw e
 
 module _ {A : Type 0} (p : Parse A) where
-  pub reading-got : {a : A} {q : ℕ} → p ≡ got a q → reading p ≡ accepted a
-  unfolding reading
+  pub reading-got : {a : A} {q : ℕ} → p ≡ got a q → ofReading p ≡ accepted a
+  unfolding ofReading
   reading-got e = rw e
 
-  pub reading-bad : {n q : ℕ} → p ≡ bad n q → reading p ≡ refused (carrying n q)
-  unfolding reading
+  pub reading-bad : {n q : ℕ} → p ≡ bad n q → ofReading p ≡ refused (carrying n q)
+  unfolding ofReading
   reading-bad e = rw e
 
 -- what is taken of what an answer holds is taken of what was read
-pub given-view : {A B C : Type 0} (f : A → B) (g : B → C) (p : Parse A) {b : B} {q : ℕ} (old : C) → each f p ≡ got b q → g b ≡ taken (λ a. g (f a)) (reading p) old
-given-view f g p old e = let x = each-got f p e in rw (← x .2) (given-taken (reading p) (λ a. g (f a)) old (reading-got p (x .1)))
+pub given-view : {A B C : Type 0} (f : A → B) (g : B → C) (p : Parse A) {b : B} {q : ℕ} (old : C) → each f p ≡ got b q → g b ≡ taken (λ a. g (f a)) (ofReading p) old
+given-view f g p old e = let x = each-got f p e in rw (← x .2) (given-taken (ofReading p) (λ a. g (f a)) old (reading-got p (x .1)))
 
 module _ (s : List ℕ) where
   pub first-got : {v q : ℕ} → length s ≤ MAX-INPUT → varint s 0 ≡ got v q → firstVarint s ≡ accepted (v, q)
-  unfolding firstVarint readingTo
+  unfolding firstVarint ofReadingTo
   first-got h e = rw (le-leb (length s) MAX-INPUT h, e)
 
   pub first-bad : {n q : ℕ} → length s ≤ MAX-INPUT → varint s 0 ≡ bad n q → firstVarint s ≡ refused (carrying n q)
-  unfolding firstVarint readingTo
+  unfolding firstVarint ofReadingTo
   first-bad h e = rw (le-leb (length s) MAX-INPUT h, e)
 
   pub first-too-long : MAX-INPUT < length s → firstVarint s ≡ refused (carrying TOO-LONG 0)

@@ -58,7 +58,7 @@ pub extern "C" fn barrowtide_read_bump(
     height: &mut u64,
     leaves: &mut u64,
 ) -> u32
-    ensures { λ r. ⌜ (let v = I.reading (bumpWhole (now (message .entry))) in
+    ensures { λ r. ⌜ (let v = I.ofReading (bumpWhole (now (message .entry))) in
         (r ≡ I.refusal v)
         × (now (blame .exit) ≡ I.blame v (now (blame .entry)))
         × (now (block .exit) ≡ I.taken (λ b. b .block) v (now (block .entry)))
@@ -85,7 +85,7 @@ pub extern "C" fn barrowtide_read_cmp(
     height: &mut u64,
     leaves: &mut u64,
 ) -> u32
-    ensures { λ r. ⌜ (let v = I.reading (cmpWhole (now (message .entry))) in
+    ensures { λ r. ⌜ (let v = I.ofReading (cmpWhole (now (message .entry))) in
         (r ≡ I.refusal v)
         × (now (blame .exit) ≡ I.blame v (now (blame .entry)))
         × (now (height .exit) ≡ I.taken (λ p. p .height) v (now (height .entry)))
@@ -111,7 +111,7 @@ pub extern "C" fn barrowtide_read_transaction(
     outputs: &mut u64,
     id: &mut [u8; 32],
 ) -> u32
-    ensures { λ r. ⌜ (let v = I.reading (txWhole (now (message .entry))) in
+    ensures { λ r. ⌜ (let v = I.ofReading (txWhole (now (message .entry))) in
         (r ≡ I.refusal v)
         × (now (blame .exit) ≡ I.blame v (now (blame .entry)))
         × (now (inputs .exit) ≡ I.taken (λ t. length (t .inputs)) v (now (inputs .entry)))
@@ -143,7 +143,7 @@ pub extern "C" fn barrowtide_read_tsc(
     index: &mut u64,
     nodes: &mut u64,
 ) -> u32
-    ensures { λ r. ⌜ (let v = I.reading (tscWhole (now (message .entry))) in
+    ensures { λ r. ⌜ (let v = I.ofReading (tscWhole (now (message .entry))) in
         (r ≡ I.refusal v)
         × (now (blame .exit) ≡ I.blame v (now (blame .entry)))
         × (now (flags .exit) ≡ I.taken (λ t. t .flags) v (now (flags .entry)))
@@ -170,7 +170,7 @@ pub extern "C" fn barrowtide_read_beef(
     bumps: &mut u64,
     transactions: &mut u64,
 ) -> u32
-    ensures { λ r. ⌜ (let v = I.reading (beefWhole MAX-TXS (now (message .entry))) in
+    ensures { λ r. ⌜ (let v = I.ofReading (beefWhole MAX-TXS (now (message .entry))) in
         (r ≡ I.refusal v)
         × (now (blame .exit) ≡ I.blame v (now (blame .entry)))
         × (now (bumps .exit) ≡ I.taken (λ b. length (b .bumps)) v (now (bumps .entry)))

@@ -67,9 +67,13 @@ blockBump block ids chosen = record { block = block; height = height ids; levels
 
 -- ---- the call
 
+-- "2 to 1,024 ids"
+abbrev pub MAX-IDS : ℕ
+MAX-IDS = 1024
+
 -- a block height and a list within the sizes, the list of whole ids
 unfoldable pub sized : ℕ → List ℕ → Bool
-sized block list = leb block MAX-BLOCK && (eqb (length list % 32) 0 && (leb 2 (length list / 32) && leb (length list / 32) 1024))
+sized block list = leb block MAX-BLOCK && (eqb (length list % 32) 0 && (leb 2 (length list / 32) && leb (length list / 32) MAX-IDS))
 
 unfoldable pub noneChosen : List ℕ → Bool
 noneChosen [] = true

@@ -26,6 +26,9 @@ ghost use Rattle.spv.specs.Result.{refused};
 ghost use Rattle.spv.specs.Bundle.{hashesOf};
 ghost use Rattle.encoder.specs.BlockBump.{allBelow, distinct, outputAfter, sized, writing, writtenOf};
 
+// The most ids that a list has.
+const MAX_IDS: usize = 1024;
+
 // How many bytes were written, or a refusal.
 pub enum Written {
     Bytes(usize),
@@ -52,7 +55,7 @@ fn within_sizes(block: u64, ids: &[u8]) -> bool
     if n < 2 {
         return false;
     }
-    n <= 1024
+    n <= MAX_IDS
 }
 
 // The BUMP of ids and positions that are not refused for themselves: the tree is made, then the bytes.

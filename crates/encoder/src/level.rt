@@ -1,7 +1,6 @@
 // The levels of a BUMP of chosen positions: what they ask for at each offset, how many bytes that takes, and the bytes.
 use super::marks::is_marked;
 use super::tree::node_at;
-use super::tree::sibling_position;
 use format::buffer::put;
 use format::buffer::varint_size;
 use format::buffer::write;
@@ -42,7 +41,8 @@ fn asked_at(marks: &[u8], base: bool, width: usize, count: usize, o: usize) -> A
     if is_marked(marks, width + o) {
         return passed_at(base);
     }
-    if !is_marked(marks, width + sibling_position(o)) {
+    let sibling = spv::sibling_position(o as u64) as usize;
+    if !is_marked(marks, width + sibling) {
         return Asked::Nothing;
     }
     if o < count { Asked::Plain } else { Asked::Copy }

@@ -9,7 +9,6 @@ ghost use mathlib.Core.List.{List};
 ghost use Prim.Native.Nat.{ℕ, _*_, _/_, _%_, _^_, _<_, _≤_};
 ghost use lib.ListN.{length};
 ghost use Rattle.format.specs.Search.{hashAt};
-ghost use Rattle.spv.specs.Climb.{siblingPosition};
 ghost use Rattle.spv.specs.Bundle.{hashesOf};
 ghost use Rattle.encoder.specs.Tree.{above, heightFor, treeClimb};
 ghost use Rattle.encoder.specs.BlockBump.{climbsFrom};
@@ -110,13 +109,6 @@ fn has_twin(ids: &[u8], heap: &[u8], base: bool, width: usize, j: usize) -> bool
     )
 }
 
-pub(crate) fn sibling_position(o: usize) -> usize
-    requires { ⌜ o ≤ 1024 ⌝ }
-    ensures { λ r. ⌜ r ≡ siblingPosition o ⌝ }
-{
-    if o % 2 == 1 { o - 1 } else { o + 1 }
-}
-
 // The climb from a position, up to the root or to the first twin.
 fn climb_from(ids: &[u8], heap: &[u8], height: usize, top: usize, i: usize) -> Climb
     requires { ⌜ (height ≤ 10) × (top ≡ 2 ^ height) × (i ≤ 1024) ⌝ }
@@ -127,7 +119,7 @@ fn climb_from(ids: &[u8], heap: &[u8], height: usize, top: usize, i: usize) -> C
     let mut k: usize = 0;
     while k < height {
         if has_twin(ids, heap, k == 0, width, j) {
-            let sibling = sibling_position(j) as u64;
+            let sibling = spv::sibling_position(j as u64);
             return Climb::Twin(Rejection {
                 number: TWIN,
                 carried: 0,

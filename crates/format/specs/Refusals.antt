@@ -112,6 +112,10 @@ MAX-HEIGHT = 32
 abbrev pub MAX-TOP : ℕ
 MAX-TOP = 31
 
+-- how many numbers 32 bits hold
+abbrev pub U32 : ℕ
+U32 = 4294967296
+
 -- block height
 abbrev pub MAX-BLOCK : ℕ
 MAX-BLOCK = 4294967295

@@ -29,7 +29,7 @@ use Rattle.format.specs.LevelLaws.{holds-here, holds-on, holds-end, hold
 use Rattle.format.specs.Refusals.{BAD-OFFSET, REPEATED}
 use Rattle.format.specs.Search.{hashAt, carries, lesser, looseCarried, looseLeaf, seekId}
 use Rattle.format.specs.SearchLaws.{least-on, lesser-nowhere}
-use Rattle.format.specs.Steps.{offsetOf, besides, Above, leafWith, Tells, refusalAt}
+use Rattle.format.specs.Steps.{offsetOf, keepOffset, Above, leafWith, Tells, refusalAt}
 
 -- a scan to the end of a list that keeps what it found
 module _ (x : ℕ) (l : List ℕ) (i : ℕ) (found : Bool) where
@@ -65,15 +65,15 @@ module _ (limit : ℕ) (s : List ℕ) (at : ℕ) where
 
 -- what a leaf carries, passed beside its offset
 module _ (flag offset : ℕ) (s : List ℕ) (at : ℕ) where
-  pub passed-short : {n q : ℕ} → (flag ≡ 1 → ⊥) → bytes 32 s at ≡ bad n q → each (besides offset) (kindField flag s at) ≡ bad n q
+  pub passed-short : {n q : ℕ} → (flag ≡ 1 → ⊥) → bytes 32 s at ≡ bad n q → each (keepOffset offset) (kindField flag s at) ≡ bad n q
   unfolding each
   passed-short h e = rw (kind-refused flag s at h e)
 
-  pub passed-hash : {p q : ℕ} → (flag ≡ 1 → ⊥) → bytes 32 s at ≡ got p q → each (besides offset) (kindField flag s at) ≡ got offset q
+  pub passed-hash : {p q : ℕ} → (flag ≡ 1 → ⊥) → bytes 32 s at ≡ got p q → each (keepOffset offset) (kindField flag s at) ≡ got offset q
   unfolding each kindField
   passed-hash {p} {q} h e = rw (ne-eqb _ _ h) (either (eqb flag 0))
     where
-      either : (b : Bool) → each (besides offset) (pick b (given Plain (bytes 32)) (given Client (bytes 32)) s at) ≡ got offset q
+      either : (b : Bool) → each (keepOffset offset) (pick b (given Plain (bytes 32)) (given Client (bytes 32)) s at) ≡ got offset q
       either true = rw e
       either false = rw e
 
@@ -83,26 +83,26 @@ module _ (layout : Layout) (limit level : ℕ) (s : List ℕ) (at : ℕ) where
   unfolding each leafField
   leaf-refused seen e = rw e
 
-  pub leaf-carried : (seen : List ℕ) {o q : ℕ} → offsetField limit seen s at ≡ got o q → each offsetOf (leafField layout limit level seen s at) ≡ each (besides o) (carriedField layout level o s q)
+  pub leaf-carried : (seen : List ℕ) {o q : ℕ} → offsetField limit seen s at ≡ got o q → each offsetOf (leafField layout limit level seen s at) ≡ each (keepOffset o) (carriedField layout level o s q)
   unfolding each leafField
   leaf-carried seen {o} {q} e = rw e (parts (carriedField layout level o s q))
     where
-      parts : (p : Parse Kind) → each offsetOf (onward p (λ kind next. got (record { offset = o; kind = kind }) next)) ≡ each (besides o) p
+      parts : (p : Parse Kind) → each offsetOf (onward p (λ kind next. got (record { offset = o; kind = kind }) next)) ≡ each (keepOffset o) p
       parts (got k r) = refl
       parts (bad n r) = refl
 
   pub leaf-told : (seen : List ℕ) {o q : ℕ} → each offsetOf (leafField layout limit level seen s at) ≡ got o q
-      → (r : ℕ) × (offsetField limit seen s at ≡ got o r) × (each (besides o) (carriedField layout level o s r) ≡ got o q)
+      → (r : ℕ) × (offsetField limit seen s at ≡ got o r) × (each (keepOffset o) (carriedField layout level o s r) ≡ got o q)
   leaf-told seen {o} {q} e = told (offsetField limit seen s at) refl
     where
-      parted : (p r : ℕ) → p ≡ o → offsetField limit seen s at ≡ got p r → each (besides p) (carriedField layout level p s r) ≡ got o q
-          → (r : ℕ) × (offsetField limit seen s at ≡ got o r) × (each (besides o) (carriedField layout level o s r) ≡ got o q)
-      parted p r h f g = (r, f ∙ ap (λ (x : ℕ). got x r) h, ap (λ (x : ℕ). each (besides x) (carriedField layout level x s r)) (sym h) ∙ g)
+      parted : (p r : ℕ) → p ≡ o → offsetField limit seen s at ≡ got p r → each (keepOffset p) (carriedField layout level p s r) ≡ got o q
+          → (r : ℕ) × (offsetField limit seen s at ≡ got o r) × (each (keepOffset o) (carriedField layout level o s r) ≡ got o q)
+      parted p r h f g = (r, f ∙ ap (λ (x : ℕ). got x r) h, ap (λ (x : ℕ). each (keepOffset x) (carriedField layout level x s r)) (sym h) ∙ g)
 
-      told : (p : Parse ℕ) → offsetField limit seen s at ≡ p → (r : ℕ) × (offsetField limit seen s at ≡ got o r) × (each (besides o) (carriedField layout level o s r) ≡ got o q)
+      told : (p : Parse ℕ) → offsetField limit seen s at ≡ p → (r : ℕ) × (offsetField limit seen s at ≡ got o r) × (each (keepOffset o) (carriedField layout level o s r) ≡ got o q)
       told (got p r) f =
-          let g : each (besides p) (carriedField layout level p s r) ≡ got o q = sym (leaf-carried seen f) ∙ e in
-          parted p r (each-got (besides p) (carriedField layout level p s r) g .2) f g
+          let g : each (keepOffset p) (carriedField layout level p s r) ≡ got o q = sym (leaf-carried seen f) ∙ e in
+          parted p r (each-got (keepOffset p) (carriedField layout level p s r) g .2) f g
       told (bad n r) f = absurd (let z : got o q ≡ bad n r = sym e ∙ leaf-refused seen f in let y : _≡_ {A = ℕ} 0 1 = cc in omega arith)
 
   pub leaf-below : (seen : List ℕ) {o q : ℕ} → each offsetOf (leafField layout limit level seen s at) ≡ got o q → o < limit
@@ -160,9 +160,9 @@ module _ (layout : Layout) (limit level n : ℕ) (s : List ℕ) where
   risen-done total i least at h r = r .2 ∙ count-done (leafField layout limit level) andOffset n s i (r .0) at h
 
 -- a leaf of an offset that is at least `least`
-pub above-carried : (least o : ℕ) (r : Number) (k : Parse Kind) {p : Parse ℕ} → numberOf r ≡ each (besides o) k → p ≡ each (besides o) k → least ≤ o → Above least r p
+pub above-carried : (least o : ℕ) (r : Number) (k : Parse Kind) {p : Parse ℕ} → numberOf r ≡ each (keepOffset o) k → p ≡ each (keepOffset o) k → least ≤ o → Above least r p
 above-carried least o (Number.Value x c) k {p} e f h =
-    let g = each-got (besides o) k (sym e) .2 in
+    let g = each-got (keepOffset o) k (sym e) .2 in
     (f ∙ sym e, low x g)
   where
     low : (x : ℕ) → o ≡ x → least ≤ x

@@ -15,9 +15,9 @@ use Rattle.format.specs.Search.{hashAt, carries}
 abbrev pub offsetOf : Leaf → ℕ
 offsetOf leaf = leaf .offset
 
--- an offset that is known, whatever stands beside it
-abbrev pub besides : ℕ → Kind → ℕ
-besides offset _ = offset
+-- the offset that was read before what a leaf carries
+abbrev pub keepOffset : ℕ → Kind → ℕ
+keepOffset offset _ = offset
 
 -- a leaf's offset is read, and is `least` or above; a refusal says nothing
 abbrev pub Above : ℕ → Number → Parse ℕ → Type 0

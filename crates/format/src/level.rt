@@ -17,9 +17,9 @@ ghost use Prim.Native.Nat.{ℕ, _+_, _-_, _≤_, _<_, _^_};
 ghost use lib.ListN.{length};
 ghost use Rattle.format.specs.Parse.{each, times};
 ghost use Rattle.format.specs.FieldAnswer.{numberOf};
-ghost use Rattle.format.specs.Refusals.{MAX-LEAVES};
+ghost use Rattle.format.specs.Refusals.{MAX-HEIGHT, MAX-LEAVES, U32};
 ghost use Rattle.format.specs.Level.{holds, offsetField, flagField, flagAllowed, kindField, carriedField, leafField, leafFields, levelField, levelOfTurn, levelInTurn, levelFields, total};
-ghost use Rattle.format.specs.Steps.{offsetOf, besides, Above, leafWith, Tells, refusalAt};
+ghost use Rattle.format.specs.Steps.{offsetOf, keepOffset, Above, leafWith, Tells, refusalAt};
 ghost use Rattle.format.specs.LevelAnswer.{kindOf, leafOf, refusalOfKind, refusalOfLeaf};
 ghost use Rattle.format.specs.Search.{looseCarried, looseLeaf, looseLevel};
 
@@ -119,7 +119,7 @@ fn read_bounded(s: &[u8], c: Cursor, greatest: u64) -> Number
 
 // No offset seen is above top.
 fn read_offset(s: &[u8], c: Cursor, greatest: u64, seen: &[u32], top: u64) -> Number
-    requires { ⌜ (greatest < 4294967296) × ((x : ℕ) → top < x → holds x (now seen) ≡ false) ⌝ }
+    requires { ⌜ (greatest < U32) × ((x : ℕ) → top < x → holds x (now seen) ≡ false) ⌝ }
     ensures { λ r. ⌜ numberOf r ≡ offsetField (greatest + 1) (now (seen .entry)) (now (s .entry)) (c .at) ⌝ }
 {
     let at = c.at;
@@ -188,7 +188,7 @@ pub fn read_kind(s: &[u8], c: Cursor, flag: u64) -> KindAnswer
 
 // Where what a leaf carries ends, beside its offset.
 fn skip_kind(s: &[u8], c: Cursor, flag: u64, offset: u64) -> Number
-    ensures { λ r. ⌜ numberOf r ≡ each (besides offset) (kindField flag (now (s .entry)) (c .at)) ⌝ }
+    ensures { λ r. ⌜ numberOf r ≡ each (keepOffset offset) (kindField flag (now (s .entry)) (c .at)) ⌝ }
 {
     if flag == 1 {
         return Number::Value(offset, c);
@@ -201,7 +201,7 @@ fn skip_kind(s: &[u8], c: Cursor, flag: u64, offset: u64) -> Number
 }
 
 fn read_flagged(s: &[u8], c: Cursor, level: u64, offset: u64) -> Number
-    ensures { λ r. ⌜ numberOf r ≡ each (besides offset) (carriedField Layout.Bump level offset (now (s .entry)) (c .at)) ⌝ }
+    ensures { λ r. ⌜ numberOf r ≡ each (keepOffset offset) (carriedField Layout.Bump level offset (now (s .entry)) (c .at)) ⌝ }
 {
     let first = read_flag(s, c, level, offset);
     let Number::Value(flag, next) = first else {
@@ -212,7 +212,7 @@ fn read_flagged(s: &[u8], c: Cursor, level: u64, offset: u64) -> Number
 
 // What follows an offset.
 fn read_carried(s: &[u8], c: Cursor, layout: Layout, level: u64, offset: u64) -> Number
-    ensures { λ r. ⌜ numberOf r ≡ each (besides offset) (carriedField layout level offset (now (s .entry)) (c .at)) ⌝ }
+    ensures { λ r. ⌜ numberOf r ≡ each (keepOffset offset) (carriedField layout level offset (now (s .entry)) (c .at)) ⌝ }
 {
     match layout {
         Layout::Bump => read_flagged(s, c, level, offset),
@@ -230,7 +230,7 @@ fn read_leaf(
     seen: &[u32],
     top: u64,
 ) -> Number
-    requires { ⌜ (greatest < 4294967296) × ((x : ℕ) → top < x → holds x (now seen) ≡ false) ⌝ }
+    requires { ⌜ (greatest < U32) × ((x : ℕ) → top < x → holds x (now seen) ≡ false) ⌝ }
     ensures { λ r. ⌜ numberOf r ≡ each offsetOf (leafField layout (greatest + 1) level (now (seen .entry)) (now (s .entry)) (c .at)) ⌝ }
 {
     let first = read_offset(s, c, greatest, seen, top);
@@ -255,7 +255,7 @@ fn read_leaves(
     greatest: u64,
     count: usize,
 ) -> Number
-    requires { ⌜ (greatest < 4294967296) × (count ≤ MAX-LEAVES) ⌝ }
+    requires { ⌜ (greatest < U32) × (count ≤ MAX-LEAVES) ⌝ }
     ensures { λ r. ⌜ numberOf r ≡ each length (leafFields layout (greatest + 1) level count (now (s .entry)) (c .at)) ⌝ }
 {
     let mut seen = [0u32; Layout::MAX_LEAVES];
@@ -302,7 +302,7 @@ fn read_rising(
     greatest: u64,
     count: usize,
 ) -> Number
-    requires { ⌜ (greatest < 4294967296) × (count ≤ MAX-LEAVES) ⌝ }
+    requires { ⌜ (greatest < U32) × (count ≤ MAX-LEAVES) ⌝ }
     ensures { λ r. ⌜ numberOf r ≡ each length (leafFields layout (greatest + 1) level count (now (s .entry)) (c .at)) ⌝ }
 {
     let mut least: u64 = 0;
@@ -322,7 +322,7 @@ fn read_rising(
 
 // A level: the answer is how many leaves it has.
 fn read_level(s: &[u8], c: Cursor, layout: Layout, level: u64, greatest: u64) -> Number
-    requires { ⌜ greatest < 4294967296 ⌝ }
+    requires { ⌜ greatest < U32 ⌝ }
     ensures { λ r. ⌜ numberOf r ≡ each length (levelField layout (greatest + 1) level (now (s .entry)) (c .at)) ⌝ }
 {
     let at = c.at;
@@ -367,7 +367,7 @@ pub(crate) fn level_in_turn(layout: Layout, height: u64, i: u64) -> u64
 }
 
 fn read_in_turn(s: &[u8], c: Cursor, layout: Layout, height: u64, i: u64) -> Number
-    requires { ⌜ (i < height) × (height ≤ 32) ⌝ }
+    requires { ⌜ (i < height) × (height ≤ MAX-HEIGHT) ⌝ }
     ensures { λ r. ⌜ numberOf r ≡ each length (levelInTurn layout height i (now (s .entry)) (c .at)) ⌝ }
 {
     let level = level_in_turn(layout, height, i);
@@ -376,7 +376,7 @@ fn read_in_turn(s: &[u8], c: Cursor, layout: Layout, height: u64, i: u64) -> Num
 
 // The levels of a tree: the answer is how many leaves they have.
 pub(crate) fn read_levels(s: &[u8], c: Cursor, layout: Layout, height: u64) -> Number
-    requires { ⌜ height ≤ 32 ⌝ }
+    requires { ⌜ height ≤ MAX-HEIGHT ⌝ }
     ensures { λ r. ⌜ numberOf r ≡ each total (levelFields layout height (now (s .entry)) (c .at)) ⌝ }
 {
     let mut leaves: u64 = 0;

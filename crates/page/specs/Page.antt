@@ -20,8 +20,8 @@ use Rattle.page.specs.declared.Answer.{Answer}
 use Rattle.page.specs.declared.Paged.{Paged}
 
 -- "up to 256 ids"
-abbrev pub MAX-IDS : ℕ
-MAX-IDS = 256
+abbrev pub MAX-PAGE : ℕ
+MAX-PAGE = 256
 
 -- the answer for no id: all zero
 abbrev pub blankAnswer : Answer
@@ -46,7 +46,7 @@ answers s ids = map (single s) (hashesOf ids)
 
 -- whole ids, and no more than the most
 unfoldable pub allowed : List ℕ → Bool
-allowed ids = eqb (length ids % 32) 0 && leb (length ids / 32) MAX-IDS
+allowed ids = eqb (length ids % 32) 0 && leb (length ids / 32) MAX-PAGE
 
 -- "5 for over 256 ids or a part of one, then 22 for a row shorter than the ids, both before the BUMP's own, 1 included"
 unfoldable pub bumpFor : List ℕ → List ℕ → ℕ → Parse Bump

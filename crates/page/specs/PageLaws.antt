@@ -25,7 +25,7 @@ use Rattle.spv.specs.BundleTheorems.{map-at}
 use Rattle.spv.specs.Table.{rows}
 use Rattle.spv.specs.TableLaws.{rows-list}
 use Rattle.page.specs.declared.Paged.{Paged}
-use Rattle.page.specs.Page.{MAX-IDS, blankAnswer, answerOf, single, answers, allowed, bumpFor, page, pagedOf, rowOf}
+use Rattle.page.specs.Page.{MAX-PAGE, blankAnswer, answerOf, single, answers, allowed, bumpFor, page, pagedOf, rowOf}
 use Rattle.page.specs.Opening.{unopened, openingOf, answerUnder, answerAt}
 
 -- ---- refusals, in their order
@@ -36,18 +36,18 @@ module _ (s ids : List ℕ) (room : ℕ) where
   page-part h = rw (ne-eqb (length ids % 32) 0 h)
 
   module _ (whole : length ids % 32 ≡ 0) where
-    pub page-over : MAX-IDS < length ids / 32 → bumpFor s ids room ≡ bad OVER-LIMIT 0
+    pub page-over : MAX-PAGE < length ids / 32 → bumpFor s ids room ≡ bad OVER-LIMIT 0
     unfolding bumpFor allowed
-    page-over h = rw (eq-eqb (length ids % 32) 0 whole, lt-leb (length ids / 32) MAX-IDS h)
+    page-over h = rw (eq-eqb (length ids % 32) 0 whole, lt-leb (length ids / 32) MAX-PAGE h)
 
-    module _ (few : length ids / 32 ≤ MAX-IDS) where
+    module _ (few : length ids / 32 ≤ MAX-PAGE) where
       pub page-short : room < length ids / 32 → bumpFor s ids room ≡ bad NO-ROOM 0
       unfolding bumpFor allowed
-      page-short h = rw (eq-eqb (length ids % 32) 0 whole, le-leb (length ids / 32) MAX-IDS few, lt-leb (length ids / 32) room h)
+      page-short h = rw (eq-eqb (length ids % 32) 0 whole, le-leb (length ids / 32) MAX-PAGE few, lt-leb (length ids / 32) room h)
 
       pub page-asked : length ids / 32 ≤ room → bumpFor s ids room ≡ bumpWhole s
       unfolding bumpFor allowed
-      page-asked h = rw (eq-eqb (length ids % 32) 0 whole, le-leb (length ids / 32) MAX-IDS few, le-leb (length ids / 32) room h)
+      page-asked h = rw (eq-eqb (length ids % 32) 0 whole, le-leb (length ids / 32) MAX-PAGE few, le-leb (length ids / 32) room h)
 
   -- a page that is answered has room, and its BUMP was read
   page-told : (b : Bump) (q : ℕ) → bumpFor s ids room ≡ got b q → (length ids / 32 ≤ room) × (bumpWhole s ≡ got b q)

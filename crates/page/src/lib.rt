@@ -17,7 +17,7 @@ ghost use Rattle.page.specs.Page.{blankAnswer, answerOf, bumpFor, page, 
 ghost use Rattle.page.specs.Opening.{unopened, openingOf, answerAt};
 
 // The most ids that a page has.
-pub const MAX_IDS: usize = 256;
+pub const MAX_PAGE: usize = 256;
 
 // What asking for one id answers: the number of its refusal, what that carries and the layer and sibling that it names, or the id's position, the number
 // of layers and the root. What is not said is zero. Any bytes are a value of each field, so that a caller may lend any memory, and no byte lies between the fields.
@@ -123,7 +123,7 @@ fn open_page(s: &[u8], ids: &[u8], room: usize) -> Opening
     if ids.len() % 32 != 0 {
         return refused_page(spv::reject(OVER_LIMIT));
     }
-    if MAX_IDS < count {
+    if MAX_PAGE < count {
         return refused_page(spv::reject(OVER_LIMIT));
     }
     if room < count {

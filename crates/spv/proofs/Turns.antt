@@ -22,8 +22,8 @@ use Rattle.spv.specs.CompareLaws.{meet-left, meet-right, meet-here, meet
 use Rattle.spv.specs.Shapes.{climbedOf, joinedOf, isJoins}
 use Rattle.spv.specs.ShapesLaws.{is-joins, told-joins}
 use Rattle.spv.specs.Clients.{afterLeaf, closing}
-use Rattle.spv.specs.ClientsLaws.{clientsIn, turn-leaf, turn-short, turn-last}
-use Rattle.spv.specs.ClientsShapes.{wantSays, refusedCheck, checkedOf}
+use Rattle.spv.specs.ClientsShapes.{clientsIn, wantSays, refusedCheck, checkedOf}
+use Rattle.spv.specs.ClientsLaws.{turn-leaf, turn-short, turn-last}
 use Rattle.spv.specs.ClientsShapesLaws.{told-goes, told-halts}
 use Rattle.spv.specs.declared.climb.Climbed.{Climbed}
 use Rattle.spv.specs.declared.climb.Joined.{Joined}

@@ -24,14 +24,14 @@ use Rattle.format.specs.declared.refusal.Refusal.{Refusal}
 use Rattle.format.specs.declared.beef.BeefHead.{BeefHead}
 use Rattle.format.specs.declared.beef.Anchor.{Anchor}
 use Rattle.format.specs.declared.beef.Anchor.the-variants.{Unanchored, Bump as InBump}
-use Rattle.format.specs.Refusals.{MAX-BUMPS, MAX-INPUT, NO-PARENT, SAME-TX, BAD-INDEX, TOO-LONG, BAD-ROOTS, MAX-TXS}
+use Rattle.format.specs.Refusals.{MAX-BUMPS, MAX-INPUT, NO-PARENT, SAME-TX, BAD-INDEX, TOO-LONG, BAD-ROOTS, MAX-TXS, U32}
 use Rattle.format.specs.declared.tx.Input.{Input}
 use Rattle.format.specs.Transaction.{inputField, txHeadOf}
 use Rattle.spv.specs.declared.bundle.Standing.the-variants.{Refuses, Passes}
 use Rattle.spv.specs.declared.table.Record.{Record}
 use Rattle.format.specs.IdLaws.{tx-hash, span-length}
 use Rattle.spv.specs.Result.{refused, carrying, refusedReading}
-use Rattle.spv.specs.Table.{flatHead, U32}
+use Rattle.spv.specs.Table.{flatHead}
 use Rattle.spv.specs.ReadingsLaws.{bump-path-proves}
 use Rattle.spv.specs.Bundle.{among, rests, trusted, proving, nthBump, emptyBump, entryId, entryRow, anchoring, standing, judgeFrom, judgeEntries, judgeRead, judgeBeef}
 use Rattle.spv.specs.BundleTheorems.{emptyEntry, trusted-told}

@@ -1,4 +1,4 @@
--- Laws of the all-clients check, and what it is over a level's bytes.
+-- Laws of the all-clients check, over the leaves of a level and over its bytes.
 use Prim.Native.Nat.{ℕ, zero, suc, _+_, _-_, _<_, _≤_}
 use mathlib.Core.Path.{_≡_, refl, ap, _∙_}
 use mathlib.Core.List.{List, [], _∷_}
@@ -26,15 +26,7 @@ use Rattle.spv.specs.Siblings.{levelSiblings, pathSiblings}
 use Rattle.spv.specs.SiblingsLaws.{path-levels}
 use Rattle.spv.specs.ReadingsLaws.{prove-same, bump-layers, bump-leads}
 use Rattle.spv.specs.Clients.{wantedBy, afterKind, afterLeaf, closing, clients, bumpClients}
-
--- of n leaves from a place, as far as they can be read
-unfoldable pub clientsIn : Siblings → ℕ → List ℕ → ℕ → ℕ → Target → Result (List ℕ)
-clientsIn σ h s zero at w = closing w
-clientsIn σ h s (suc n) at w =
-    otherwise (looseLeaf Layout.Bump s at) (refused (carrying NOT-LISTED 0)) (λ leaf next. follow (afterLeaf σ h s w leaf) (λ w′. clientsIn σ h s n next w′))
-
-unfoldable pub clientsOfLevel : Siblings → ℕ → List ℕ → ℕ → Result (List ℕ)
-clientsOfLevel σ h s at = otherwise (varint s at) (refused (carrying NOT-LISTED 0)) (λ n next. clientsIn σ h s n next any)
+use Rattle.spv.specs.ClientsShapes.{clientsIn, clientsOfLevel}
 
 follow-same : (x : Result Target) (f g : Target → Result (List ℕ)) → ((w : Target) → f w ≡ g w) → follow x f ≡ follow x g
 follow-same (accepted w) f g e = e w

@@ -21,8 +21,8 @@ pub mod ShapesLaws
 pub mod Readings
 pub mod ReadingsLaws
 pub mod Clients
-pub mod ClientsLaws
 pub mod ClientsShapes
+pub mod ClientsLaws
 pub mod ClientsShapesLaws
 pub mod ClientsTheorems
 pub mod Surplus

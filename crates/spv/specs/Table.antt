@@ -5,7 +5,7 @@ use lib.Dec.{ltb, leb}
 use lib.ListN.{length, replicate, getD, take, drop}
 use Rattle.format.specs.Parse.{pick}
 use Rattle.format.specs.Search.{hashAt}
-use Rattle.format.specs.Refusals.{MAX-TXS}
+use Rattle.format.specs.Refusals.{U32, MAX-TXS}
 use Rattle.spv.specs.declared.table.Record.{Record}
 
 -- the record of no transaction: all zero
@@ -18,10 +18,6 @@ IDS-ROOM = 8192
 
 abbrev pub NUMBERS-ROOM : ℕ
 NUMBERS-ROOM = 1280
-
--- how many values a field of 32 bits has
-abbrev pub U32 : ℕ
-U32 = 4294967296
 
 -- the first record of a flat form
 unfoldable pub flatHead : List ℕ → List ℕ → Record

@@ -22,9 +22,8 @@ ghost use Rattle.spv.specs.Result.{Result, refused, carrying};
 ghost use Rattle.spv.specs.Compare.{targetOf, Proof, any};
 ghost use Rattle.spv.specs.Siblings.{pathSiblings};
 ghost use Rattle.spv.specs.Clients.{wantedBy, afterLeaf, closing, bumpClients};
-ghost use Rattle.spv.specs.ClientsLaws.{clientsIn, clientsOfLevel};
+ghost use Rattle.spv.specs.ClientsShapes.{clientsIn, clientsOfLevel, wantSays, refusedCheck, checkedOf};
 ghost use Rattle.spv.specs.Shapes.{provedOf};
-ghost use Rattle.spv.specs.ClientsShapes.{wantSays, refusedCheck, checkedOf};
 
 pub enum Agreement {
     Agreed,

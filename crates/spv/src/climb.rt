@@ -137,8 +137,8 @@ fn fold(node: Node, odd: bool, c: [u8; 32]) -> Joined
     }
 }
 
-// The position beside j.
-fn sibling_position(j: u64) -> u64
+// The position of the sibling of j.
+pub fn sibling_position(j: u64) -> u64
     ensures { λ r. ⌜ r ≡ siblingPosition j ⌝ }
 {
     if j % 2 == 1 { j - 1 } else { j + 1 }

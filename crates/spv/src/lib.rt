@@ -14,6 +14,7 @@ pub use bundle::Verdict;
 pub use clients::Agreement;
 pub use clients::Checked;
 pub use clients::check_clients;
+pub use climb::sibling_position;
 pub use comparing::Compared;
 pub use comparing::Comparison;
 pub use comparing::compare;

@@ -39,14 +39,13 @@ fn line(name: &[u8], bytes: [u8; 32]) {
     text(b"\n");
 }
 
-fn refused(refusal: Refusal) {
-    number(b"refused", refusal.number as u64);
-    number(b"at", refusal.place as u64);
-}
-
 fn rejected(rejection: Rejection) {
     number(b"refused", rejection.number as u64);
     number(b"at", rejection.carried as u64);
+}
+
+fn refused(refusal: Refusal) {
+    rejected(spv::reject_reading(refusal));
 }
 
 // Double SHA-256: the messages of the Secure Hash Standard's examples, lengths at the padding's edges, and a join.

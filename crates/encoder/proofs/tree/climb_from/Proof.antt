@@ -21,7 +21,7 @@ has-twin-requires : tie.Need-has-twin-requires Inv-loop μ-loop
 has-twin-requires c κs = let l = c .before .loop in let w = level-small _ _ _ (l .inv .0) (c .loop-test .taken) (omega arith) in (omega arith, omega arith)
 
 sibling-position-requires : tie.Need-sibling-position-requires Inv-loop μ-loop
-sibling-position-requires c κs = omega arith
+sibling-position-requires c κs = search needs
 
 returns : tie.Need-returns Inv-loop μ-loop
 returns c =

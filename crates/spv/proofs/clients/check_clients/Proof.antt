@@ -7,8 +7,8 @@ use Rattle.format.specs.Bump.{headOf, bumpWhole, bumpAnswer, refusalOfBump}
 use Rattle.format.specs.Path.{bumpPathOf}
 use Rattle.spv.specs.Result.{refusedReading}
 use Rattle.spv.specs.Siblings.{pathSiblings}
-use Rattle.spv.specs.ClientsLaws.{clientsOfLevel, clients-refused, bump-clients}
-use Rattle.spv.specs.ClientsShapes.{refusedCheck, checkedOf}
+use Rattle.spv.specs.ClientsShapes.{clientsOfLevel, refusedCheck, checkedOf}
+use Rattle.spv.specs.ClientsLaws.{clients-refused, bump-clients}
 use Rattle.spv.proofs.clients.check_clients.Statement.{statement}
 use Rattle.spv.proofs.clients.check_clients.Tie as tie
 
