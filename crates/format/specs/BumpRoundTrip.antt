@@ -1,17 +1,14 @@
 -- Writing a BUMP and reading it, either way round: the two are inverse, and no other bytes are read as that content.
-use mathlib.Core.Path.{_≡_, refl, sym, ap, _∙_}
+use mathlib.Core.Path.{_≡_, sym, ap, _∙_}
 use mathlib.Core.List.{List, [], _∷_}
-use mathlib.Core.Bool.{Bool, true, false}
 use Prim.Native.Nat.{ℕ, _+_, _*_, _^_, _-_, _≤_}
 use lib.ListN.{length, length-append}
-use lib.Dec.{leb, ltb}
 use native.Mathlib.Omega.{arith}
-use borrow.Author.Tests.{ltb-false}
-use Rattle.format.specs.Parse.{Parse, pick, ended, whole, got, bad}
-use Rattle.format.specs.ParseLaws.{onward-told, whole-told}
-use Rattle.format.specs.Whole.{whole-got}
+use Rattle.format.specs.Parse.{got}
+use Rattle.format.specs.ParseLaws.{whole-told}
+use Rattle.format.specs.Whole.{whole-got, whole-ends}
 use Rattle.format.specs.Bump.{Bump, bumpField, bumpWhole}
-use Rattle.format.specs.Refusals.{MAX-INPUT, EXTRA, TOO-LONG}
+use Rattle.format.specs.Refusals.{MAX-INPUT}
 use Rattle.format.specs.Stands.{stands-self, stands-all}
 use Rattle.format.specs.Spelling.{AllBytes, spells, Fits}
 use Rattle.format.specs.Digits.{varintBytes}
@@ -68,18 +65,6 @@ bump-read-back c f =
     let s : List ℕ = bumpBytes c in
     let r = bump-spelling .reads s 0 (length s) c f (stands-self s) in
     (r .0, whole-got bumpField s (bump-length c f) (r .1) (omega arith) ∙ r .1, r .2)
-
-whole-ends : {A : Type 0} (p : List ℕ → ℕ → Parse A) (s : List ℕ) {a : A} {q : ℕ} → whole p s ≡ got a q → length s ≤ q
-unfolding whole
-whole-ends {A = A} p s {a} {q} e = fit (leb (length s) MAX-INPUT) e
-  where
-    last : (b : A) (r : ℕ) (v : Bool) → ltb r (length s) ≡ v → pick v (bad EXTRA r) (got b r) ≡ got a q → length s ≤ q
-    last b r true g m = absurd (let z : _≡_ {A = ℕ} 0 1 = cc in omega arith)
-    last b r false g m = let k : r ≡ q = cc in rw (← k) (ltb-false _ _ g)
-
-    fit : (v : Bool) → pick v (ended p s 0) (bad TOO-LONG 0) ≡ got a q → length s ≤ q
-    fit true m = let x = onward-told (p s 0) _ m in last (x .0) (x .1) (ltb (x .1) (length s)) refl (x .3)
-    fit false m = absurd (let z : _≡_ {A = ℕ} 0 1 = cc in omega arith)
 
 -- bytes that are read as a BUMP are the writing of their content, which fits
 pub bump-written : (s : List ℕ) {b : Bump} {q : ℕ} → AllBytes s → bumpWhole s ≡ got b q → (s ≡ bumpBytes (contentOf s b)) × ContentFit (contentOf s b)

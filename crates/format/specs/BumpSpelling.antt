@@ -42,13 +42,13 @@ read-itself {A = A} x s at q b f a = let r = x .reads s at q b f a in r .1 ∙ a
 
 -- ---- 32 bytes
 
-hash-reads : (s : List ℕ) (at q : ℕ) (h : List ℕ) → length h ≡ 32 → Stands s at h q → (bytes 32 s at ≡ got at q) × (hashAt s at ≡ h)
+pub hash-reads : (s : List ℕ) (at q : ℕ) (h : List ℕ) → length h ≡ 32 → Stands s at h q → (bytes 32 s at ≡ got at q) × (hashAt s at ≡ h)
 hash-reads s at q h l a =
     let e = a .next in
     let f = stands-fits a (omega arith) in
     (bytes-here s at 32 (omega arith) ∙ ap (λ (k : ℕ). got at k) (omega arith), hash-there s at (omega arith) ∙ ap (λ (n : ℕ). take n (drop at s)) (sym l) ∙ stands-take a)
 
-hash-says : (s : List ℕ) (at q p : ℕ) → AllBytes s → bytes 32 s at ≡ got p q → Stands s at (hashAt s p) q × HashFit (hashAt s p)
+pub hash-says : (s : List ℕ) (at q p : ℕ) → AllBytes s → bytes 32 s at ≡ got p q → Stands s at (hashAt s p) q × HashFit (hashAt s p)
 hash-says s at q p h e =
     let t = bytes-told 32 s at e in
     let is : hashAt s p ≡ take 32 (drop at s) = ap (hashAt s) (t .place-is) ∙ hash-there s at (t .inside) in

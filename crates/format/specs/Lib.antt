@@ -49,4 +49,7 @@ pub mod BufferLaws
 pub mod BumpBytes
 pub mod BumpSpelling
 pub mod BumpRoundTrip
+pub mod TscBytes
+pub mod TscSpelling
+pub mod TscRoundTrip
 pub mod Examples
