@@ -7,8 +7,6 @@ use native.Mathlib.Omega.{arith}
 use borrow.Author.Tests.{eq-eqb, ne-eqb}
 use Rattle.hash.specs.declared.Hashed.{Hashed}
 use Rattle.spv.specs.declared.rejection.Rejection.{Rejection}
-use Rattle.spv.specs.declared.prove.Outcome.the-variants.{Accepted, Refused}
-use Rattle.spv.specs.declared.prove.Proved.{Proved}
 use Rattle.spv.specs.declared.clients.Agreement.{Agreement}
 use Rattle.spv.specs.declared.clients.Checked.{Checked}
 use Rattle.spv.specs.declared.comparing.Comparison.{Comparison}
@@ -18,12 +16,12 @@ use Rattle.encoder.specs.declared.block.Written.{Written}
 use Rattle.page.specs.declared.Answer.{Answer}
 use Rattle.page.specs.declared.Paged.{Paged}
 use Rattle.spv.specs.Result.{Result, accepted, refused, carrying}
-use Rattle.spv.specs.Compare.{Proof, Strings}
-use Rattle.spv.specs.Shapes.{provedOf, acceptedOf, comparedOf, refusedPair}
+use Rattle.spv.specs.Compare.{Strings}
+use Rattle.spv.specs.Shapes.{comparedOf, refusedPair}
 use Rattle.spv.specs.ClientsShapes.{checkedOf, refusedCheck}
 use Rattle.spv.specs.Bundle.{Judgement, verdictOf}
 use Rattle.spv.specs.declared.table.Record.{Record}
-use Rattle.encoder.specs.BlockBump.{writtenOf}
+use Rattle.encoder.specs.Output.{writtenOf}
 use Rattle.page.specs.Page.{pagedOf}
 use Rattle.barrowtide.specs.Answers.{ofHashed}
 
@@ -37,12 +35,6 @@ module _ (h : Hashed) where
   hashed-refused e = rw (ne-eqb (h .number) 0 e)
 
 -- a refused answer tells a refused result
-module _ (p : Proved) where
-  pub proved-refused : (v : Result Proof) (why : Rejection) → p ≡ provedOf v → p .outcome ≡ Refused why → v ≡ refused why
-  unfolding provedOf acceptedOf
-  proved-refused (refused x) why e f = cc
-  proved-refused (accepted x) why e f = let z : _≡_ {A = ℕ} 0 1 = cc in absurd (omega arith)
-
 module _ (c : Checked) where
   pub checked-refused : (v : Result (List ℕ)) (why : Rejection) → c ≡ checkedOf v → c .agreement ≡ Agreement.Refused why → v ≡ refused why
   unfolding checkedOf refusedCheck

@@ -1,6 +1,7 @@
 // The C interface. A call returns the number of its refusal, or 0; memory that it gives nothing for keeps its content. What a refusal blames is a C
 // struct of three 64-bit numbers, lent as an array of them.
 mod blame;
+pub mod convert;
 pub mod judge;
 pub mod pages;
 pub mod prove;

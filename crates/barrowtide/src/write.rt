@@ -6,11 +6,12 @@ ghost use mathlib.Core.List.{List};
 ghost use Prim.Native.Nat.{ℕ};
 ghost use lib.ListN.{length};
 ghost use Rattle.spv.specs.Result.{Result};
-ghost use Rattle.encoder.specs.BlockBump.{writing, writtenOf, outputAfter};
+ghost use Rattle.encoder.specs.BlockBump.{writing};
+ghost use Rattle.encoder.specs.Output.{writtenOf, outputAfter};
 ghost use Rattle.barrowtide.specs.Interface as I;
 
 // The number of an answer; what a refusal blames, or how many bytes were written, is written.
-fn tell(answer: Written, blame: &mut [u64; 3], written: &mut u64) -> u32
+pub(crate) fn tell(answer: Written, blame: &mut [u64; 3], written: &mut u64) -> u32
     ensures { λ r. ⌜ ((v : Result (List ℕ)) → answer ≡ writtenOf v →
         (r ≡ I.refusal v)
         × (now (blame .exit) ≡ I.blame v (now (blame .entry)))

@@ -1,10 +1,10 @@
 -- BUMPs from a block's ids (02, Item 1).
 use mathlib.Core.Path.{_≡_}
 use mathlib.Core.Bool.{Bool, true, false, _&&_, _||_, not}
-use mathlib.Core.List.{List, [], _∷_, _++_}
+use mathlib.Core.List.{List, [], _∷_}
 use mathlib.Core.Option.{Option, none, some}
 use Prim.Native.Nat.{ℕ, zero, suc, _+_, _-_, _^_, _/_, _%_, _≤_, _<_}
-use lib.ListN.{length, getD, drop}
+use lib.ListN.{length, getD}
 use lib.Dec.{ltb, leb, eqb}
 use Rattle.format.specs.declared.level.Leaf.{Leaf}
 use Rattle.format.specs.declared.path.Found.{Found}
@@ -13,13 +13,12 @@ use Rattle.format.specs.Parse.{pick, got}
 use Rattle.format.specs.Level.{holds}
 use Rattle.format.specs.Search.{lookup}
 use Rattle.format.specs.Bump.{Bump, bumpWhole}
-use Rattle.format.specs.Refusals.{OVER-LIMIT, NOT-LISTED, BAD-OFFSET, SAME-TX, NO-ROOM, MAX-BLOCK}
+use Rattle.format.specs.Refusals.{OVER-LIMIT, NOT-LISTED, BAD-OFFSET, SAME-TX, MAX-BLOCK}
 use Rattle.spv.specs.Climb.{siblingPosition}
 use Rattle.spv.specs.Result.{Result, accepted, refused, carrying, follow}
 use Rattle.spv.specs.Bundle.{hashesOf, among}
 use Rattle.format.specs.BumpBytes.{Carried, plain, copy, client, Entry, Content, bumpBytes, carriedOf}
-use Rattle.encoder.specs.declared.block.Written.{Written}
-use Rattle.encoder.specs.declared.block.Written.the-variants.{Bytes, Refused}
+use Rattle.encoder.specs.Output.{roomFor}
 use Rattle.encoder.specs.Tree.{size, node, height, treeClimb}
 
 -- ---- which leaves
@@ -96,10 +95,6 @@ climbsFrom ids chosen i (suc n) =
     pick (under chosen 0 i) (follow (treeClimb ids i) (λ _. climbsFrom ids chosen (i + 1) n))
     (climbsFrom ids chosen (i + 1) n)
 
--- 22 exactly when the bytes needed exceed the room lent
-unfoldable pub roomFor : ℕ → List ℕ → Result (List ℕ)
-roomFor room bytes = pick (leb (length bytes) room) (accepted bytes) (refused (carrying NO-ROOM 0))
-
 -- a block height, a list, chosen positions and the room lent: the bytes of a BUMP, or the first of the refusals in their order
 unfoldable pub writing : ℕ → List ℕ → List ℕ → ℕ → Result (List ℕ)
 writing block list chosen room =
@@ -108,16 +103,6 @@ writing block list chosen room =
     (pick (not (allBelow (length list / 32) chosen)) (refused (carrying BAD-OFFSET 0))
     (pick (not (distinct (hashesOf list))) (refused (carrying SAME-TX 0))
     (follow (climbsFrom (hashesOf list) chosen 0 (length list / 32)) (λ _. roomFor room (bumpBytes (blockBump block (hashesOf list) chosen)))))))
-
--- the answer: how many bytes were written, or the refusal
-unfoldable pub writtenOf : Result (List ℕ) → Written
-writtenOf (accepted bytes) = Bytes (length bytes)
-writtenOf (refused why) = Refused why
-
--- what the memory lent holds then: "each leaves the output as it was"; bytes past the written ones stay
-unfoldable pub outputAfter : Result (List ℕ) → List ℕ → List ℕ
-outputAfter (accepted bytes) out = bytes ++ drop (length bytes) out
-outputAfter (refused why) out = out
 
 -- ---- the rules that bytes meet
 

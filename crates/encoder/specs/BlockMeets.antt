@@ -48,7 +48,7 @@ rising-at f (suc n) o x a b = go (f o) refl (eqb o x) refl (λ k. rising-at f n 
         let d = eqb-false o x h in
         rw (rising-some f o n c e) (at-later (record { offset = o; carried = c }) (rising f (o + 1) n) x d ∙ r (omega arith))
 
-from-rises : (s : List ℕ) (m : ℕ) (l : List Leaf) → From m (map (entryOf s) l) → Rising l
+pub from-rises : (s : List ℕ) (m : ℕ) (l : List Leaf) → From m (map (entryOf s) l) → Rising l
 unfolding From Rising
 from-rises s m [] f = tt
 from-rises s m (a ∷ []) f = tt

@@ -51,7 +51,7 @@ sibling-positions-at (suc h) i (suc m) b = sibling-positions-at h (i / 2) m (ome
 
 -- ---- where an id is carried
 
-unfoldable carriesAs : List ℕ → Carried → Bool
+unfoldable pub carriesAs : List ℕ → Carried → Bool
 carriesAs id (plain h) = same h id
 carriesAs id copy = false
 carriesAs id (client h) = same h id
@@ -60,7 +60,7 @@ unfoldable carriesAny : List ℕ → Option Carried → Bool
 carriesAny id none = false
 carriesAny id (some c) = carriesAs id c
 
-unfoldable carriedIn : List ℕ → ℕ → List Entry → Bool
+unfoldable pub carriedIn : List ℕ → ℕ → List Entry → Bool
 carriedIn id o [] = false
 carriedIn id o (e ∷ l) = (eqb (e .offset) o && carriesAs id (e .carried)) || carriedIn id o l
 
@@ -70,7 +70,7 @@ kind-carries s id (Plain p) = refl
 kind-carries s id Copy = refl
 kind-carries s id (Client p) = refl
 
-carried-says : (s id : List ℕ) (o : ℕ) (l : List Leaf) → carriedAt s id o l ≡ carriedIn id o (map (entryOf s) l)
+pub carried-says : (s id : List ℕ) (o : ℕ) (l : List Leaf) → carriedAt s id o l ≡ carriedIn id o (map (entryOf s) l)
 unfolding carriedAt carriedIn
 carried-says s id o [] = refl
 carried-says s id o (leaf ∷ l) = ap₂ (λ (a b : Bool). (eqb (leaf .offset) o && a) || b) (kind-carries s id (leaf .kind)) (carried-says s id o l)

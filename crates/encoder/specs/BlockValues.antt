@@ -40,7 +40,7 @@ sibling-twice j = go (eqb (j % 2) 1) refl
     go false e = let o = eqb-false (j % 2) 1 e in rw (sibling-even j o, sibling-odd (j + 1) (omega arith)) (omega arith)
 
 -- a sibling lies in its level
-sibling-below : (j n : ℕ) → j < 2 ^ suc n → siblingPosition j < 2 ^ suc n
+pub sibling-below : (j n : ℕ) → j < 2 ^ suc n → siblingPosition j < 2 ^ suc n
 sibling-below j n b = go (eqb (j % 2) 1) refl
   where
     go : (t : Bool) → eqb (j % 2) 1 ≡ t → siblingPosition j < 2 ^ suc n
@@ -48,13 +48,13 @@ sibling-below j n b = go (eqb (j % 2) 1) refl
     go false e = rw (sibling-even j (eqb-false (j % 2) 1 e)) (let o = eqb-false (j % 2) 1 e in let p = pow-suc 2 n in omega arith)
 
 -- what a leaf asked for gives a climb
-unfoldable asSibling : Option Carried → Sibling
+unfoldable pub asSibling : Option Carried → Sibling
 asSibling none = absent
 asSibling (some (plain h)) = value h
 asSibling (some copy) = copied
 asSibling (some (client h)) = value h
 
-found-sibling : (s : List ℕ) (x : Found) → sibling s x ≡ asSibling (foundAs s x)
+pub found-sibling : (s : List ℕ) (x : Found) → sibling s x ≡ asSibling (foundAs s x)
 unfolding foundAs sibling written asSibling carriedOf
 found-sibling s (Here (Plain p)) = refl
 found-sibling s (Here Copy) = refl

@@ -2,15 +2,13 @@
 use mathlib.Core.Path.{_≡_, refl, sym, ap, _∙_}
 use mathlib.Core.Bool.{true, false}
 use mathlib.Core.List.{List, [], _∷_, _++_}
-use Prim.Native.Nat.{ℕ, zero, suc, _+_, _/_, _%_, _^_, _≤_, _<_, min}
-use lib.ListN.{length, drop, length-append}
-use lib.Seq.{take-all}
+use Prim.Native.Nat.{ℕ, zero, suc, _+_, _/_, _%_, _^_, _≤_, _<_}
+use lib.ListN.{length, length-append}
 use lib.Dec.{leb, eqb}
 use native.Mathlib.Omega.{arith}
 use borrow.Author.Tests.{le-leb, lt-leb, leb-true, eq-eqb, ne-eqb}
 use Rattle.format.specs.Basics.{and-true}
-use Rattle.format.specs.Buffer.{Buffer, buffer, putOn, writeOn, filled}
-use Rattle.format.specs.BufferLaws.{write-whole, write-cons, wrote-then}
+use Rattle.format.specs.Buffer.{Buffer, buffer, putOn, writeOn}
 use Rattle.format.specs.Digits.{varintBytes}
 use Rattle.format.specs.Spelling.{spells}
 use Rattle.format.specs.BumpBytes.{levelBytes, bumpBytes}
@@ -18,12 +16,13 @@ use Rattle.format.specs.Refusals.{OVER-LIMIT, NOT-LISTED, BAD-OFFSET, SAME-TX, 
 use Rattle.spv.specs.declared.rejection.Rejection.{Rejection}
 use Rattle.spv.specs.Result.{Result, accepted, refused, carrying}
 use Rattle.spv.specs.Bundle.{hashesOf}
-use Rattle.encoder.specs.declared.block.Written.{Written}
-use Rattle.encoder.specs.declared.block.Written.the-variants.{Bytes}
 use Rattle.encoder.specs.Tree.{heightFor}
 use Rattle.encoder.specs.TreeLaws.{height-holds, height-least}
 use Rattle.spv.specs.BundleHashes.{hashes-length}
-use Rattle.encoder.specs.BlockBump.{levelsFor, blockBump, sized, noneChosen, allBelow, distinct, climbsFrom, roomFor, writing, writtenOf, outputAfter}
+use Rattle.encoder.specs.BlockBump.{levelsFor, blockBump, sized, noneChosen, allBelow, distinct, climbsFrom, writing}
+use Rattle.encoder.specs.Output.{roomFor}
+use Rattle.encoder.specs.OutputLaws.{room-short, room-enough}
+use Rattle.encoder.specs.LeavesLaws.{wrote-hashed}
 
 -- ---- the sizes
 
@@ -89,28 +88,15 @@ module _ (block : ℕ) (list chosen : List ℕ) (room : ℕ) where
             in-room = rw (s, some-chosen chosen c, b, d, t)
 
             pub refuses-room : room < length (bumpBytes (blockBump block (hashesOf list) chosen)) → writing block list chosen room ≡ refused (carrying NO-ROOM 0)
-            unfolding roomFor
-            refuses-room h = in-room ∙ rw (lt-leb (length (bumpBytes (blockBump block (hashesOf list) chosen))) room h)
+            refuses-room h = in-room ∙ room-short room (bumpBytes (blockBump block (hashesOf list) chosen)) h
 
             pub writes-all : length (bumpBytes (blockBump block (hashesOf list) chosen)) ≤ room → writing block list chosen room ≡ accepted (bumpBytes (blockBump block (hashesOf list) chosen))
-            unfolding roomFor
-            writes-all h = in-room ∙ rw (le-leb (length (bumpBytes (blockBump block (hashesOf list) chosen))) room h)
+            writes-all h = in-room ∙ room-enough room (bumpBytes (blockBump block (hashesOf list) chosen)) h
 
--- ---- the answer and the output
-
--- nothing is written
-pub refused-so : (out : List ℕ) {w : Result (List ℕ)} {why x : Rejection} {r : Written} → w ≡ refused why → x ≡ why → r ≡ writtenOf (refused x) → (r ≡ writtenOf w) × (out ≡ outputAfter w out)
-unfolding outputAfter
-refused-so out e q f = rw e (f ∙ ap (λ (y : Rejection). writtenOf (refused y)) q, refl)
+-- ---- what is written
 
 -- the bytes of the BUMP, as the code counts and writes them
 module _ (block : ℕ) (list chosen : List ℕ) (h : ℕ) (least : h ≡ heightFor (length list / 32)) where
-  abbrev text : List ℕ
-  text = bumpBytes (blockBump block (hashesOf list) chosen)
-
-  abbrev levels : List ℕ
-  levels = spells levelBytes (levelsFor (hashesOf list) chosen h 0 h)
-
   text-is : bumpBytes (blockBump block (hashesOf list) chosen) ≡ varintBytes block ++ (h ∷ spells levelBytes (levelsFor (hashesOf list) chosen h 0 h))
   unfolding bumpBytes blockBump hashesOf
   text-is =
@@ -123,21 +109,9 @@ module _ (block : ℕ) (list chosen : List ℕ) (h : ℕ) (least : h ≡ heightF
       let i = ap length text-is in
       omega arith
 
-  module _ (out : List ℕ) (fits : length (bumpBytes (blockBump block (hashesOf list) chosen)) ≤ length out) where
-    pub wrote-all : {p q : Buffer} {out′ : List ℕ} {next : ℕ} → p ≡ writeOn (buffer out 0) (varintBytes block) → q ≡ putOn p h
-        → buffer out′ next ≡ writeOn q (spells levelBytes (levelsFor (hashesOf list) chosen h 0 h))
-        → (out′ ≡ bumpBytes (blockBump block (hashesOf list) chosen) ++ drop (length (bumpBytes (blockBump block (hashesOf list) chosen))) out) × (next ≡ length (bumpBytes (blockBump block (hashesOf list) chosen)))
-    wrote-all {p} {q} {out′} {next} e f g =
-        let all : buffer out′ next ≡ writeOn (buffer out 0) (bumpBytes (blockBump block (hashesOf list) chosen)) =
-        wrote-then (buffer out 0) (varintBytes block) (h ∷ levels) e (write-cons p h levels f g) ∙ ap (writeOn (buffer out 0)) (sym text-is) in
-        let end : buffer out′ next ≡ buffer (filled out text) (min (length out) (length text)) = all ∙ write-whole out text in
-        (ap (λ (x : Buffer). x .room) end ∙ ap (λ (x : List ℕ). x ++ drop (length text) out) (take-all (length out) text fits), ap (λ (x : Buffer). x .at) end ∙ omega arith)
-
-    pub written-so : {w : Result (List ℕ)} {out′ : List ℕ} {next : ℕ} {r : Written} → w ≡ accepted (bumpBytes (blockBump block (hashesOf list) chosen))
-        → (out′ ≡ bumpBytes (blockBump block (hashesOf list) chosen) ++ drop (length (bumpBytes (blockBump block (hashesOf list) chosen))) out) × (next ≡ length (bumpBytes (blockBump block (hashesOf list) chosen)))
-        → r ≡ Bytes next → (r ≡ writtenOf w) × (out′ ≡ outputAfter w out)
-    unfolding writtenOf outputAfter
-    written-so e f g = rw e (g ∙ ap Bytes (f .1), f .0)
+  pub wrote-all : (out : List ℕ) {p q : Buffer} {out′ : List ℕ} {next : ℕ} → p ≡ writeOn (buffer out 0) (varintBytes block) → q ≡ putOn p h
+      → buffer out′ next ≡ writeOn q (spells levelBytes (levelsFor (hashesOf list) chosen h 0 h)) → buffer out′ next ≡ writeOn (buffer out 0) (bumpBytes (blockBump block (hashesOf list) chosen))
+  wrote-all out e f g = wrote-hashed (buffer out 0) block h refl e f g ∙ ap (writeOn (buffer out 0)) (sym text-is)
 
 -- ---- what the code knows on its way
 

@@ -13,7 +13,8 @@ use Rattle.format.specs.Spelling.{spells}
 use Rattle.format.specs.Digits.{little, varintBytes}
 use Rattle.format.specs.BumpBytes.{Carried, plain, copy, client, Entry, carriedBytes, entryBytes, levelBytes, bumpBytes}
 use Rattle.encoder.specs.Tree.{above, layer, leastFrom, heightFor, treeSiblings, treeClimb}
-use Rattle.encoder.specs.BlockBump.{under, leftOut, siblingAt, asked, rising, levelsFor, blockBump, sized, noneChosen, allBelow, distinct, climbsFrom, roomFor, writing}
+use Rattle.encoder.specs.BlockBump.{under, leftOut, siblingAt, asked, rising, levelsFor, blockBump, sized, noneChosen, allBelow, distinct, climbsFrom, writing}
+use Rattle.encoder.specs.Output.{roomFor}
 
 abbrev aa : List ℕ
 aa = replicate 32 0xaa

@@ -24,7 +24,7 @@ use Rattle.encoder.specs.Leaves.{passedAt, formAt, leafCount, leafBytes,
 
 -- ---- for the functions' proofs
 
--- an offset, flags and a hash, one after the other
+-- a number, a byte and a text, one after the other
 pub wrote-hashed : (p : Buffer) (o b : ℕ) {hash node : List ℕ} {q r t : Buffer} → hash ≡ node → q ≡ writeOn p (varintBytes o) → r ≡ putOn q b → t ≡ writeOn r hash → t ≡ writeOn p (varintBytes o ++ (b ∷ node))
 wrote-hashed p o b {hash} i e f g = wrote-then p (varintBytes o) (b ∷ hash) e (write-cons _ b hash f g) ∙ ap (λ (x : List ℕ). writeOn p (varintBytes o ++ (b ∷ x))) i
 

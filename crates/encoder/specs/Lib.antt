@@ -1,4 +1,6 @@
 pub mod Tree
+pub mod Output
+pub mod OutputLaws
 pub mod BlockBump
 pub mod TreeLaws
 pub mod TreeClimb
@@ -20,4 +22,12 @@ pub mod Leaves
 pub mod LeavesLaws
 pub mod LevelLaws
 pub mod CallLaws
+pub mod Convert
+pub mod ConvertText
+pub mod Taken
+pub mod ToTscLaws
+pub mod ConvertLaws
+pub mod ToTsc
+pub mod ToBumpLaws
+pub mod ToBump
 pub mod Examples

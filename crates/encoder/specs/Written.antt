@@ -20,7 +20,8 @@ use Rattle.spv.specs.Readings.{bumpReading}
 use Rattle.format.specs.Spelling.{AllBytes}
 use Rattle.format.specs.BumpBytes.{bumpBytes}
 use Rattle.encoder.specs.Tree.{node, height, root, treeSiblings, treeClimb, reaches}
-use Rattle.encoder.specs.BlockBump.{blockBump, sized, noneChosen, allBelow, distinct, climbsFrom, roomFor, writing, Meets}
+use Rattle.encoder.specs.BlockBump.{blockBump, sized, noneChosen, allBelow, distinct, climbsFrom, writing, Meets}
+use Rattle.encoder.specs.Output.{roomFor}
 use Rattle.encoder.specs.ClimbsLaws.{climbs-reach}
 use Rattle.spv.specs.BundleHashes.{hashes-length}
 use Rattle.encoder.specs.IdsLaws.{ids-hashes}

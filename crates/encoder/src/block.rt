@@ -24,7 +24,8 @@ ghost use Prim.Native.Nat.{_/_};
 ghost use lib.ListN.{length};
 ghost use Rattle.spv.specs.Result.{refused};
 ghost use Rattle.spv.specs.Bundle.{hashesOf};
-ghost use Rattle.encoder.specs.BlockBump.{allBelow, distinct, outputAfter, sized, writing, writtenOf};
+ghost use Rattle.encoder.specs.BlockBump.{allBelow, distinct, sized, writing};
+ghost use Rattle.encoder.specs.Output.{outputAfter, writtenOf};
 
 // The most ids that a list has.
 const MAX_IDS: usize = 1024;
@@ -35,7 +36,7 @@ pub enum Written {
     Refused(Rejection),
 }
 
-fn refuse(rejection: Rejection) -> Written
+pub(crate) fn refuse(rejection: Rejection) -> Written
     ensures { λ r. ⌜ r ≡ writtenOf (refused rejection) ⌝ }
 {
     Written::Refused(rejection)

@@ -47,6 +47,7 @@ pub use level::Layout;
 pub use level::Leaf;
 pub use level::LeafAnswer;
 pub use level::leaf_at;
+pub use node::read_node;
 pub use path::Form;
 pub use path::Found;
 pub use path::LAYERS;

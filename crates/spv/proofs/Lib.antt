@@ -1,4 +1,5 @@
 pub mod Turns
+pub mod Traces
 pub mod Pairs
 pub mod Filled
 mod Local

@@ -37,7 +37,7 @@ worked-keeps w k q n = go (w k q) refl
 -- a climb that stops for want of a sibling
 unfoldable pub misses : Ascent → Bool
 misses top = false
-misses (up t a) = misses a
+misses (up p t a) = misses a
 misses (stop why) = eqb (why .number) MISSING
 
 -- a verdict other than 14
@@ -54,19 +54,19 @@ ascend-keeps w k (suc n) j c h =
     Above : Type 0
     Above = (d : List ℕ) → misses (ascend w (suc k) n (j / 2) d) ≡ false → ascend (workedOut w) (suc k) n (j / 2) d ≡ ascend w (suc k) n (j / 2) d
 
-    go : (s : Step) → misses (ascended w k n j s) ≡ false → Above → ascended (workedOut w) k n j s ≡ ascended w k n j s
-    go (joins a b) e f = ap (up (a ++ b)) (f (sha256d (a ++ b)) e)
-    go (fails number) e f = refl
+    go : (p : Sibling) (s : Step) → misses (ascended w k n j p s) ≡ false → Above → ascended (workedOut w) k n j p s ≡ ascended w k n j p s
+    go p (joins a b) e f = ap (up p (a ++ b)) (f (sha256d (a ++ b)) e)
+    go p (fails number) e f = refl
 
     -- a sibling that is written
-    here : (x : Sibling) → w k (siblingPosition j) ≡ x → (x ≡ absent → ⊥) → misses (ascended w k n j (step x (odd j) c)) ≡ false → Above
-        → ascended (workedOut w) k n j (step (workedOut w k (siblingPosition j)) (odd j) c) ≡ ascended w k n j (step (w k (siblingPosition j)) (odd j) c)
+    here : (x : Sibling) → w k (siblingPosition j) ≡ x → (x ≡ absent → ⊥) → misses (ascended w k n j x (step x (odd j) c)) ≡ false → Above
+        → ascended (workedOut w) k n j (workedOut w k (siblingPosition j)) (step (workedOut w k (siblingPosition j)) (odd j) c) ≡ ascended w k n j (w k (siblingPosition j)) (step (w k (siblingPosition j)) (odd j) c)
     here x e ne f r =
-        ap (λ (y : Sibling). ascended (workedOut w) k n j (step y (odd j) c)) (worked-keeps w k (siblingPosition j) (λ z. ne (sym e ∙ z)))
-        ∙ go (step (w k (siblingPosition j)) (odd j) c) (ap (λ (y : Sibling). misses (ascended w k n j (step y (odd j) c))) e ∙ f) r
+        ap (λ (y : Sibling). ascended (workedOut w) k n j y (step y (odd j) c)) (worked-keeps w k (siblingPosition j) (λ z. ne (sym e ∙ z)))
+        ∙ go (w k (siblingPosition j)) (step (w k (siblingPosition j)) (odd j) c) (ap (λ (y : Sibling). misses (ascended w k n j y (step y (odd j) c))) e ∙ f) r
 
-    there : (x : Sibling) → w k (siblingPosition j) ≡ x → misses (ascended w k n j (step x (odd j) c)) ≡ false → Above
-        → ascended (workedOut w) k n j (step (workedOut w k (siblingPosition j)) (odd j) c) ≡ ascended w k n j (step (w k (siblingPosition j)) (odd j) c)
+    there : (x : Sibling) → w k (siblingPosition j) ≡ x → misses (ascended w k n j x (step x (odd j) c)) ≡ false → Above
+        → ascended (workedOut w) k n j (workedOut w k (siblingPosition j)) (step (workedOut w k (siblingPosition j)) (odd j) c) ≡ ascended w k n j (w k (siblingPosition j)) (step (w k (siblingPosition j)) (odd j) c)
     there (value p) e f r = here (value p) e (λ z. let y : _≡_ {A = ℕ} 0 1 = cc in omega arith) f r
     there copied e f r = here copied e (λ z. let y : _≡_ {A = ℕ} 0 1 = cc in omega arith) f r
     there absent e f r = let z : _≡_ {A = ℕ} 0 1 = cc in absurd (omega arith)
@@ -74,7 +74,7 @@ ascend-keeps w k (suc n) j c h =
 not-missing : (c : List ℕ) (a : Ascent) (f : List ℕ → Proof) → NotMissing (settle any f (endOf c a)) → misses a ≡ false
 unfolding misses endBy settle NotMissing
 not-missing c top f h = refl
-not-missing c (up t a) f h = not-missing (sha256d t) a f h
+not-missing c (up p t a) f h = not-missing (sha256d t) a f h
 not-missing c (stop why) f h = ne-eqb (why .number) MISSING h
 
 -- an id by what is written alone, as it was before

@@ -57,11 +57,11 @@ module _ (w v : Siblings) where
   climb-agree k (suc n) j c h =
       let p = same-parts w v (valueAsks w k (siblingPosition j)) _ h in
       let e = value-agree k (siblingPosition j) copied (join-agree k (siblingPosition j)) (p .0) in
-      go (step (workedOut w k (siblingPosition j)) (odd j) c) (p .1) (λ d x. climb-agree (suc k) n (j / 2) d x)
-      ∙ ap (λ (x : Sibling). ascended (workedOut v) k n j (step x (odd j) c)) e
+      go (workedOut w k (siblingPosition j)) (step (workedOut w k (siblingPosition j)) (odd j) c) (p .1) (λ d x. climb-agree (suc k) n (j / 2) d x)
+      ∙ ap (λ (x : Sibling). ascended (workedOut v) k n j x (step x (odd j) c)) e
     where
-      go : (s : Step) → SameAt w v (elim s [ joins a b ↦ climbAsks w (suc k) n (j / 2) (sha256d (a ++ b)) | fails number ↦ [] ])
+      go : (y : Sibling) (s : Step) → SameAt w v (elim s [ joins a b ↦ climbAsks w (suc k) n (j / 2) (sha256d (a ++ b)) | fails number ↦ [] ])
           → ((d : List ℕ) → SameAt w v (climbAsks w (suc k) n (j / 2) d) → ascend (workedOut w) (suc k) n (j / 2) d ≡ ascend (workedOut v) (suc k) n (j / 2) d)
-          → ascended (workedOut w) k n j s ≡ ascended (workedOut v) k n j s
-      go (joins a b) x f = ap (up (a ++ b)) (f (sha256d (a ++ b)) x)
-      go (fails number) x f = refl
+          → ascended (workedOut w) k n j y s ≡ ascended (workedOut v) k n j y s
+      go y (joins a b) x f = ap (up y (a ++ b)) (f (sha256d (a ++ b)) x)
+      go y (fails number) x f = refl

@@ -48,10 +48,10 @@ step (value p) o c = joined o c p
 step copied o c = joined o c c
 step absent o c = fails MISSING
 
--- a climb: the strings hashed, layer by layer, up to the root or to a refusal with its layer and the sibling's position there
+-- a climb: the sibling taken and the string hashed, layer by layer, up to the root or to a refusal with its layer and the sibling's position there
 pub data Ascent : Type 0 where
   top : Ascent
-  up : List ℕ → Ascent → Ascent
+  up : Sibling → List ℕ → Ascent → Ascent
   stop : Rejection → Ascent
 
 -- the climb by any hash: from c at position j of layer k, over n layers
@@ -59,19 +59,25 @@ unfoldable pub ascendBy : (List ℕ → List ℕ) → Siblings → ℕ → ℕ �
 ascendBy hash σ k zero j c = top
 ascendBy hash σ k (suc n) j c =
     elim (step (σ k (siblingPosition j)) (odd j) c)
-    [ joins a b ↦ up (a ++ b) (ascendBy hash σ (suc k) n (j / 2) (hash (a ++ b))) | fails number ↦ stop (atSibling number k (siblingPosition j)) ]
+    [ joins a b ↦ up (σ k (siblingPosition j)) (a ++ b) (ascendBy hash σ (suc k) n (j / 2) (hash (a ++ b))) | fails number ↦ stop (atSibling number k (siblingPosition j)) ]
 
 -- what a climb from c comes to: the root
 unfoldable pub endBy : (List ℕ → List ℕ) → List ℕ → Ascent → Result (List ℕ)
 endBy hash c top = accepted c
-endBy hash c (up t a) = endBy hash (hash t) a
+endBy hash c (up p t a) = endBy hash (hash t) a
 endBy hash c (stop x) = refused x
 
 -- the strings hashed, from the lowest layer
 unfoldable pub preimagesOf : Ascent → List (List ℕ)
 preimagesOf top = []
-preimagesOf (up t a) = t ∷ preimagesOf a
+preimagesOf (up p t a) = t ∷ preimagesOf a
 preimagesOf (stop x) = []
+
+-- the siblings taken, from the lowest layer
+unfoldable pub siblingsOf : Ascent → List Sibling
+siblingsOf top = []
+siblingsOf (up p t a) = p ∷ siblingsOf a
+siblingsOf (stop x) = []
 
 -- "Hash" is double SHA-256
 abbrev pub ascend : Siblings → ℕ → ℕ → ℕ → List ℕ → Ascent

@@ -41,7 +41,7 @@ sibling-even j e = rw (ne-eqb (j % 2) 1 e)
 -- ---- the climb
 
 module _ (σ : Siblings) (k n j : ℕ) (c : List ℕ) where
-  pub ascend-joins : (a b : List ℕ) → step (σ k (siblingPosition j)) (odd j) c ≡ joins a b → ascend σ k (suc n) j c ≡ up (a ++ b) (ascend σ (suc k) n (j / 2) (sha256d (a ++ b)))
+  pub ascend-joins : (a b : List ℕ) → step (σ k (siblingPosition j)) (odd j) c ≡ joins a b → ascend σ k (suc n) j c ≡ up (σ k (siblingPosition j)) (a ++ b) (ascend σ (suc k) n (j / 2) (sha256d (a ++ b)))
   unfolding ascendBy
   ascend-joins a b e = rw (ascendBy, e)
 
@@ -49,15 +49,16 @@ module _ (σ : Siblings) (k n j : ℕ) (c : List ℕ) where
   unfolding ascendBy
   ascend-fails number e = rw (ascendBy, e)
 
-abbrev pub ascendedBy : (List ℕ → List ℕ) → Siblings → ℕ → ℕ → ℕ → Step → Ascent
-ascendedBy hash σ k n j s = elim s [ joins a b ↦ up (a ++ b) (ascendBy hash σ (suc k) n (j / 2) (hash (a ++ b))) | fails number ↦ stop (atSibling number k (siblingPosition j)) ]
+-- what follows a layer whose sibling is p
+abbrev pub ascendedBy : (List ℕ → List ℕ) → Siblings → ℕ → ℕ → ℕ → Sibling → Step → Ascent
+ascendedBy hash σ k n j p s = elim s [ joins a b ↦ up p (a ++ b) (ascendBy hash σ (suc k) n (j / 2) (hash (a ++ b))) | fails number ↦ stop (atSibling number k (siblingPosition j)) ]
 
-abbrev pub ascended : Siblings → ℕ → ℕ → ℕ → Step → Ascent
+abbrev pub ascended : Siblings → ℕ → ℕ → ℕ → Sibling → Step → Ascent
 ascended = ascendedBy sha256d
 
 -- one turn of a loop that climbs: m layers are done of h, and the layer is k
 module _ (σ : Siblings) (k m h j : ℕ) (c : List ℕ) (b : m < h) where
-  pub turn-joins : (l r : List ℕ) → step (σ k (siblingPosition j)) (odd j) c ≡ joins l r → ascend σ k (h - m) j c ≡ up (l ++ r) (ascend σ (k + 1) (h - (m + 1)) (j / 2) (sha256d (l ++ r)))
+  pub turn-joins : (l r : List ℕ) → step (σ k (siblingPosition j)) (odd j) c ≡ joins l r → ascend σ k (h - m) j c ≡ up (σ k (siblingPosition j)) (l ++ r) (ascend σ (k + 1) (h - (m + 1)) (j / 2) (sha256d (l ++ r)))
   turn-joins l r e = rw (one-less h m b, add-one k) (ascend-joins σ k (h - (m + 1)) j c l r e)
 
   pub turn-fails : (number : ℕ) → step (σ k (siblingPosition j)) (odd j) c ≡ fails number → ascend σ k (h - m) j c ≡ stop (atSibling number k (siblingPosition j))
@@ -74,14 +75,14 @@ unfolding ascendBy siblingPositions
 ascend-agree σ τ k zero j c f = refl
 ascend-agree σ τ k (suc n) j c f =
     let e : σ k (siblingPosition j) ≡ τ k (siblingPosition j) = rw add-zero at (f 0 (zero-lt-suc n)) in
-    ap (λ (x : Sibling). ascended σ k n j (step x (odd j) c)) e
+    ap (λ (x : Sibling). ascended σ k n j x (step x (odd j) c)) e
     ∙ (go (step (τ k (siblingPosition j)) (odd j) c) (λ d. ascend-agree σ τ (suc k) n (j / 2) d above))
   where
     above : (m : ℕ) → m < n → σ (suc k + m) (getD (siblingPositions (j / 2) n) m 0) ≡ τ (suc k + m) (getD (siblingPositions (j / 2) n) m 0)
     above m h = let e : k + suc m ≡ suc k + m = omega arith in rw e at (f (suc m) (suc-le-suc h))
 
-    go : (s : Step) → ((d : List ℕ) → ascend σ (suc k) n (j / 2) d ≡ ascend τ (suc k) n (j / 2) d) → ascended σ k n j s ≡ ascended τ k n j s
-    go (joins a b) r = ap (up (a ++ b)) (r (sha256d (a ++ b)))
+    go : (s : Step) → ((d : List ℕ) → ascend σ (suc k) n (j / 2) d ≡ ascend τ (suc k) n (j / 2) d) → ascended σ k n j (τ k (siblingPosition j)) s ≡ ascended τ k n j (τ k (siblingPosition j)) s
+    go (joins a b) r = ap (up (τ k (siblingPosition j)) (a ++ b)) (r (sha256d (a ++ b)))
     go (fails number) r = refl
 
 -- forms that agree below h layers

@@ -198,9 +198,9 @@ module _ (hash : List ℕ → List ℕ) (wide : (t : List ℕ) → length (hash 
   ascend-linked σ w k (suc n) j c r lc e =
       go (step (σ k (siblingPosition j)) (odd j) c) refl e (λ d x. ascend-linked σ w (suc k) n (j / 2) (hash d) r (wide d) x)
     where
-      go : (s : Step) → step (σ k (siblingPosition j)) (odd j) c ≡ s → endBy hash c (ascendedBy hash σ k n j s) ≡ accepted r
+      go : (s : Step) → step (σ k (siblingPosition j)) (odd j) c ≡ s → endBy hash c (ascendedBy hash σ k n j (σ k (siblingPosition j)) s) ≡ accepted r
           → ((d : List ℕ) → endBy hash (hash d) (ascendBy hash σ (suc k) n (j / 2) (hash d)) ≡ accepted r → Climbed hash n (j / 2) (hash d) (ascendBy hash σ (suc k) n (j / 2) (hash d)) r)
-          → Climbed hash (suc n) j c (ascendedBy hash σ k n j s) r
+          → Climbed hash (suc n) j c (ascendedBy hash σ k n j (σ k (siblingPosition j)) s) r
       go (joins a b) q x ih =
           let st = step-stands (σ k (siblingPosition j)) (odd j) c a b (w k (siblingPosition j)) lc q in
           let l = ih (a ++ b) x in

@@ -11,7 +11,7 @@ use Rattle.format.specs.Parse.{pick}
 use Rattle.format.specs.Refusals.{ROOTS-DIFFER, UNLIKE, SAME-ID}
 use Rattle.spv.specs.declared.rejection.Rejection.{Rejection}
 use Rattle.spv.specs.Result.{Result, accepted, refused, carrying}
-use Rattle.spv.specs.Climb.{Siblings, ascendBy, endBy, preimagesOf}
+use Rattle.spv.specs.Climb.{Sibling, Siblings, ascendBy, endBy, preimagesOf, siblingsOf}
 
 -- what the root must be besides: a TSC proof's root or header target
 pub data Target : Type 0 where
@@ -28,13 +28,14 @@ pub data Reading : Type 0 where
   unread : Rejection → Reading
   read : Siblings → ℕ → ℕ → List ℕ → Target → Reading
 
--- an accepted proof: what it proves, and the strings that its climb hashed
+-- an accepted proof: what it proves, and of its climb the strings hashed and the siblings taken
 pub record Proof : Type 0 where
   pub id : List ℕ
   pub position : ℕ
   pub layers : ℕ
   pub root : List ℕ
   pub preimages : List (List ℕ)
+  pub siblings : List Sibling
 
 unfoldable pub hits : Target → List ℕ → Bool
 hits any r = true
@@ -47,7 +48,7 @@ settle w accept (accepted r) = pick (hits w r) (accepted (accept r)) (refused (c
 
 -- the proof of c at position i over h layers, with its root
 abbrev pub proofBy : (List ℕ → List ℕ) → Siblings → ℕ → ℕ → List ℕ → List ℕ → Proof
-proofBy hash σ h i c r = record { id = c; position = i; layers = h; root = r; preimages = preimagesOf (ascendBy hash σ 0 h i c) }
+proofBy hash σ h i c r = record { id = c; position = i; layers = h; root = r; preimages = preimagesOf (ascendBy hash σ 0 h i c); siblings = siblingsOf (ascendBy hash σ 0 h i c) }
 
 -- accepted when neither its reading nor its climb is refused, 16 included
 unfoldable pub proveBy : (List ℕ → List ℕ) → Reading → Result Proof

@@ -14,7 +14,7 @@ use Rattle.format.specs.Parse.{pick}
 use Rattle.format.specs.Refusals.{ROOTS-DIFFER, UNLIKE, SAME-ID}
 use Rattle.spv.specs.declared.rejection.Rejection.{Rejection}
 use Rattle.spv.specs.Result.{Result, accepted, refused, carrying}
-use Rattle.spv.specs.Climb.{Siblings, Ascent, ascendBy, ascend, endBy, endOf, preimagesOf}
+use Rattle.spv.specs.Climb.{Siblings, Ascent, ascendBy, ascend, endBy, endOf, preimagesOf, siblingsOf}
 use Rattle.spv.specs.Compare.{Target, Proof, hits, settle, proofBy, proveBy, meetBy, stringsOf, alike, againstBy, compareBy, proofOf, prove, meet, against, compare, read, at, never}
 
 -- ---- where two climbs meet
@@ -56,7 +56,7 @@ module _ (σ : Siblings) (h i : ℕ) (c : List ℕ) (w : Target) where
 -- a proof is judged by its climb
 pub prove-climb : (σ τ : Siblings) (h i : ℕ) (c : List ℕ) (w : Target) → ascend σ 0 h i c ≡ ascend τ 0 h i c → prove (read σ h i c w) ≡ prove (read τ h i c w)
 unfolding proveBy
-prove-climb σ τ h i c w e = ap (λ (a : Ascent). settle w (λ r. record { id = c; position = i; layers = h; root = r; preimages = preimagesOf a }) (endOf c a)) e
+prove-climb σ τ h i c w e = ap (λ (a : Ascent). settle w (λ r. record { id = c; position = i; layers = h; root = r; preimages = preimagesOf a; siblings = siblingsOf a }) (endOf c a)) e
 
 -- what an accepted proof is
 pub prove-accepted-by : (hash : List ℕ → List ℕ) (σ : Siblings) (h i : ℕ) (c : List ℕ) (w : Target) (x : Proof) → proveBy hash (read σ h i c w) ≡ accepted x

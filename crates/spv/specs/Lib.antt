@@ -18,6 +18,8 @@ pub mod Joins
 pub mod JoinsLaws
 pub mod Shapes
 pub mod ShapesLaws
+pub mod Trace
+pub mod TraceLaws
 pub mod Readings
 pub mod ReadingsLaws
 pub mod Clients

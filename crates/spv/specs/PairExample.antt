@@ -14,7 +14,7 @@ use Rattle.format.specs.Bump.{blockField, heightField, bumpField}
 use Rattle.format.specs.Cmp.{topField, cmpField}
 use Rattle.format.specs.Search.{hashAt, carries, lesser, lookup, leastOffset}
 use Rattle.spv.specs.Result.{accepted}
-use Rattle.spv.specs.Climb.{siblingPosition, joined, step, ascendBy, endBy, preimagesOf}
+use Rattle.spv.specs.Climb.{value, siblingPosition, joined, step, ascendBy, endBy, preimagesOf, siblingsOf}
 use Rattle.spv.specs.Compare.{Proof, hits, settle, proveBy, meetBy, stringsOf, alike, againstBy, compareBy, pair}
 use Rattle.spv.specs.Collide.{CollidedBy}
 use Rattle.spv.specs.Siblings.{written, sibling, levelSiblings}
@@ -42,14 +42,14 @@ cmp = 0x01 ∷ 0x01 ∷ 0x00 ∷ (hashOf 4 ++ (0x02 ∷ 0x02 ∷ (hashOf 2 ++ (0
 
 -- what each proves: one root, position and number of layers, and different ids
 abbrev pub proofFrom : ℕ → Proof
-proofFrom n = record { id = hashOf n; position = 2; layers = 2; root = hashOf 4; preimages = (hashOf n ++ hashOf 3) ∷ (hashOf 4 ++ hashOf n) ∷ [] }
+proofFrom n = record { id = hashOf n; position = 2; layers = 2; root = hashOf 4; preimages = (hashOf n ++ hashOf 3) ∷ (hashOf 4 ++ hashOf n) ∷ []; siblings = value (hashOf 3) ∷ value (hashOf 4) ∷ [] }
 
 pub bump-accepted : proveBy firstHalf (reading Form.Bump bump (hashOf 1)) ≡ accepted (proofFrom 1)
-unfolding varint byte bytes many each holds offsetField flagField kindField carriedField leafField levelField levelOfTurn blockField heightField bumpField whole leastOffset lesser carries hashAt same lookup written sibling levelSiblings workedOut valueOf valueBy siblingPosition joined step ascendBy endBy preimagesOf hits settle proveBy starting levelsReading bumpReading reading
+unfolding varint byte bytes many each holds offsetField flagField kindField carriedField leafField levelField levelOfTurn blockField heightField bumpField whole leastOffset lesser carries hashAt same lookup written sibling levelSiblings workedOut valueOf valueBy siblingPosition joined step ascendBy endBy preimagesOf siblingsOf hits settle proveBy starting levelsReading bumpReading reading
 bump-accepted = refl
 
 pub cmp-accepted : proveBy firstHalf (reading Form.Cmp cmp (hashOf 2)) ≡ accepted (proofFrom 2)
-unfolding varint byte bytes many each holds offsetField flagField kindField carriedField leafField levelField levelOfTurn topField cmpField whole leastOffset lesser carries hashAt same lookup written sibling levelSiblings workedOut valueOf valueBy siblingPosition joined step ascendBy endBy preimagesOf hits settle proveBy starting levelsReading cmpReading reading
+unfolding varint byte bytes many each holds offsetField flagField kindField carriedField leafField levelField levelOfTurn topField cmpField whole leastOffset lesser carries hashAt same lookup written sibling levelSiblings workedOut valueOf valueBy siblingPosition joined step ascendBy endBy preimagesOf siblingsOf hits settle proveBy starting levelsReading cmpReading reading
 cmp-accepted = refl
 
 ids-differ : hashOf 1 ≡ hashOf 2 → ⊥

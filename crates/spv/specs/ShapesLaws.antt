@@ -156,6 +156,11 @@ module _ (r : Proved) where
   told-accepted (refused why) i h e f = let z : _≡_ {A = ℕ} 0 1 = cc in absurd (omega arith)
   told-accepted (accepted p) i h e f = (p, refl, cc, cc, cc, cc)
 
+  pub told-unproved : (v : Result Proof) (f : Rejection) → r ≡ provedOf v → r .outcome ≡ Refused f → v ≡ refused f
+  unfolding provedOf acceptedOf
+  told-unproved (refused why) f e g = cc
+  told-unproved (accepted p) f e g = let z : _≡_ {A = ℕ} 0 1 = cc in absurd (omega arith)
+
   pub told-refused : (v w : Result Proof) (f : Rejection) → r ≡ provedOf v → r .outcome ≡ Refused f → refusedPair f ≡ comparedOf (compare v w)
   unfolding provedOf acceptedOf comparedOf compareBy
   told-refused (refused why) w f e g = let y : f ≡ why = cc in ap refusedPair y

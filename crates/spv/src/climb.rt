@@ -83,7 +83,7 @@ fn written_node(s: &[u8], kind: Kind) -> Node
 }
 
 // What a path has at a layer and position, or what can be worked out.
-fn sibling_at(s: &[u8], path: Path, layer: usize, position: u64) -> Node
+pub(crate) fn sibling_at(s: &[u8], path: Path, layer: usize, position: u64) -> Node
     requires { ⌜ (layer < 64 → Low layer position) ⌝ }
     ensures { λ r. ⌜ siblingOf r ≡ pathSiblings (now (s .entry)) path layer position ⌝ }
 {
@@ -125,7 +125,7 @@ fn placed(odd: bool, c: [u8; 32], p: [u8; 32]) -> Joined
     }
 }
 
-fn fold(node: Node, odd: bool, c: [u8; 32]) -> Joined
+pub(crate) fn fold(node: Node, odd: bool, c: [u8; 32]) -> Joined
     ensures { λ r. ⌜ r ≡ joinedOf (step (siblingOf node) odd c) ⌝ }
 {
     let kind = node.kind;

@@ -8,6 +8,7 @@ mod marks;
 mod prove;
 mod rejection;
 mod table;
+mod trace;
 mod values;
 
 pub use bundle::Verdict;
@@ -32,3 +33,5 @@ pub use table::Row;
 pub use table::blank;
 pub use table::judge_beef;
 pub use table::judge_row;
+pub use trace::Traced;
+pub use trace::trace_bump;

@@ -47,7 +47,7 @@ pub struct Proved {
     pub root: [u8; 32],
 }
 
-fn refused_proof(rejection: Rejection) -> Proved
+pub(crate) fn refused_proof(rejection: Rejection) -> Proved
     ensures { λ r. ⌜ r ≡ provedOf (refused rejection) ⌝ }
 {
     Proved {
@@ -57,7 +57,7 @@ fn refused_proof(rejection: Rejection) -> Proved
     }
 }
 
-fn hits_target(bound: bool, target: [u8; 32], root: [u8; 32]) -> bool
+pub(crate) fn hits_target(bound: bool, target: [u8; 32], root: [u8; 32]) -> bool
     ensures { λ r. ⌜ r ≡ hits (targetOf bound target) root ⌝ }
 {
     if bound {
@@ -66,7 +66,7 @@ fn hits_target(bound: bool, target: [u8; 32], root: [u8; 32]) -> bool
     true
 }
 
-fn accepted(position: u64, layers: usize, id: [u8; 32], root: [u8; 32]) -> Proved
+pub(crate) fn accepted(position: u64, layers: usize, id: [u8; 32], root: [u8; 32]) -> Proved
     ensures { λ r. ⌜ r ≡ acceptedOf position layers id root ⌝ }
 {
     Proved {
@@ -144,7 +144,7 @@ fn claim_in(s: &[u8], path: Path, id: [u8; 32]) -> Claim
     }
 }
 
-fn claim_bump(s: &[u8], id: [u8; 32]) -> Claim
+pub(crate) fn claim_bump(s: &[u8], id: [u8; 32]) -> Claim
     ensures { λ r. ⌜ prove (claimed (now (s .entry)) r) ≡ prove (bumpReading (now (s .entry)) id) ⌝ }
 {
     let answer = format::read_bump(s);

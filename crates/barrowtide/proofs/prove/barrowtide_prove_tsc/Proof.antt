@@ -2,7 +2,7 @@ use borrow.Author.Needs.{needs}
 use mathlib.Core.Path.{sym, _∙_}
 use Rattle.barrowtide.specs.InterfaceLaws.{refused-number, refused-blame, refused-taken, given-number, given-blame, given-taken}
 use Rattle.spv.specs.ShapesLaws.{told-accepted}
-use Rattle.barrowtide.specs.AnswersLaws.{proved-refused}
+use Rattle.spv.specs.ShapesLaws.{told-unproved}
 use Rattle.barrowtide.proofs.prove.barrowtide_prove_tsc.Statement.{statement}
 use Rattle.barrowtide.proofs.prove.barrowtide_prove_tsc.Tie as tie
 use Rattle.barrowtide.proofs.prove.barrowtide_prove_tsc.Reads as reads
@@ -26,7 +26,7 @@ enum-known-outcome-2 c = search needs
 
 returns : tie.Need-returns
 returns c =
-    let e = proved-refused _ _ _ (c .before .before .before .before .before .before .before .prove-tsc .ensures) (c .before .before .before .outcome .given .1) in
+    let e = told-unproved _ _ _ (c .before .before .before .before .before .before .before .prove-tsc .ensures) (c .before .before .before .outcome .given .1) in
     (refused-number _ e, c .before .blame-of .ensures ∙ refused-blame _ _ e, refused-taken _ _ _ e, refused-taken _ _ _ e, refused-taken _ _ _ e, refused-taken _ _ _ e)
 
 returns-2 : tie.Need-returns-2

@@ -2,7 +2,7 @@ use borrow.Author.Needs.{needs}
 use mathlib.Core.Path.{sym, _∙_}
 use Rattle.spv.specs.ShapesLaws.{told-accepted}
 use Rattle.barrowtide.specs.InterfaceLaws.{refused-number, refused-blame, refused-taken, given-number, given-blame, given-taken}
-use Rattle.barrowtide.specs.AnswersLaws.{proved-refused}
+use Rattle.spv.specs.ShapesLaws.{told-unproved}
 use Rattle.barrowtide.proofs.prove.give.Statement.{statement}
 use Rattle.barrowtide.proofs.prove.give.Tie as tie
 
@@ -20,7 +20,7 @@ enum-known-outcome-2 c = search needs
 
 returns : tie.Need-returns
 returns c = λ v h.
-    let e = proved-refused _ v _ h (c .before .before .before .outcome .given .1) in
+    let e = told-unproved _ v _ h (c .before .before .before .outcome .given .1) in
     (refused-number v e, c .before .blame-of .ensures ∙ refused-blame v _ e, refused-taken v _ _ e, refused-taken v _ _ e, refused-taken v _ _ e)
 
 returns-2 : tie.Need-returns-2

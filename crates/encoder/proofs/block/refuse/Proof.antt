@@ -1,5 +1,5 @@
 use mathlib.Core.Path.{refl}
-use Rattle.encoder.specs.BlockBump.{writtenOf}
+use Rattle.encoder.specs.Output.{writtenOf}
 use Rattle.encoder.proofs.block.refuse.Statement.{statement}
 use Rattle.encoder.proofs.block.refuse.Tie as tie
 

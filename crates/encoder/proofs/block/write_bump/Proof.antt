@@ -1,6 +1,7 @@
 use mathlib.Core.Path.{sym, _∙_}
 use borrow.Author.Tests.{not-true, not-false}
-use Rattle.encoder.specs.CallLaws.{refuses-size, refuses-none, refuses-outside, refuses-equal, refused-so}
+use Rattle.encoder.specs.CallLaws.{refuses-size, refuses-none, refuses-outside, refuses-equal}
+use Rattle.encoder.specs.OutputLaws.{refused-so}
 use borrow.Author.Needs.{needs}
 use Rattle.encoder.proofs.block.write_bump.Statement.{statement}
 use Rattle.encoder.proofs.block.write_bump.Tie as tie

@@ -5,7 +5,8 @@ use Rattle.encoder.specs.HeapLaws.{grown}
 use Rattle.encoder.specs.ClimbsLaws.{told-free, told-twin}
 use Rattle.encoder.specs.IdsLaws.{below-at}
 use Rattle.encoder.specs.LevelLaws.{ready}
-use Rattle.encoder.specs.CallLaws.{refuses-twin, refuses-room, writes-all, refused-so, size-is, wrote-all, written-so, sized-told, shape-told, fits-in}
+use Rattle.encoder.specs.CallLaws.{refuses-twin, refuses-room, writes-all, size-is, wrote-all, sized-told, shape-told, fits-in}
+use Rattle.encoder.specs.OutputLaws.{refused-so, written-whole}
 use borrow.Author.Needs.{needs}
 use Rattle.encoder.proofs.block.write_tree.Statement.{statement}
 use Rattle.encoder.proofs.block.write_tree.Tie as tie
@@ -151,8 +152,8 @@ returns-3 c =
     let r = ready _ _ _ _ _ (p .2) b m in
     let z = size-is _ _ _ _ (a .0) _ _ (c .before .before .before .before .before .before .before .before .before .before .before .before .before .before .before .before .before .varint-size .ensures) (c .before .before .before .before .before .before .before .before .before .before .before .before .before .before .before .levels-size .ensures .1 _ _ _ r) in
     let l = fits-in z (c .before .before .before .before .before .before .before .before .before .before .before .before .before .before .if1 .left) in
-    let h = wrote-all _ _ _ _ (a .0) _ l (c .before .before .before .before .before .before .before .before .before .before .before .before .write-varint .ensures) (c .before .before .before .before .before .before .before .before .put .ensures) (c .before .before .write-levels .ensures _ r) in
-    written-so _ _ _ _ (a .0) _ l (writes-all _ _ _ _ (p .0) (p .1) (p .2) (p .3) t l) h refl
+    let h = wrote-all _ _ _ _ (a .0) _ (c .before .before .before .before .before .before .before .before .before .before .before .before .write-varint .ensures) (c .before .before .before .before .before .before .before .before .put .ensures) (c .before .before .write-levels .ensures _ r) in
+    written-whole _ _ l (writes-all _ _ _ _ (p .0) (p .1) (p .2) (p .3) t l) h
 
 pub write-tree-spec : {M : Type 1} → statement M
 write-tree-spec =

@@ -1,0 +1,45 @@
+// To and from TSC proofs.
+use super::write::tell;
+ghost use mathlib.Core.Path.{_≡_};
+ghost use lib.ListN.{length};
+ghost use Rattle.encoder.specs.Output.{outputAfter};
+ghost use Rattle.encoder.specs.Convert.{tscToBump, bumpToTsc};
+ghost use Rattle.barrowtide.specs.Interface as I;
+
+// uint32_t barrowtide_tsc_to_bump(const uint8_t *message, size_t length, uint32_t block, uint8_t *out, size_t out_len, barrowtide_blame *blame, uint64_t *written);
+#[no_mangle]
+pub extern "C" fn barrowtide_tsc_to_bump(
+    message: &[u8],
+    block: u32,
+    out: &mut [u8],
+    blame: &mut [u64; 3],
+    written: &mut u64,
+) -> u32
+    ensures { λ r. ⌜ (let v = tscToBump (now (message .entry)) block (length (now (out .entry))) in
+        (r ≡ I.refusal v)
+        × (now (out .exit) ≡ outputAfter v (now (out .entry)))
+        × (now (blame .exit) ≡ I.blame v (now (blame .entry)))
+        × (now (written .exit) ≡ I.taken length v (now (written .entry)))) ⌝ }
+{
+    let answer = encoder::tsc_to_bump(message, block, out);
+    tell(answer, blame, written)
+}
+
+// uint32_t barrowtide_bump_to_tsc(const uint8_t *message, size_t length, const uint8_t id[32], uint8_t *out, size_t out_len, barrowtide_blame *blame, uint64_t *written);
+#[no_mangle]
+pub extern "C" fn barrowtide_bump_to_tsc(
+    message: &[u8],
+    id: &[u8; 32],
+    out: &mut [u8],
+    blame: &mut [u64; 3],
+    written: &mut u64,
+) -> u32
+    ensures { λ r. ⌜ (let v = bumpToTsc (now (message .entry)) (now (id .entry)) (length (now (out .entry))) in
+        (r ≡ I.refusal v)
+        × (now (out .exit) ≡ outputAfter v (now (out .entry)))
+        × (now (blame .exit) ≡ I.blame v (now (blame .entry)))
+        × (now (written .exit) ≡ I.taken length v (now (written .entry)))) ⌝ }
+{
+    let answer = encoder::bump_to_tsc(message, *id, out);
+    tell(answer, blame, written)
+}
