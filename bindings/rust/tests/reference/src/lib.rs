@@ -13,6 +13,7 @@ pub mod bumplist;
 pub mod climb;
 pub mod cmp;
 pub mod compare;
+pub mod convert;
 pub mod fields;
 pub mod generate;
 pub mod hex;

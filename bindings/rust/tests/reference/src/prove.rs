@@ -48,7 +48,8 @@ fn climb_from(path: &Path, id: Hash, position: u64) -> Result<Climb, Refusal> {
     climb(id, position, path.tree_height(), |layer, offset| values.sibling(layer, offset))
 }
 
-fn climb_tsc(proof: &Tsc) -> Result<Climb, Refusal> {
+/// The climb of a TSC proof's own id, to the root that its target holds, if it holds one.
+pub fn climb_tsc(proof: &Tsc) -> Result<Climb, Refusal> {
     let height = proof.nodes.len() as u64;
     let climb = climb(proof.id, proof.index, height, |layer, _| match proof.nodes[layer] {
         tsc::Node::Hash(hash) => Sibling::Value(hash),

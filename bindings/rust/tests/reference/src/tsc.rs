@@ -47,6 +47,8 @@ pub struct Tsc {
     pub id: Hash,
     /// The target.
     pub target: Target,
+    /// The place of the node count.
+    pub count_place: usize,
     /// The siblings from layer 0 upwards.
     pub nodes: Vec<Node>,
 }
@@ -76,7 +78,7 @@ pub fn read(data: &[u8]) -> Result<Tsc, Refusal> {
     }
     let nodes = (0..count).map(|_| node(&mut cursor)).collect::<Result<_, _>>()?;
     cursor.end()?;
-    Ok(Tsc { flags, index, id, target, nodes })
+    Ok(Tsc { flags, index, id, target, count_place, nodes })
 }
 
 /// A transaction of a stated length: 2 if the length is past the input's end, 11 for any other

@@ -5,6 +5,7 @@ use super::random::Random;
 use super::transaction;
 use super::tree::Tree;
 use crate::climb::{beside, Sibling};
+use crate::prove::by_tsc;
 use crate::Hash;
 
 /// A TSC proof to write.
@@ -64,6 +65,24 @@ impl Plan {
         if random.one_in(2) {
             plan.write_out();
         }
+        plan
+    }
+
+    /// A proof of no block with id and root, of any number of layers: each sibling is a hash or, on
+    /// the right, a copy.
+    pub fn grown(random: &mut Random) -> Self {
+        let height = if random.one_in(8) { 32 } else { random.within(1..=31) };
+        let mut plan = Self::of(&Tree::random(random, 1), 0);
+        let bits = random.bits();
+        plan.index = random.pick(&[0, u64::MAX, bits]) >> (64 - height);
+        let node = |layer| match plan.index >> layer & 1 == 0 && random.one_in(3) {
+            true => (1, [0; 32]),
+            false => (0, random.hash()),
+        };
+        plan.nodes = (0..height).map(node).collect();
+        plan.flags = 0;
+        plan.target = by_tsc(&plan.draft().bytes).expect("no twin").root().to_vec();
+        plan.flags = 4;
         plan
     }
 
