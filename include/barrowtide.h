@@ -23,7 +23,9 @@
  *   - in judging, transaction by transaction, 19, then 13, 14 or 15, 17 if it names a BUMP, and 20
  *     if not;
  *   - in comparing the first proof's refusal, the second's, 23, 24;
- *   - in writing 5, 13, 6, 19, 15, 22.
+ *   - in writing 5, 13, 6, 19, 15, 22;
+ *   - in turning a TSC proof into a BUMP those of reading and proving, then 4, then 22; in turning
+ *     an id's climb in a BUMP into a TSC proof those of reading and proving, then 22.
  *
  * Memory. A pointer that comes with a length may be null if the length is 0: it is then not
  * followed. All other pointers must be to memory of the size said, not null. What is lent by a
@@ -35,11 +37,11 @@
  * Stack. As built by the kit a call needs at most
  *   - 64 KiB  barrowtide_judge_beef
  *   - 48 KiB  barrowtide_write_bump
- *   - 32 KiB  barrowtide_compare
+ *   - 32 KiB  barrowtide_compare, barrowtide_bump_to_tsc
  *   - 24 KiB  barrowtide_prove_bump, barrowtide_prove_cmp, barrowtide_prove_page,
  *             barrowtide_check_clients
  *   -  8 KiB  barrowtide_read_bump, barrowtide_read_cmp, barrowtide_read_beef,
- *             barrowtide_prove_tsc
+ *             barrowtide_prove_tsc, barrowtide_tsc_to_bump
  *   -  1 KiB  barrowtide_sha256d, barrowtide_join
  *   -  4 KiB  every other call
  * with the C library's memcpy and memset, which are all that it calls. Only the working out of a
@@ -66,7 +68,7 @@
 #include <stdint.h>
 
 #define BARROWTIDE_VERSION_MAJOR 0
-#define BARROWTIDE_VERSION_MINOR 2
+#define BARROWTIDE_VERSION_MINOR 3
 #define BARROWTIDE_VERSION_PATCH 0
 
 /* ---- Sizes ---- */
@@ -80,6 +82,8 @@
 #define BARROWTIDE_MAX_PAGE 256                /* ids of a page */
 #define BARROWTIDE_MAX_IDS 1024                /* ids of the list that a BUMP is written of */
 #define BARROWTIDE_WRITE_ROOM 36864            /* bytes that are enough for any BUMP written */
+#define BARROWTIDE_TSC_TO_BUMP_ROOM 1246       /* bytes that are enough for any TSC proof's BUMP */
+#define BARROWTIDE_BUMP_TO_TSC_ROOM 1127       /* bytes that are enough for any TSC proof made */
 
 #ifdef __cplusplus
 extern "C" {
@@ -93,7 +97,8 @@ enum barrowtide_refusal {
     BARROWTIDE_SHORT = 2,         /* the bytes end inside a field | field start */
     BARROWTIDE_LONG_VARINT = 3,   /* a VarInt is not in its shortest form | field start */
     BARROWTIDE_BAD_HEIGHT = 4,    /* a tree height is outside (BUMP 1 to 32, a CMP's first byte
-                                     0 to 31) | field start */
+                                     0 to 31), or a TSC proof that is to become a BUMP has no
+                                     nodes | field start */
     BARROWTIDE_OVER_LIMIT = 5,    /* a count or a block height is over its limit | field start
                                      a list or page has too few ids, too many or a part of one |
                                      0 */
@@ -125,8 +130,8 @@ enum barrowtide_refusal {
     BARROWTIDE_UNLIKE = 23,       /* two proofs differ in root, position or layers | 0 */
     BARROWTIDE_SAME_ID = 24       /* two proofs agree and prove one id | 0 */
 };
-/* "tx": the number of the transaction where a BEEF is judged, and 0 from all other calls. Where a
-   BUMP is written every refusal carries 0. */
+/* "tx": the number of the transaction where a BEEF is judged, and 0 from all other calls. From
+   barrowtide_write_bump every refusal carries 0. */
 
 /* What a refusal blames. */
 typedef struct {
@@ -307,6 +312,36 @@ uint32_t barrowtide_judge_beef(const uint8_t *data, size_t len, const uint8_t *r
 uint32_t barrowtide_write_bump(uint64_t block_height, const uint8_t *ids, size_t ids_len,
                                const uint64_t *positions, size_t positions_count, uint8_t *out,
                                size_t out_len, barrowtide_blame *blame, uint64_t *written);
+
+/* ---- To and from TSC proofs ---- */
+
+/* Turns a TSC proof, with a transaction or an id and any target, into a BUMP of the block height
+   given. The BUMP has as many levels as the proof has nodes: at level 0 the proof's id with flags
+   02 and its sibling, offsets rising, at each other level the sibling and nothing else. A node of
+   type 1 becomes a copy (flags 01), any other is written with flags 00. The room out has out_len
+   bytes; BARROWTIDE_TSC_TO_BUMP_ROOM are always enough: at most 5 for the block height, 1 for the
+   tree height and 38 for the client's leaf, and for each of 32 levels 1 for its count, 33 for the
+   sibling's flags and hash, and 5 (16 levels), 3 (9 levels) or 1 (7 levels) for its offset. On
+   acceptance *written is the number of bytes, which are the first ones of out; the room past them
+   stays as it was, and all of out on a refusal.
+   Refused: as barrowtide_prove_tsc; 4 at the node count if it is 0, as a BUMP has one level at
+   least; 22 if the bytes needed are more than out_len. */
+uint32_t barrowtide_tsc_to_bump(const uint8_t *data, size_t len, uint32_t block_height,
+                                uint8_t *out, size_t out_len, barrowtide_blame *blame,
+                                uint64_t *written);
+
+/* Turns a lent id's climb in a BUMP into a TSC proof: flags 04, the position as index, the id, the
+   root as target, and the climb's siblings as nodes, from the lowest up. A copy becomes a node of
+   type 1; any other sibling, written with whatever flags or worked out, one of type 0 with its
+   hash. Other clients and surplus leaves are left out. Of the BUMP that barrowtide_tsc_to_bump
+   makes of a proof with id and root, these are the proof's bytes again. The room out has out_len
+   bytes; BARROWTIDE_BUMP_TO_TSC_ROOM are always enough: at most 1 for the flags, 5 for the index,
+   64 for id and root, 1 for the node count and 33 for each of 32 nodes. It is written as by
+   barrowtide_tsc_to_bump.
+   Refused: as barrowtide_prove_bump; 22 if the bytes needed are more than out_len. */
+uint32_t barrowtide_bump_to_tsc(const uint8_t *data, size_t len, const uint8_t id[32],
+                                uint8_t *out, size_t out_len, barrowtide_blame *blame,
+                                uint64_t *written);
 
 #ifdef __cplusplus
 }

@@ -11,6 +11,8 @@
 //! - [`compare`]: two proofs under one root that disagree on the id hold two strings of one hash
 //! - [`judge`], [`judge_beef`]: does every payment of a BEEF bundle rest on a trusted root?
 //! - [`write_bump`], [`write_bump_into`]: the BUMP that proves some of a block's ids
+//! - [`tsc_to_bump`], [`bump_to_tsc`], and into lent room [`tsc_to_bump_into`],
+//!   [`bump_to_tsc_into`]: a TSC proof as a BUMP, and an id's climb in a BUMP as a TSC proof
 //!
 //! Every call answers a value or a [`Refusal`] with 01's number and the place that it blames; if a
 //! sibling is missing or a twin, it says which.
@@ -38,6 +40,7 @@ mod beef;
 mod bump;
 mod cmp;
 mod compare;
+mod convert;
 pub mod ffi;
 mod hash;
 pub mod hex;
@@ -54,6 +57,10 @@ pub use beef::{read_beef, Beef};
 pub use bump::{read_bump, Bump};
 pub use cmp::{read_cmp, Cmp};
 pub use compare::{compare, Claim, Collision};
+pub use convert::{
+    bump_to_tsc, bump_to_tsc_into, tsc_to_bump, tsc_to_bump_into, BUMP_TO_TSC_ROOM,
+    TSC_TO_BUMP_ROOM,
+};
 pub use hash::{join, sha256d, Hash, MAX_INPUT};
 pub use judge::{judge, judge_beef, Record, Verdict, MAX_TRANSACTIONS};
 pub use page::{prove_page, prove_page_into, Answer, MAX_PAGE};

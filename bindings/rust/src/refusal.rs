@@ -15,7 +15,7 @@ pub enum Reason {
     Short = 2,
     /// A VarInt is not in its shortest form.
     LongVarint = 3,
-    /// A tree height is outside its range.
+    /// A tree height is outside its range, or a TSC proof without nodes is to become a BUMP.
     BadHeight = 4,
     /// A count or a block height is over its limit; a list is outside its sizes or not whole.
     OverLimit = 5,
@@ -120,8 +120,8 @@ impl Reason {
         REASONS[self as usize - 1].2
     }
 
-    /// Whether the refusal, given in reading, carries the place of the field or byte that is to
-    /// blame. From a call that writes it carries 0.
+    /// Whether the refusal carries the place of the field or byte that is to blame. If it blames a
+    /// list, a chosen position, a page, or the room for answers or bytes, it carries 0.
     ///
     /// The others carry 0, or in a BEEF the transaction's number if they come in judging
     /// ([`Reason::blames_transaction`]).

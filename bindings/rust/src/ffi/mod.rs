@@ -13,6 +13,7 @@
 mod blame;
 mod bundle;
 mod compare;
+mod convert;
 mod hash;
 mod judge;
 mod page;
@@ -23,6 +24,7 @@ mod write;
 pub use blame::Blame;
 pub use bundle::{read_beef, read_transaction, read_tsc};
 pub use compare::{compare, Lent};
+pub use convert::{bump_to_tsc, tsc_to_bump};
 pub use hash::{join, sha256d};
 pub use judge::judge_beef;
 pub use page::prove_page;

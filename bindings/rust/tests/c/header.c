@@ -27,6 +27,8 @@ int main(void)
     printf("page %d\n", BARROWTIDE_MAX_PAGE);
     printf("ids %d\n", BARROWTIDE_MAX_IDS);
     printf("write room %d\n", BARROWTIDE_WRITE_ROOM);
+    printf("TSC to BUMP room %d\n", BARROWTIDE_TSC_TO_BUMP_ROOM);
+    printf("BUMP to TSC room %d\n", BARROWTIDE_BUMP_TO_TSC_ROOM);
     printf("record %zu\n", sizeof(barrowtide_record));
     printf("answer %zu\n", sizeof(barrowtide_answer));
     printf("blame %zu\n", sizeof(barrowtide_blame));
@@ -39,6 +41,10 @@ int main(void)
                &blame);
     /* A BUMP of five levels with one leaf, an id of zeros at position 21. */
     static const uint8_t bump[41] = {0, 5, 1, 21, 2}, id[32] = {0};
+    print_call("no proof to turn", barrowtide_tsc_to_bump(NULL, 0, 1, NULL, 0, &blame, &written),
+               &blame);
+    print_call("no BUMP to turn", barrowtide_bump_to_tsc(NULL, 0, id, NULL, 0, &blame, &written),
+               &blame);
     print_call("missing",
                barrowtide_prove_bump(bump, sizeof bump, id, &blame, &position, &layers, digest),
                &blame);
