@@ -69,6 +69,14 @@ static void write_bump(void)
         positions[i] = i;
     refusal = barrowtide_write_bump(1, data, len, positions, count, out, sizeof out, &blame, &a);
 }
+static void tsc_to_bump(void)
+{
+    refusal = barrowtide_tsc_to_bump(data, len, 1, out, sizeof out, &blame, &a);
+}
+static void bump_to_tsc(void)
+{
+    refusal = barrowtide_bump_to_tsc(data, len, more, out, sizeof out, &blame, &a);
+}
 
 #define CALL(name) {#name, name}
 static const struct {
@@ -79,6 +87,7 @@ static const struct {
     CALL(read_cmp),      CALL(read_transaction), CALL(read_tsc),    CALL(read_beef),
     CALL(prove_bump),    CALL(prove_cmp),        CALL(prove_tsc),   CALL(check_clients),
     CALL(prove_page),    CALL(compare),          CALL(judge_beef),  CALL(write_bump),
+    CALL(tsc_to_bump),   CALL(bump_to_tsc),
 };
 
 /* Runs a function, and says how many bytes of the painted stack have changed, from its top. */

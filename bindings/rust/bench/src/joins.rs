@@ -7,10 +7,15 @@ use crate::read::seconds_of;
 
 /// Prints the heading of such a table.
 pub fn heading(name: &str) {
+    heading_beside(name, "joins alone");
+}
+
+/// The same beside something else.
+pub fn heading_beside(name: &str, other: &str) {
     println!("\n{name}");
     println!(
-        "{:<42} {:>12} {:>12} {:>6} {:>12} {:>6}",
-        "", "library", "reference", "ratio", "joins alone", "ratio"
+        "{:<42} {:>12} {:>12} {:>6} {other:>12} {:>6}",
+        "", "library", "reference", "ratio", "ratio"
     );
 }
 
@@ -30,7 +35,8 @@ fn alone(joins: usize) -> Subject<'static> {
     subject(move || (0..joins).fold(node, |last, _| join(&last, &node)))
 }
 
-fn print(name: &str, times: &[f64]) {
+/// Prints a row of the times of the library, the reference and what they stand beside.
+pub fn print(name: &str, times: &[f64]) {
     println!(
         "{name:<42} {:>12} {:>12} {:>6.2} {:>12} {:>6.2}",
         time(times[0]),

@@ -4,6 +4,7 @@
 //! cargo run --release --offline -p bench
 //! ```
 
+mod convert;
 mod hash;
 mod joins;
 mod judge;
@@ -32,5 +33,6 @@ fn main() {
     judge::run();
     merged::run();
     write::run();
+    convert::run();
     stack::run();
 }

@@ -56,6 +56,8 @@ pub fn run() {
     row(c"compare", &bump, &id);
     row(c"judge_beef", &beef, &roots);
     row(c"write_bump", &random.bytes(32 * 1_024), &[]);
+    row(c"tsc_to_bump", &proof, &[]);
+    row(c"bump_to_tsc", &bump, &id);
 }
 
 fn row(call: &CStr, data: &[u8], more: &[u8]) {
