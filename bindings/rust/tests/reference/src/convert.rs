@@ -1,13 +1,12 @@
 //! To and from TSC proofs (02, Item 6).
 
 use crate::bump::{self, Bump};
-use crate::climb::{beside, Climb, Sibling};
+use crate::climb::{beside, Climb, Layer};
 use crate::generate::draft::varint;
 use crate::path::{Leaf, Node, Path};
 use crate::prove::{climb_path, climb_tsc};
 use crate::refusal::{refuse, Refusal, BAD_HEIGHT, NO_ROOM};
 use crate::tsc::{self, Tsc};
-use crate::values::Values;
 use crate::Hash;
 
 /// The BUMP with one client leaf that says what a TSC proof says, for a room of so many bytes.
@@ -51,14 +50,17 @@ fn path(proof: &Tsc) -> Path {
     Path { levels }
 }
 
-/// The siblings that an accepted climb took, each a copy or its value, written or worked out.
+/// The siblings of an accepted climb: a copy where one is written, else the value that was hashed.
 fn nodes(path: &Path, climb: &Climb) -> Vec<tsc::Node> {
-    let mut values = Values::of(path);
-    let node = |layer| match values.sibling(layer, beside(climb.position >> layer)) {
-        Sibling::Value(hash) => tsc::Node::Hash(hash),
-        _ => tsc::Node::Copy,
+    let node = |(level, layer): (usize, &Layer)| {
+        let at = climb.position >> level;
+        if path.leaf(level, beside(at)).is_some_and(|leaf| leaf.node == Node::Copy) {
+            return tsc::Node::Copy;
+        }
+        let start = if at % 2 == 0 { 32 } else { 0 };
+        tsc::Node::Hash(std::array::from_fn(|i| layer.string[start + i]))
     };
-    (0..path.levels.len()).map(node).collect()
+    climb.layers.iter().enumerate().map(node).collect()
 }
 
 /// A BUMP's bytes (003).
