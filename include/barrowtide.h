@@ -333,11 +333,11 @@ uint32_t barrowtide_tsc_to_bump(const uint8_t *data, size_t len, uint32_t block_
 /* Turns a lent id's climb in a BUMP into a TSC proof: flags 04, the position as index, the id, the
    root as target, and the climb's siblings as nodes, from the lowest up. A copy becomes a node of
    type 1; any other sibling, written with whatever flags or worked out, one of type 0 with its
-   hash. Other clients and surplus leaves are left out. Of the BUMP that barrowtide_tsc_to_bump
-   makes of a proof with id and root, these are the proof's bytes again. The room out has out_len
+   hash. Other clients and surplus leaves are left out. A TSC proof with id and root that
+   barrowtide_tsc_to_bump turned into a BUMP comes back byte for byte. The room out has out_len
    bytes; BARROWTIDE_BUMP_TO_TSC_ROOM are always enough: at most 1 for the flags, 5 for the index,
-   64 for id and root, 1 for the node count and 33 for each of 32 nodes. It is written as by
-   barrowtide_tsc_to_bump.
+   64 for id and root, 1 for the node count and 33 for each of 32 nodes. *written and out are as
+   with barrowtide_tsc_to_bump.
    Refused: as barrowtide_prove_bump; 22 if the bytes needed are more than out_len. */
 uint32_t barrowtide_bump_to_tsc(const uint8_t *data, size_t len, const uint8_t id[32],
                                 uint8_t *out, size_t out_len, barrowtide_blame *blame,

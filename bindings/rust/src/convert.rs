@@ -100,9 +100,9 @@ pub fn bump_to_tsc_into(data: &[u8], id: &Hash, out: &mut [u8]) -> Result<usize,
 ///
 /// Its index is where the climb starts, at the least offset that carries the id, and its nodes are
 /// the climb's siblings: a copy stays a copy, any other sibling becomes a hash, whether it is
-/// written or worked out. Other clients and surplus leaves are left out. [`tsc_to_bump`] makes the
-/// same BUMP of it, but for these, and keeps root, position and layers; of a TSC proof with id and
-/// root that becomes a BUMP this makes the same bytes again.
+/// written or worked out. Other clients and surplus leaves are left out. [`tsc_to_bump`] turns it
+/// into a BUMP with the same root, position and layers. A TSC proof with id and root that became a
+/// BUMP comes back byte for byte.
 ///
 /// Refused as [`prove_bump`](crate::prove_bump).
 ///
