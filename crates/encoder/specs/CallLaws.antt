@@ -14,7 +14,7 @@ use Rattle.format.specs.Spelling.{spells}
 use Rattle.format.specs.BumpBytes.{levelBytes, bumpBytes}
 use Rattle.format.specs.Refusals.{OVER-LIMIT, NOT-LISTED, BAD-OFFSET, SAME-TX, NO-ROOM, MAX-BLOCK}
 use Rattle.spv.specs.declared.rejection.Rejection.{Rejection}
-use Rattle.spv.specs.Result.{Result, accepted, refused, carrying}
+use Rattle.spv.specs.Result.{accepted, refused, carrying}
 use Rattle.spv.specs.Bundle.{hashesOf}
 use Rattle.encoder.specs.Tree.{heightFor}
 use Rattle.encoder.specs.TreeLaws.{height-holds, height-least}

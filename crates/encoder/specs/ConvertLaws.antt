@@ -46,7 +46,7 @@ use Rattle.encoder.specs.LeavesLaws.{wrote-hashed}
 use Rattle.encoder.specs.Output.{roomFor}
 use Rattle.encoder.specs.OutputLaws.{room-short, room-enough}
 use Rattle.encoder.specs.Taken.{proof-layers, proof-position, proof-id}
-use Rattle.encoder.specs.ToTscLaws.{bump-climb, trace-fits, trace-count, tsc-siblings}
+use Rattle.encoder.specs.TakenLaws.{bump-climb, trace-fits, trace-count, tsc-siblings}
 use Rattle.encoder.specs.Convert.{clientEntry, siblingEntry, clientLevel, siblingLevels, clientLevels, clientBump, nodeCountAt, tscToBump, idTsc, bumpToTsc}
 use Rattle.encoder.specs.ConvertText.{levelsAt, clientLevelsAt, Proved}
 

@@ -25,9 +25,12 @@ pub mod CallLaws
 pub mod Convert
 pub mod ConvertText
 pub mod Taken
-pub mod ToTscLaws
+pub mod TakenLaws
 pub mod ConvertLaws
+pub mod HashFits
+pub mod ToTscLaws
 pub mod ToTsc
 pub mod ToBumpLaws
 pub mod ToBump
+pub mod RoundTrip
 pub mod Examples

@@ -1,5 +1,5 @@
 -- The siblings that a climb takes on its way to a root: one for each layer, and none of them absent.
-use Prim.Native.Nat.{ℕ, zero, suc, _+_, _/_, _<_}
+use Prim.Native.Nat.{ℕ, zero, suc, _/_}
 use mathlib.Core.Path.{_≡_, refl, ap, sym, _∙_}
 use mathlib.Core.List.{List, [], _∷_, _++_}
 use mathlib.Core.Bool.{Bool}
@@ -7,10 +7,10 @@ use lib.ListN.{length}
 use native.Mathlib.Omega.{arith}
 use Rattle.hash.specs.Sha256.{sha256d}
 use Rattle.format.specs.Refusals.{MISSING}
-use Rattle.spv.specs.Result.{Result, accepted}
-use Rattle.spv.specs.Climb.{Sibling, value, copied, absent, Siblings, Step, joins, fails, odd, siblingPosition, step, ascendBy, ascend, endBy, endOf, siblingsOf}
+use Rattle.spv.specs.Result.{accepted}
+use Rattle.spv.specs.Climb.{Sibling, absent, Siblings, Step, joins, fails, odd, siblingPosition, step, ascendBy, ascend, endBy, endOf, siblingsOf}
 use Rattle.spv.specs.ClimbLaws.{ascended}
-use Rattle.spv.specs.Compare.{Target, Reading, read, Proof, prove}
+use Rattle.spv.specs.Compare.{Target, read, Proof, prove}
 use Rattle.spv.specs.CompareLaws.{prove-accepted}
 
 -- beside n layers from position j of layer k on

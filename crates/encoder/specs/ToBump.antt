@@ -3,15 +3,15 @@ use mathlib.Core.Path.{_≡_, refl, sym, ap, _∙_, subst}
 use mathlib.Core.Bool.{Bool, true, false}
 use mathlib.Core.List.{List, [], map}
 use mathlib.Core.Option.{some}
-use Prim.Native.Nat.{ℕ, _-_, _^_, _/_, _≤_, _<_}
+use Prim.Native.Nat.{ℕ, _^_, _/_, _≤_, _<_}
 use lib.ListN.{length, getD, length-map, List·getD-map}
-use lib.Dec.{leb, eqb}
+use lib.Dec.{eqb}
 use native.Mathlib.Omega.{arith}
 use native.Mathlib.Nat.{zero-add}
-use borrow.Author.Tests.{leb-true, ltb-true, eqb-false}
+use borrow.Author.Tests.{ltb-true, eqb-false}
 use Rattle.format.specs.declared.path.Start.{Start}
 use Rattle.format.specs.Parse.{Parse, pick, got, bad}
-use Rattle.format.specs.Refusals.{MAX-BLOCK, MAX-HEIGHT, NO-ROOM, BAD-HEIGHT}
+use Rattle.format.specs.Refusals.{MAX-BLOCK, MAX-HEIGHT, BAD-HEIGHT}
 use Rattle.format.specs.Search.{lookup}
 use Rattle.format.specs.Spelling.{AllBytes, Fits}
 use Rattle.format.specs.Bump.{Bump, bumpWhole}
@@ -31,6 +31,8 @@ use Rattle.spv.specs.Readings.{starting, levelsReading, bumpReading, tscTarget,
 use Rattle.spv.specs.ReadingsLaws.{bump-read, tsc-read}
 use Rattle.spv.specs.Trace.{asCarried}
 use Rattle.encoder.specs.Output.{roomFor}
+use Rattle.encoder.specs.OutputLaws.{room-told}
+use Rattle.encoder.specs.HashFits.{subject-fits}
 use Rattle.encoder.specs.Convert.{clientLevels, clientBump, nodeCountAt, tscToBump}
 use Rattle.encoder.specs.Taken.{taken, Present, taken-length, siblings-taken}
 use Rattle.encoder.specs.BlockBump.{foundAs, Rising}
@@ -38,7 +40,7 @@ use Rattle.encoder.specs.RisingLaws.{at-offset, found-says}
 use Rattle.encoder.specs.BlockMeets.{from-rises}
 use Rattle.encoder.specs.BlockValues.{asSibling, found-sibling}
 use Rattle.encoder.specs.BlockProved.{sibling-positions-at}
-use Rattle.encoder.specs.ToBumpLaws.{HashValues, subject-fits, node-values, TakenFit, taken-fit, taken-at, present-at, client-levels-fit, client-levels-length, sibling-there, present-as, taken-stays, client-levels-count, client-levels-rise, only-client, client-there, starts-client}
+use Rattle.encoder.specs.ToBumpLaws.{HashValues, node-values, TakenFit, taken-fit, taken-beside, present-at, client-levels-fit, client-levels-length, sibling-there, present-as, taken-stays, client-levels-count, client-levels-rise, only-client, client-there, starts-client}
 
 -- bytes that are read as a BUMP of that block height with a level for each layer of the proof: offsets rise, the one client leaf is the proof's id
 -- at its position, beside each node of its climb stands the sibling taken there, a copy as a copy, and there are no other leaves
@@ -69,7 +71,7 @@ module _ (σ : Siblings) (h i : ℕ) (c r : List ℕ) (end : endOf c (ascend σ 
   steps-count : length steps ≡ h
   steps-count = taken-length σ 0 h i
 
-  content-fits : HashValues σ → HashFit c → h ≤ MAX-HEIGHT → i < 2 ^ h → block ≤ MAX-BLOCK → ContentFit (clientBump block proof)
+  pub content-fits : HashValues σ → HashFit c → h ≤ MAX-HEIGHT → i < 2 ^ h → block ≤ MAX-BLOCK → ContentFit (clientBump block proof)
   unfolding clientBump
   content-fits v g low inside b = record {
     block-fits = b;
@@ -109,9 +111,9 @@ module _ (σ : Siblings) (h i : ℕ) (c r : List ℕ) (end : endOf c (ascend σ 
         let is : writtenBy s (findIn (bump .levels)) k (siblingPosition (i / 2 ^ k)) ≡ getD steps k absent =
         found-sibling s (lookup (siblingPosition (i / 2 ^ k)) (getD (bump .levels) k [])) ∙ ap asSibling (sibling-back k b) ∙ present-as (getD steps k absent) there in
         taken-stays (writtenBy s (findIn (bump .levels))) k (siblingPosition (i / 2 ^ k)) (getD steps k absent) there is
-        ∙ taken-at σ 0 h i k b ∙ ap (λ (n : ℕ). σ n (siblingPosition (i / 2 ^ k))) (zero-add k)
+        ∙ taken-beside σ 0 h i k b ∙ ap (λ (n : ℕ). σ n (siblingPosition (i / 2 ^ k))) (zero-add k)
 
-    back-proves : prove (bumpReading s c) ≡ accepted proof
+    pub back-proves : prove (bumpReading s c) ≡ accepted proof
     unfolding levelsReading starting hits
     back-proves =
         let τ : Siblings = levelSiblings s (bump .levels) in
@@ -138,15 +140,6 @@ module _ (σ : Siblings) (h i : ℕ) (c r : List ℕ) (end : endOf c (ascend σ 
 
 -- ---- what an accepted call has read, and what it writes
 
--- bytes for which there is room
-pub room-told : (room : ℕ) (text bytes : List ℕ) → roomFor room text ≡ accepted bytes → (bytes ≡ text) × (length bytes ≤ room)
-unfolding roomFor
-room-told room text bytes e = go (leb (length text) room) refl e
-  where
-    go : (t : Bool) → leb (length text) room ≡ t → pick t (accepted text) (refused (carrying NO-ROOM 0)) ≡ accepted bytes → (bytes ≡ text) × (length bytes ≤ room)
-    go true h f = let y : bytes ≡ text = cc in (y, rw y (leb-true _ _ h))
-    go false h f = let z : _≡_ {A = ℕ} 0 1 = cc in absurd (omega arith)
-
 -- an accepted call: the TSC proof read, what it proves over one layer or more, and its BUMP's bytes
 record ToBump (s : List ℕ) (block room : ℕ) (bytes : List ℕ) : Type 0 where
   tsc : Tsc
@@ -167,7 +160,7 @@ told s block room bytes e = of-tsc (tscWhole s) refl e
     last t q p w a true h f = let z : _≡_ {A = ℕ} 0 1 = cc in absurd (omega arith)
     last t q p w a false h f =
         let x = room-told room (bumpBytes (clientBump block p)) bytes f in
-        record { tsc = t; end = q; proof = p; whole = w; proves = a; layered = eqb-false _ _ h; is = x .0; fits = x .1 }
+        record { tsc = t; end = q; proof = p; whole = w; proves = a; layered = eqb-false _ _ h; is = sym (x .0); fits = x .1 }
 
     of-proof : (t : Tsc) (q : ℕ) → tscWhole s ≡ got t q → (x : Result Proof) → prove (tscReading s) ≡ x
         → follow x (λ p. pick (eqb (p .layers) 0) (refused (carrying BAD-HEIGHT (nodeCountAt t))) (roomFor room (bumpBytes (clientBump block p)))) ≡ accepted bytes → ToBump s block room bytes

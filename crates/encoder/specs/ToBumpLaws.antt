@@ -4,78 +4,51 @@ use mathlib.Core.Bool.{Bool, true, false, _&&_, true≢false, false≢true}
 use mathlib.Core.List.{List, [], _∷_, _++_, map}
 use mathlib.Core.Option.{none, some}
 use Prim.Native.Nat.{ℕ, zero, suc, _+_, _-_, _^_, _/_, _%_, _<_}
-use lib.ListN.{length, getD, take, drop, replicate}
-use lib.Dec.{ltb, leb, eqb}
+use lib.ListN.{length, getD}
+use lib.Dec.{ltb, eqb}
 use lib.Pow.{shr-shr}
 use native.Mathlib.Omega.{arith}
 use native.Mathlib.Nat.{pow-suc, div-one, sub-zero}
 use native.Mathlib.Numerals.{add-one}
 use borrow.Author.Tests.{eqb-true, eqb-false, eq-eqb, ne-eqb, ltb-true, ltb-false}
 use Rattle.hash.specs.Sha256.{sha256d}
-use Rattle.hash.specs.Sha256Laws.{sha256d-length, sha256d-bytes}
 use Rattle.format.specs.declared.level.Kind.{Kind}
-use Rattle.format.specs.declared.level.Kind.the-variants.{Plain, Copy, Client}
+use Rattle.format.specs.declared.level.Kind.the-variants.{Copy}
 use Rattle.format.specs.declared.level.Leaf.{Leaf}
 use Rattle.format.specs.declared.path.Start.{Start}
 use Rattle.format.specs.declared.path.Start.the-variants.{At, Nowhere}
-use Rattle.format.specs.declared.tsc.Subject.{Subject}
 use Rattle.format.specs.Basics.{and-false, or-true}
 use Rattle.format.specs.Bytes.{same}
 use Rattle.format.specs.BytesLaws.{same-refl}
 use Rattle.format.specs.Parse.{pick}
 use Rattle.format.specs.Level.{holds}
 use Rattle.format.specs.Refusals.{TWIN}
-use Rattle.format.specs.Search.{hashAt, leastOffset}
-use Rattle.format.specs.SearchLaws.{hash-at-length}
-use Rattle.format.specs.Spelling.{AllBytes, part-bytes, Fits}
+use Rattle.format.specs.Search.{leastOffset}
+use Rattle.format.specs.Spelling.{AllBytes, Fits}
 use Rattle.format.specs.BumpBytes.{plain, copy, client, entryOf, HashFit, CarriedFit, LevelFit, nextLevel}
-use Rattle.format.specs.Id.{subjectId}
 use Rattle.spv.specs.Result.{accepted}
 use Rattle.spv.specs.Climb.{Sibling, value, copied, absent, Siblings, Step, joins, fails, odd, siblingPosition, joined, step, ascendBy, ascend, endBy, endOf}
 use Rattle.spv.specs.ClimbLaws.{joined-twin, sibling-odd, sibling-even, ascended}
 use Rattle.spv.specs.Values.{valueOf}
 use Rattle.spv.specs.ValuesLaws.{value-written, value-copied}
-use Rattle.spv.specs.Siblings.{written, nodeSiblings}
+use Rattle.spv.specs.Siblings.{nodeSiblings}
 use Rattle.spv.specs.Trace.{asCarried}
 use Rattle.spv.specs.Surplus.{carriedAt, Least, least-is}
 use Rattle.encoder.specs.Convert.{clientEntry, siblingEntry, clientLevel, siblingLevels, clientLevels}
 use Rattle.encoder.specs.Taken.{taken, Present, AllPresent}
 use Rattle.encoder.specs.RisingLaws.{at-offset, From, at-none, at-first, at-later}
 use Rattle.encoder.specs.BlockValues.{sibling-below, asSibling}
-use Rattle.encoder.specs.BlockProved.{carriesAs, carriedIn, carried-says}
-
--- ---- hashes in an input of bytes
+use Rattle.encoder.specs.BlockProved.{sibling-positions-at, carriesAs, carriedIn, carried-says}
+use Rattle.encoder.specs.TakenLaws.{taken-at}
+use Rattle.encoder.specs.HashFits.{SiblingFit, written-fits}
 
 -- every hash of a form is 32 bytes
 abbrev pub HashValues : Siblings → Type 0
-HashValues σ = (k q : ℕ) (p : List ℕ) → σ k q ≡ value p → HashFit p
-
-zeros-bytes : (n : ℕ) → AllBytes (replicate n 0)
-zeros-bytes zero i = omega arith
-zeros-bytes (suc n) zero = omega arith
-zeros-bytes (suc n) (suc i) = zeros-bytes n i
-
-pub hash-fits : (s : List ℕ) (p : ℕ) → AllBytes s → HashFit (hashAt s p)
-unfolding hashAt
-hash-fits s p h = (hash-at-length s p, go (leb (p + 32) (length s)))
-  where
-    go : (t : Bool) → AllBytes (pick t (take 32 (drop p s)) (replicate 32 0))
-    go true = part-bytes s p 32 h
-    go false = zeros-bytes 32
-
-pub subject-fits : (s : List ℕ) (x : Subject) → AllBytes s → HashFit (subjectId s x)
-unfolding subjectId
-subject-fits s (Subject.Id p) h = hash-fits s p h
-subject-fits s (Subject.Transaction start end) h = (sha256d-length (take (end - start) (drop start s)), sha256d-bytes (take (end - start) (drop start s)))
+HashValues σ = (k q : ℕ) → SiblingFit (σ k q)
 
 pub node-values : (s : List ℕ) (nodes : List Kind) → AllBytes s → HashValues (nodeSiblings s nodes)
-unfolding nodeSiblings written
-node-values s nodes h k q p e = go (getD nodes k Copy) e
-  where
-    go : (kind : Kind) → written s kind ≡ value p → HashFit p
-    go (Plain at) f = let y : hashAt s at ≡ p = cc in rw (← y) (hash-fits s at h)
-    go Copy f = let z : _≡_ {A = ℕ} 0 1 = cc in absurd (omega arith)
-    go (Client at) f = let y : hashAt s at ≡ p = cc in rw (← y) (hash-fits s at h)
+unfolding nodeSiblings
+node-values s nodes all k q = written-fits s (getD nodes k Copy) all
 
 -- ---- a climb to a root, layer by layer
 
@@ -106,9 +79,9 @@ copy-odd j c a b e = go (eqb (j % 2) 1) refl e
     go true h f = absurd (false≢true (sym (no-twin c c a b f) ∙ same-refl c))
     go false h f = let o = eqb-false (j % 2) 1 h in rw (sibling-even j o) (omega arith)
 
-step-fits : (k j : ℕ) (p : Sibling) (c a b : List ℕ) → ((h : List ℕ) → p ≡ value h → HashFit h) → step p (odd j) c ≡ joins a b → CarriedFit k (siblingPosition j) (asCarried p)
-unfolding step asCarried CarriedFit
-step-fits k j (value h) c a b v e = v h refl
+step-fits : (k j : ℕ) (p : Sibling) (c a b : List ℕ) → SiblingFit p → step p (odd j) c ≡ joins a b → CarriedFit k (siblingPosition j) (asCarried p)
+unfolding step asCarried CarriedFit SiblingFit
+step-fits k j (value h) c a b v e = v
 step-fits k j copied c a b v e = copy-odd j c a b e
 step-fits k j absent c a b v e = let y : _≡_ {A = ℕ} 0 1 = cc in absurd (omega arith)
 
@@ -127,14 +100,9 @@ taken-fit σ v k (suc n) j c r e =
 halves : (j m : ℕ) → j / 2 / 2 ^ m ≡ j / 2 ^ suc m
 halves j m = shr-shr j 1 m ∙ ap (λ (n : ℕ). j / 2 ^ n) (omega arith)
 
--- the sibling taken m layers up
-pub taken-at : (σ : Siblings) (k n j m : ℕ) → m < n → getD (taken σ k n j) m absent ≡ σ (k + m) (siblingPosition (j / 2 ^ m))
-unfolding taken
-taken-at σ k zero j m b = absurd (omega arith)
-taken-at σ k (suc n) j zero b = let e : k + 0 ≡ k = omega arith in rw (e, div-one j)
-taken-at σ k (suc n) j (suc m) b =
-    let e : suc k + m ≡ k + suc m = omega arith in
-    taken-at σ (suc k) n (j / 2) m (omega arith) ∙ rw (e, halves j m)
+-- the sibling taken m layers up, by its position
+pub taken-beside : (σ : Siblings) (k n j m : ℕ) → m < n → getD (taken σ k n j) m absent ≡ σ (k + m) (siblingPosition (j / 2 ^ m))
+taken-beside σ k n j m b = taken-at absent σ k n j m b ∙ ap (σ (k + m)) (sibling-positions-at n j m b)
 
 pub present-at : (l : List Sibling) (m : ℕ) → AllPresent l → m < length l → Present (getD l m absent)
 unfolding AllPresent

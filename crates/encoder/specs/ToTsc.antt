@@ -20,7 +20,9 @@ use Rattle.spv.specs.Readings.{bumpReading, tscReading, reading}
 use Rattle.encoder.specs.Convert.{idTsc, bumpToTsc}
 use Rattle.encoder.specs.Output.{roomFor}
 use Rattle.encoder.specs.Taken.{proof-siblings, proof-id}
-use Rattle.encoder.specs.ToTscLaws.{bump-climb, Every, taken-every, siblings-whole, trace-count, SiblingFit, level-siblings-fit, nodes-fit, start-fits, root-fits, content-proves, tsc-content}
+use Rattle.encoder.specs.TakenLaws.{bump-climb, Every, taken-every, siblings-whole, trace-count}
+use Rattle.encoder.specs.HashFits.{SiblingFit, level-siblings-fit, nodes-fit, start-fits, root-fits}
+use Rattle.encoder.specs.ToTscLaws.{content-proves, tsc-content}
 use Rattle.encoder.specs.OutputLaws.{room-told, room-enough}
 
 -- ---- the content is one that the layout can have

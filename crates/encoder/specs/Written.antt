@@ -2,7 +2,7 @@
 use mathlib.Core.Path.{_≡_, refl, _∙_}
 use mathlib.Core.Bool.{Bool, true, false, not}
 use mathlib.Core.List.{List}
-use Prim.Native.Nat.{ℕ, _-_, _/_, _%_, _≤_}
+use Prim.Native.Nat.{ℕ, _/_, _%_, _≤_}
 use lib.ListN.{length}
 use lib.Dec.{leb, eqb}
 use native.Mathlib.Omega.{arith}
@@ -11,7 +11,7 @@ use borrow.Author.Tests.{leb-true}
 use Rattle.format.specs.Basics.{and-true}
 use Rattle.format.specs.Parse.{pick}
 use Rattle.format.specs.Level.{holds}
-use Rattle.format.specs.Refusals.{NOT-LISTED, NO-ROOM, MAX-BLOCK}
+use Rattle.format.specs.Refusals.{NOT-LISTED, MAX-BLOCK}
 use Rattle.spv.specs.declared.rejection.Rejection.{Rejection}
 use Rattle.spv.specs.Result.{Result, accepted, refused, carrying, follow}
 use Rattle.spv.specs.Bundle.{hashes, hashesOf}
@@ -21,7 +21,7 @@ use Rattle.format.specs.Spelling.{AllBytes}
 use Rattle.format.specs.BumpBytes.{bumpBytes}
 use Rattle.encoder.specs.Tree.{node, height, root, treeSiblings, treeClimb, reaches}
 use Rattle.encoder.specs.BlockBump.{blockBump, sized, noneChosen, allBelow, distinct, climbsFrom, writing, Meets}
-use Rattle.encoder.specs.Output.{roomFor}
+use Rattle.encoder.specs.OutputLaws.{room-told}
 use Rattle.encoder.specs.ClimbsLaws.{climbs-reach}
 use Rattle.spv.specs.BundleHashes.{hashes-length}
 use Rattle.encoder.specs.IdsLaws.{ids-hashes}
@@ -60,7 +60,7 @@ record Accepted (block : ℕ) (list chosen : List ℕ) (room : ℕ) (bytes : Lis
   pub no-twin : climbsFrom (hashesOf list) chosen 0 (length list / 32) ≡ accepted tt
 
 found-by : (block : ℕ) (list chosen : List ℕ) (room : ℕ) (bytes : List ℕ) → writing block list chosen room ≡ accepted bytes → Accepted block list chosen room bytes
-unfolding writing roomFor
+unfolding writing
 found-by block list chosen room bytes e =
     let ids : List (List ℕ) = hashesOf list in
     let a = passed (sized block list) _ _ bytes e in
@@ -68,8 +68,8 @@ found-by block list chosen room bytes e =
     let c = passed (allBelow (length list / 32) chosen) _ _ bytes b in
     let d = passed (distinct ids) _ _ bytes (c .1) in
     let f = climbed (climbsFrom ids chosen 0 (length list / 32)) refl (d .1) in
-    let r = room-for (leb (length (bumpBytes (blockBump block ids chosen))) room) refl (f .1) in
-    record { is = r .0; fits = rw (← r .0) (r .1); sizes = a .0; below = c .0; different = d .0; no-twin = f .0 }
+    let r = room-told room (bumpBytes (blockBump block ids chosen)) bytes (f .1) in
+    record { is = r .0; fits = r .1; sizes = a .0; below = c .0; different = d .0; no-twin = f .0 }
   where
     some-chosen : (t : Bool) {w : Result (List ℕ)} → pick t (refused (carrying NOT-LISTED 0)) w ≡ accepted bytes → w ≡ accepted bytes
     some-chosen true m = absurd (let z : _≡_ {A = ℕ} 0 1 = cc in omega arith)
@@ -79,11 +79,6 @@ found-by block list chosen room bytes e =
         → (climbsFrom (hashesOf list) chosen 0 (length list / 32) ≡ accepted tt) × (w ≡ accepted bytes)
     climbed (accepted u) q m = (q, m)
     climbed (refused why) q m = absurd (let z : _≡_ {A = ℕ} 0 1 = cc in omega arith)
-
-    room-for : (t : Bool) → leb (length (bumpBytes (blockBump block (hashesOf list) chosen))) room ≡ t → pick t (accepted (bumpBytes (blockBump block (hashesOf list) chosen))) (refused (carrying NO-ROOM 0)) ≡ accepted bytes
-        → (bumpBytes (blockBump block (hashesOf list) chosen) ≡ bytes) × (length (bumpBytes (blockBump block (hashesOf list) chosen)) ≤ room)
-    room-for true q m = (cc, leb-true _ _ q)
-    room-for false q m = absurd (let z : _≡_ {A = ℕ} 0 1 = cc in omega arith)
 
 -- the bytes of an accepted call
 module _ (block : ℕ) (list chosen : List ℕ) (room : ℕ) (bytes : List ℕ) (call : writing block list chosen room ≡ accepted bytes) where
