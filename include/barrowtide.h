@@ -52,8 +52,8 @@
  * than 24,606 by any. Each node that is asked for is searched for among the leaves of its level;
  * where offsets rise this takes about as long as the joins, and else up to seven times as long.
  * Nothing is kept from one climb to the next: a page climbs once for each id, all clients once for
- * each client leaf, and a bundle once for each transaction that names a BUMP. The worst inputs
- * known, offsets in no order, on a machine where a join takes a microsecond:
+ * each client leaf, and a bundle once for each transaction that names a BUMP. Turning a proof into
+ * the other form climbs once, and takes hardly longer than proving by it. The worst inputs known, offsets in no order, on a machine where a join takes a microsecond:
  *   - one climb, by a BUMP of 150 KB that is mostly copies: 21,484 joins, 0.1 s;
  *   - a page of 256 ids by such a BUMP, or a bundle of 170 KB with 256 transactions in it: 5.5
  *     million joins, 25 s;
