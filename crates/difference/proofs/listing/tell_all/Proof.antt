@@ -1,0 +1,44 @@
+use Prim.Native.Nat.{ℕ}
+use Rattle.difference.specs.MergeLaws.{walked}
+use lib.ListN.{length-replicate}
+use mathlib.Core.Path.{_≡_, refl, sym, ap, _∙_}
+use borrow.Author.Needs.{needs}
+use Rattle.difference.proofs.listing.tell_all.Statement.{statement}
+use Rattle.difference.proofs.listing.tell_all.Tie as tie
+use Rattle.difference.proofs.listing.tell_all.Reads as reads
+use Rattle.difference.proofs.listing.tell_all.Lts as lts
+use Rattle.difference.proofs.listing.put_unless.Reads as put-unless-reads
+use Rattle.difference.proofs.listing.tell_levels.Reads as tell-levels-reads
+
+put-unless-requires : tie.Need-put-unless-requires
+put-unless-requires c κs = search needs
+
+put-unless-requires-2 : tie.Need-put-unless-requires-2
+put-unless-requires-2 c κs = search needs
+
+slice-aggregate-tell-levels : tie.Need-slice-aggregate-tell-levels
+slice-aggregate-tell-levels c = search needs
+
+slice-aggregate-tell-levels-2 : tie.Need-slice-aggregate-tell-levels-2
+slice-aggregate-tell-levels-2 c = search needs
+
+tell-levels-requires : tie.Need-tell-levels-requires
+tell-levels-requires c κs = search needs
+
+same-length : tie.Need-same-length
+same-length c = search needs
+
+returns : tie.Need-returns
+returns c = walked _ _ _ _ _ _ _ _ (length-replicate {A = ℕ} 1024 0) (length-replicate {A = ℕ} 1024 0) (c .before .before .before .before .before .before .before .before .before .before .before .before .before .before .before .before .put-unless .ensures) (c .before .before .before .before .before .before .before .before .before .before .put-unless2 .ensures) (c .before .before .before .before .tell-levels .ensures)
+
+pub tell-all-spec : {M : Type 1} → statement M
+tell-all-spec =
+    tie.close
+    (tie.spec
+    put-unless-requires
+    put-unless-requires-2
+    slice-aggregate-tell-levels
+    slice-aggregate-tell-levels-2
+    tell-levels-requires
+    same-length
+    returns)

@@ -1,0 +1,134 @@
+-- Laws of telling the differences of a level, one for each turn of a loop.
+use mathlib.Core.Path.{_≡_, refl, ap, sym, _∙_}
+use mathlib.Core.List.{List, [], _∷_}
+use mathlib.Core.Bool.{Bool, true, false}
+use Prim.Native.Nat.{ℕ, zero, suc, _+_, _-_, _<_, _≤_}
+use lib.ListN.{length, getD, take, drop, drop-of-length-le}
+use lib.Seq.{drop-cons}
+use lib.Dec.{eqb, ltb}
+use native.Mathlib.Omega.{arith}
+use native.Mathlib.Numerals.{add-one}
+use borrow.Author.Tests.{eq-eqb, ne-eqb}
+use Rattle.format.specs.declared.level.Layout.{Layout}
+use Rattle.format.specs.declared.level.Leaf.{Leaf}
+use Rattle.format.specs.Parse.{pick, got, bad}
+use Rattle.format.specs.Basics.{one-less}
+use Rattle.format.specs.declared.bump.BumpHead.{BumpHead}
+use Rattle.format.specs.Refusals.{MAX-LEAVES}
+use Rattle.format.specs.Search.{looseLeaf}
+use Rattle.format.specs.BumpBytes.{Entry, copy, carriedOf}
+use Rattle.difference.specs.declared.level.Next.{Next}
+use Rattle.difference.specs.declared.level.Next.the-variants.{Offset, End}
+use Rattle.difference.specs.Differences.{Standing, stands, nothing, Difference, told, tell, higher}
+use Rattle.difference.specs.Page.{Page, putAll, toldWord, putPlace, putUnless}
+use Rattle.difference.specs.PageLaws.{all-told}
+use Rattle.difference.specs.Sorted.{offsetAt, carriedAt, entries, Gathering, gathering, gatherLevel}
+use Rattle.difference.specs.Merge.{nextOf, lesser, front, past, onNext, merged, walk, walkAll}
+
+module _ (s l : List ℕ) (i : ℕ) where
+  none-left : length l ≤ i → entries s (drop i l) ≡ []
+  none-left h = ap (entries s) (drop-of-length-le l h)
+
+  pub next-end : length l ≤ i → nextOf (entries s (drop i l)) ≡ End
+  unfolding nextOf
+  next-end h = rw (none-left h)
+
+  pub front-end : (o : ℕ) → length l ≤ i → front o (entries s (drop i l)) ≡ nothing
+  unfolding front
+  front-end o h = rw (none-left h)
+
+  pub past-end : (o : ℕ) → length l ≤ i → entries s (drop i l) ≡ past o (entries s (drop i l))
+  unfolding past
+  past-end o h = rw (none-left h) refl
+
+  module _ (h : i < length l) {a : ℕ} (e : a ≡ offsetAt s (getD l i 0)) where
+    pub next-here : nextOf (entries s (drop i l)) ≡ Offset a
+    unfolding nextOf
+    next-here = rw (drop-cons l i 0 h, e)
+
+    pub front-other : (o : ℕ) → (a ≡ o → ⊥) → front o (entries s (drop i l)) ≡ nothing
+    unfolding front
+    front-other o f = rw (drop-cons l i 0 h, ← e, ne-eqb a o f)
+
+    pub front-stuck : (o : ℕ) {k q : ℕ} → a ≡ o → looseLeaf Layout.Bump s (getD l i 0) ≡ bad k q → front o (entries s (drop i l)) ≡ stands copy
+    unfolding front carriedAt
+    front-stuck o f g = rw (drop-cons l i 0 h, ← e, eq-eqb a o f, g)
+
+    pub front-here : (o : ℕ) {leaf : Leaf} {q : ℕ} → a ≡ o → looseLeaf Layout.Bump s (getD l i 0) ≡ got leaf q → front o (entries s (drop i l)) ≡ stands (carriedOf s (leaf .kind))
+    unfolding front carriedAt
+    front-here o f g = rw (drop-cons l i 0 h, ← e, eq-eqb a o f, g)
+
+    pub past-other : (o : ℕ) → (a ≡ o → ⊥) → entries s (drop i l) ≡ past o (entries s (drop i l))
+    unfolding past
+    past-other o f = rw (drop-cons l i 0 h, ← e, ne-eqb a o f) refl
+
+    pub past-here : (o : ℕ) → a ≡ o → entries s (drop (i + 1) l) ≡ past o (entries s (drop i l))
+    unfolding past
+    past-here o f = rw (drop-cons l i 0 h, ← e, eq-eqb a o f, add-one) refl
+
+module _ (write : Bool) (p : Page) (n i k : ℕ) (x y : List Entry) where
+  pub merge-end : n ≤ i → putAll write p (merged (n - i) k x y) ≡ p
+  unfolding merged putAll
+  merge-end h = let e : n - i ≡ 0 = omega arith in rw e
+
+  module _ (h : i < n) where
+    turn : (a : Next) → lesser (nextOf x) (nextOf y) ≡ a
+        → merged (n - i) k x y ≡ onNext a (λ o. tell k o (told (front o x) (front o y)) (merged (n - (i + 1)) k (past o x) (past o y)))
+    unfolding merged
+    turn a e = rw (one-less n i h, e) refl
+
+    pub merge-stop : lesser (nextOf x) (nextOf y) ≡ End → putAll write p (merged (n - i) k x y) ≡ p
+    unfolding putAll
+    merge-stop e = ap (putAll write p) (turn End e)
+
+    pub merge-on : {o what : ℕ} {p′ : Page} {x′ y′ : List Entry} → lesser (nextOf x) (nextOf y) ≡ Offset o → what ≡ toldWord (told (front o x) (front o y))
+        → p′ ≡ putPlace write p what k o → x′ ≡ past o x → y′ ≡ past o y → putAll write p (merged (n - i) k x y) ≡ putAll write p′ (merged (n - (i + 1)) k x′ y′)
+    merge-on {o} {what} {p′} {x′} {y′} e f g a b =
+        ap (putAll write p) (turn (Offset o) e)
+        ∙ all-told write p k o (told (front o x) (front o y)) (merged (n - (i + 1)) k (past o x) (past o y))
+        ∙ ap (λ (v : ℕ). putAll write (putPlace write p v k o) (merged (n - (i + 1)) k (past o x) (past o y))) (sym f)
+        ∙ ap (λ (q : Page). putAll write q (merged (n - (i + 1)) k (past o x) (past o y))) (sym g)
+        ∙ ap (λ (v : List Entry). putAll write p′ (merged (n - (i + 1)) k v (past o y))) (sym a)
+        ∙ ap (λ (v : List Entry). putAll write p′ (merged (n - (i + 1)) k x′ v)) (sym b)
+
+module _ (write : Bool) (s : List ℕ) (hx rx : ℕ) (t : List ℕ) (hy ry h k c d : ℕ) (p : Page) where
+  pub walk-end : h ≤ k → walk write s hx rx t hy ry (h - k) k c d p ≡ p
+  unfolding walk
+  walk-end g = let e : h - k ≡ 0 = omega arith in rw e
+
+  pub walk-high : {h′ : ℕ} → h ≡ h′ → walk write s hx rx t hy ry h′ k c d p ≡ walk write s hx rx t hy ry h k c d p
+  walk-high e = ap (λ (n : ℕ). walk write s hx rx t hy ry n k c d p) (sym e)
+
+  unfoldable after : Gathering → Gathering → Page
+  after v w = walk write s hx rx t hy ry (h - (k + 1)) (k + 1) (v .next) (w .next) (putAll write p (merged 2048 k (entries s (v .places)) (entries t (w .places))))
+
+  pub walk-on : (a b : List ℕ) (c′ d′ : ℕ) (p′ : Page) (rx′ ry′ : ℕ) → k < h → rx′ ≡ rx → ry′ ≡ ry → gathering a c′ ≡ gatherLevel rx′ s hx k c → gathering b d′ ≡ gatherLevel ry′ t hy k d
+      → p′ ≡ putAll write p (merged 2048 k (entries s a) (entries t b)) → walk write s hx rx t hy ry (h - k) k c d p ≡ walk write s hx rx t hy ry (h - (k + 1)) (k + 1) c′ d′ p′
+  unfolding walk after
+  walk-on a b c′ d′ p′ rx′ ry′ g i l e f j =
+      let m : gatherLevel rx s hx k c ≡ gathering a c′ = ap (λ (r : ℕ). gatherLevel r s hx k c) (sym i) ∙ sym e in
+      let n : gatherLevel ry t hy k d ≡ gathering b d′ = ap (λ (r : ℕ). gatherLevel r t hy k d) (sym l) ∙ sym f in
+      ap (λ (r : ℕ). walk write s hx rx t hy ry r k c d p) (one-less h k g)
+      ∙ ap (λ (v : Gathering). after v (gatherLevel ry t hy k d)) m
+      ∙ ap (λ (v : Gathering). after (gathering a c′) v) n
+      ∙ ap (walk write s hx rx t hy ry (h - (k + 1)) (k + 1) c′ d′) (sym j)
+
+-- the least of the two offsets, and what is told of it, by the parts that code works out
+pub least : (x y : List Entry) {a b c d : Next} → a ≡ nextOf x → b ≡ nextOf y → c ≡ lesser a b → c ≡ d → lesser (nextOf x) (nextOf y) ≡ d
+least x y {a} {b} {c} {d} e f g h = ap (λ (v : Next). lesser v (nextOf y)) (sym e) ∙ ap (lesser a) (sym f) ∙ sym g ∙ h
+
+pub told-there : (x y : List Entry) (o : ℕ) {f g : Standing} {what : ℕ} → f ≡ front o x → g ≡ front o y → what ≡ toldWord (told f g) → what ≡ toldWord (told (front o x) (front o y))
+told-there x y o {f} {g} e h i = i ∙ ap (λ (v : Standing). toldWord (told v g)) e ∙ ap (λ (v : Standing). toldWord (told (front o x) v)) h
+
+-- the two heights, then the levels, as code tells them one after the other
+pub walked : (write : Bool) (s : List ℕ) (x : BumpHead) (t : List ℕ) (y : BumpHead) (p : Page) {p₁ p₂ p₃ : Page} (rx ry : ℕ) → rx ≡ MAX-LEAVES → ry ≡ MAX-LEAVES
+    → p₁ ≡ putUnless (eqb (x .block) (y .block)) write p 1 → p₂ ≡ putUnless (eqb (x .height) (y .height)) write p₁ 2
+    → p₃ ≡ walk write s (x .height) rx t (y .height) ry (higher (x .height) (y .height)) 0 (x .levels .at) (y .levels .at) p₂ → p₃ ≡ walkAll write s x t y p
+unfolding walkAll
+walked write s x t y p {p₁} {p₂} {p₃} rx ry a b c d e =
+    let above : Page → Page = walk write s (x .height) MAX-LEAVES t (y .height) MAX-LEAVES (higher (x .height) (y .height)) 0 (x .levels .at) (y .levels .at) in
+    e
+    ∙ ap (λ (r : ℕ). walk write s (x .height) r t (y .height) ry (higher (x .height) (y .height)) 0 (x .levels .at) (y .levels .at) p₂) a
+    ∙ ap (λ (r : ℕ). walk write s (x .height) MAX-LEAVES t (y .height) r (higher (x .height) (y .height)) 0 (x .levels .at) (y .levels .at) p₂) b
+    ∙ ap above d
+    ∙ ap (λ (q : Page). above (putUnless (eqb (x .height) (y .height)) write q 2)) c

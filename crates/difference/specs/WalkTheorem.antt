@@ -1,0 +1,171 @@
+-- The differences of two BUMPs that were read, told level by level, are those of the definition.
+use mathlib.Core.Path.{_≡_, refl, ap, sym, subst, _∙_}
+use mathlib.Core.List.{List, [], _∷_, _++_, map}
+use mathlib.Core.Bool.{Bool, true, false}
+use Prim.Native.Nat.{ℕ, zero, suc, _+_, _-_, _^_, _<_, _≤_}
+use lib.ListN.{length, getD, drop, length-map, List·getD-map, List·getD-eq-default}
+use lib.Seq.{getD-drop, drop-drop}
+use lib.Dec.{leb, eqb}
+use lib.Pow.{pow-mono}
+use native.Mathlib.Omega.{arith}
+use native.Mathlib.Numerals.{add-one}
+use native.Mathlib.Nat.{sub-zero}
+use borrow.Author.Tests.{leb-true, leb-false}
+use Rattle.format.specs.declared.level.Layout.{Layout}
+use Rattle.format.specs.declared.level.Leaf.{Leaf}
+use Rattle.format.specs.declared.bump.BumpHead.{BumpHead}
+use Rattle.format.specs.Basics.{one-less}
+use Rattle.format.specs.Parse.{many, _passing_else_, got, bad}
+use Rattle.format.specs.ParseLaws.{onward-told, passing-told, many-told, many-length}
+use Rattle.format.specs.Field.{varint}
+use Rattle.format.specs.Refusals.{OVER-LIMIT, MAX-LEAVES}
+use Rattle.format.specs.Level.{leafField, andOffset, levelField, levelOfTurn, levelInTurn, nextTurn, levelFields}
+use Rattle.format.specs.Bump.{Bump, bumpWhole, headOf}
+use Rattle.format.specs.BumpLaws.{bump-whole-told}
+use Rattle.format.specs.BumpBytes.{Entry, Content, entryOf, levelsOf, contentOf}
+use Rattle.difference.specs.Differences.{Standing, nothing, at, standing, Difference, offsetsFrom, levelsFrom, higher, differences}
+use Rattle.difference.specs.Once.{Within, higher-bounds}
+use Rattle.difference.specs.Page.{Page, putAll, putUnless}
+use Rattle.difference.specs.PageLaws.{all-block, all-height, all-append}
+use Rattle.difference.specs.InOrder.{From, Under, InOrder, orElse, from-least, under-weaken, at-above}
+use Rattle.difference.specs.Sorted.{entryAt, entries, Gathering, gathering, gatherFrom, gatherLevel}
+use Rattle.difference.specs.SortedLaws.{level-above, level-gathered}
+use Rattle.difference.specs.SortedTheorem.{Gathers, gather-read}
+use Rattle.difference.specs.Merge.{merged, walk, walkAll}
+use Rattle.difference.specs.MergeTheorem.{offsets-same, merged-all}
+
+-- the levels from k on, read from a place
+abbrev Ahead : List ℕ → ℕ → ℕ → ℕ → List (List Leaf) → ℕ → Type 0
+Ahead s h k p ls q = many (levelInTurn Layout.Bump h) nextTurn (h - k) k s p ≡ got ls q
+
+-- what is gathered of level k, of which the levels from k on were read
+record Level (s : List ℕ) (h k : ℕ) (ls : List (List Leaf)) (q : ℕ) (g : Gathering) : Type 0 where
+  order : InOrder (entries s (g .places))
+  under : Under (2 ^ (h - k)) (entries s (g .places))
+  stood : (o : ℕ) → at o (entries s (g .places)) ≡ at o (map (entryOf s) (getD ls 0 []))
+  few : length (g .places) ≤ 1024
+  ahead : Ahead s h (k + 1) (g .next) (drop 1 ls) q
+
+module _ (s : List ℕ) (h k p : ℕ) where
+  none-left : (ls : List (List Leaf)) (q : ℕ) → h ≤ k → Ahead s h k p ls q → Level s h k ls q (gathering [] p)
+  unfolding many InOrder Under at
+  none-left ls q g e =
+      let a : h - k ≡ 0 = omega arith in
+      let b : h - (k + 1) ≡ 0 = omega arith in
+      let f : got [] p ≡ got ls q = subst (λ (n : ℕ). many (levelInTurn Layout.Bump h) nextTurn n k s p ≡ got ls q) a e in
+      let l : [] ≡ ls = cc in
+      subst (λ (v : List (List Leaf)). Level s h k v q (gathering [] p)) l
+      (record { order = tt; under = tt; stood = λ o. refl; few = omega arith; ahead = rw b (f ∙ ap (λ (v : List (List Leaf)). got v q) (sym l)) })
+
+  level-told : (g : k < h) (l : List Leaf) (r : ℕ) (rest : List (List Leaf)) (q : ℕ) → levelInTurn Layout.Bump h k s p ≡ got l r → Ahead s h (k + 1) r rest q
+      → Level s h k (l ∷ rest) q (gatherLevel 1024 s h k p)
+  unfolding levelOfTurn levelField InOrder Under at orElse
+  level-told g l r rest q e f =
+      let x = onward-told ((varint passing (λ n. leb n MAX-LEAVES) else OVER-LIMIT) s p) _ e in
+      let v = passing-told varint (λ n. leb n MAX-LEAVES) OVER-LIMIT s p (x .2) in
+      let few = leb-true (x .0) MAX-LEAVES (v .1) in
+      let size = many-length (leafField Layout.Bump (2 ^ (h - k)) k) andOffset (x .0) [] s (x .1) (x .3) in
+      let t = gather-read s (2 ^ (h - k)) k (x .0) [] (x .1) [] tt tt (λ o _. refl) (x .3) in
+      subst (λ (w : Gathering). Level s h k (l ∷ rest) q w) (sym (level-gathered 1024 s h k p g (v .0) few))
+      (record {
+        order = t .order;
+        under = t .under;
+        stood = t .stood;
+        few = (let a = t .size in omega (arith, a, size, few));
+        ahead = subst (λ (w : ℕ). Ahead s h (k + 1) w rest q) (sym (t .next)) f;
+      })
+
+  gathered : (ls : List (List Leaf)) (q : ℕ) → Ahead s h k p ls q → Level s h k ls q (gatherLevel 1024 s h k p)
+  gathered ls q e = go (leb h k) refl
+    where
+      some : (g : k < h) → Level s h k ls q (gatherLevel 1024 s h k p)
+      some g =
+          let x = many-told (levelInTurn Layout.Bump h) nextTurn (h - (k + 1)) k s p (subst (λ (n : ℕ). many (levelInTurn Layout.Bump h) nextTurn n k s p ≡ got ls q) (one-less h k g) e) in
+          subst (λ (v : List (List Leaf)). Level s h k v q (gatherLevel 1024 s h k p)) (x .5) (level-told g (x .0) (x .1) (x .2) q (x .3) (x .4))
+
+      go : (b : Bool) → leb h k ≡ b → Level s h k ls q (gatherLevel 1024 s h k p)
+      go true f =
+          let g = leb-true h k f in
+          subst (λ (w : Gathering). Level s h k ls q w) (sym (level-above 1024 s h k p g)) (none-left ls q g e)
+      go false f = some (leb-false h k f)
+
+length-map-few : (s t l m : List ℕ) → length l ≤ 1024 → length m ≤ 1024 → length (entries s l) + length (entries t m) ≤ 2048
+length-map-few s t l m h i = let a = length-map l (entryAt s) in let b = length-map m (entryAt t) in omega (arith, a, b)
+
+empty-at : (o : ℕ) → at o [] ≡ nothing
+unfolding at
+empty-at o = refl
+
+drop-map : (s : List ℕ) (ls : List (List Leaf)) → drop 1 (levelsOf s ls) ≡ levelsOf s (drop 1 ls)
+drop-map s [] = refl
+drop-map s (l ∷ ls) = refl
+
+-- a content's levels from k on are those read
+module _ (s : List ℕ) (x : Content) (k : ℕ) (ls : List (List Leaf)) (e : drop k (x .levels) ≡ levelsOf s ls) where
+  level-is : getD (x .levels) k [] ≡ map (entryOf s) (getD ls 0 [])
+  level-is =
+      let a : k + 0 ≡ k = omega arith in
+      ap (λ (j : ℕ). getD (x .levels) j []) (sym a) ∙ sym (getD-drop k (x .levels) 0 []) ∙ ap (λ (v : List (List Entry)). getD v 0 []) e ∙ List·getD-map (map (entryOf s)) ls 0 []
+
+  levels-are : drop (k + 1) (x .levels) ≡ levelsOf s (drop 1 ls)
+  levels-are = sym (drop-drop 1 k (x .levels)) ∙ ap (drop 1) e ∙ drop-map s ls
+
+module _ (write : Bool) (s : List ℕ) (x : Content) (hx qx : ℕ) (t : List ℕ) (y : Content) (hy qy : ℕ) where
+  walk-told : (n k c d : ℕ) (p : Page) (ls lt : List (List Leaf)) → Ahead s hx k c ls qx → Ahead t hy k d lt qy → drop k (x .levels) ≡ levelsOf s ls → drop k (y .levels) ≡ levelsOf t lt
+      → hx ≤ k + n → hy ≤ k + n → walk write s hx 1024 t hy 1024 n k c d p ≡ putAll write p (levelsFrom x y n k)
+  unfolding walk levelsFrom putAll standing
+  walk-told zero k c d p ls lt a b e f g h = refl
+  walk-told (suc n) k c d p ls lt a b e f g h =
+      let u = gathered s hx k c ls qx a in
+      let v = gathered t hy k d lt qy b in
+      let xs : List Entry = entries s (gatherLevel 1024 s hx k c .places) in
+      let ys : List Entry = entries t (gatherLevel 1024 t hy k d .places) in
+      let wide : (m : ℕ) → m ≤ k + suc n → 2 ^ (m - k) ≤ 0 + 2 ^ suc n = λ m i. (let w : 2 ^ (m - k) ≤ 2 ^ suc n = pow-mono (omega arith) in omega (arith, w)) in
+      let told : merged 2048 k xs ys ≡ offsetsFrom k (standing x k) (standing y k) (2 ^ suc n) 0 =
+      merged-all k (2 ^ suc n) 2048 0 xs ys (u .order) (v .order) (from-least xs) (from-least ys) (under-weaken (2 ^ (hx - k)) (0 + 2 ^ suc n) xs (wide hx g) (u .under)) (under-weaken (2 ^ (hy - k)) (0 + 2 ^ suc n) ys (wide hy h) (v .under))
+      (let i = u .few in let j = v .few in length-map-few s t (gatherLevel 1024 s hx k c .places) (gatherLevel 1024 t hy k d .places) i j)
+      ∙ offsets-same k (λ o. at o xs) (standing x k) (λ o. at o ys) (standing y k) (2 ^ suc n) 0
+      (λ o _. u .stood o ∙ ap (at o) (sym (level-is s x k ls e))) (λ o _. v .stood o ∙ ap (at o) (sym (level-is t y k lt f))) in
+      walk-told n (k + 1) (gatherLevel 1024 s hx k c .next) (gatherLevel 1024 t hy k d .next) (putAll write p (merged 2048 k xs ys)) (drop 1 ls) (drop 1 lt) (u .ahead) (v .ahead)
+      (levels-are s x k ls e) (levels-are t y k lt f) (omega arith) (omega arith)
+      ∙ ap (λ (j : ℕ). putAll write (putAll write p (merged 2048 k xs ys)) (levelsFrom x y n j)) (add-one k)
+      ∙ ap (λ (l : List Difference). putAll write (putAll write p l) (levelsFrom x y n (suc k))) told
+      ∙ sym (all-append write p (offsetsFrom k (standing x k) (standing y k) (2 ^ suc n) 0) (levelsFrom x y n (suc k)))
+
+-- the whole of two BUMPs
+pub told-all : (write : Bool) (s t : List ℕ) {x y : Bump} {q r : ℕ} (p : Page) → bumpWhole s ≡ got x q → bumpWhole t ≡ got y r
+    → walkAll write s (headOf x) t (headOf y) p ≡ putAll write p (differences (contentOf s x) (contentOf t y))
+unfolding walkAll differences
+told-all write s t {x} {y} {q} {r} p e f =
+    let a : Ahead s (x .height) 0 (x .start) (x .levels) q = simp sub-zero (bump-whole-told s e .levels) in
+    let b : Ahead t (y .height) 0 (y .start) (y .levels) r = simp sub-zero (bump-whole-told t f .levels) in
+    let h = higher-bounds (x .height) (y .height) in
+    let g : x .height ≤ 0 + higher (x .height) (y .height) = (let i = h .0 in omega (arith, i)) in
+    let j : y .height ≤ 0 + higher (x .height) (y .height) = (let i = h .1 in omega (arith, i)) in
+    walk-told write s (contentOf s x) (x .height) q t (contentOf t y) (y .height) r (higher (x .height) (y .height)) 0 (x .start) (y .start)
+    (putUnless (eqb (x .height) (y .height)) write (putUnless (eqb (x .block) (y .block)) write p 1) 2) (x .levels) (y .levels) a b refl refl g j
+    ∙ sym (all-block write p (eqb (x .block) (y .block)) _ ∙ all-height write (putUnless (eqb (x .block) (y .block)) write p 1) (eqb (x .height) (y .height)) _)
+
+-- what was read stands within its tree
+inside-from : (s : List ℕ) (h k p : ℕ) (ls : List (List Leaf)) (q j o : ℕ) → Ahead s h k p ls q → 2 ^ (h - (k + j)) ≤ o → at o (map (entryOf s) (getD ls j [])) ≡ nothing
+inside-from s h k p ls q zero o e g =
+    let u = gathered s h k p ls q e in
+    let a : k + zero ≡ k = omega arith in
+    sym (u .stood o) ∙ at-above o (2 ^ (h - k)) (entries s (gatherLevel 1024 s h k p .places)) (u .under) (subst (λ (m : ℕ). 2 ^ (h - m) ≤ o) a g)
+inside-from s h k p [] q (suc j) o e g = empty-at o
+inside-from s h k p (l ∷ ls) q (suc j) o e g =
+    let u = gathered s h k p (l ∷ ls) q e in
+    let a : k + suc j ≡ k + 1 + j = omega arith in
+    inside-from s h (k + 1) (gatherLevel 1024 s h k p .next) ls q j o (u .ahead) (subst (λ (m : ℕ). 2 ^ (h - m) ≤ o) a g)
+
+pub within : (s : List ℕ) {b : Bump} {q : ℕ} → bumpWhole s ≡ got b q → Within (contentOf s b)
+unfolding standing
+within s {b} {q} e =
+    let u = bump-whole-told s e .levels in
+    let n = many-length (levelInTurn Layout.Bump (b .height)) nextTurn (b .height) 0 s (b .start) u in
+    record {
+      below = λ k o h. ap (at o) (List·getD-map (map (entryOf s)) (b .levels) k [] ∙ ap (map (entryOf s)) (List·getD-eq-default (b .levels) [] (omega (arith, n, h)))) ∙ empty-at o;
+      inside = λ k o h.
+          ap (at o) (List·getD-map (map (entryOf s)) (b .levels) k [])
+          ∙ inside-from s (b .height) 0 (b .start) (b .levels) q k o (simp sub-zero u) (let a : 0 + k ≡ k = omega arith in subst (λ (m : ℕ). 2 ^ (b .height - m) ≤ o) (sym a) h);
+    }

@@ -1,0 +1,10 @@
+// Two BUMPs side by side: the list of their differences, and the shorter of two that prove an id to one root (paper 02, Item 7).
+mod level;
+mod listing;
+mod weighing;
+
+pub use listing::Listed;
+pub use listing::list_differences;
+pub use weighing::Weighed;
+pub use weighing::shorter;
+pub use weighing::weigh;
