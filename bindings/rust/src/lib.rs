@@ -10,6 +10,7 @@
 //! - [`prove_page`], [`prove_page_into`]: the same for many ids of one BUMP
 //! - [`compare`]: two proofs under one root that disagree on the id hold two strings of one hash
 //! - [`judge`], [`judge_beef`]: does every payment of a BEEF bundle rest on a trusted root?
+//! - [`differences`], [`differences_into`], [`shorter`]: two BUMPs side by side
 //! - [`write_bump`], [`write_bump_into`]: the BUMP that proves some of a block's ids
 //! - [`tsc_to_bump`], [`bump_to_tsc`], and into lent room [`tsc_to_bump_into`],
 //!   [`bump_to_tsc_into`]: a TSC proof as a BUMP, and an id's climb in a BUMP as a TSC proof
@@ -41,6 +42,7 @@ mod bump;
 mod cmp;
 mod compare;
 mod convert;
+mod difference;
 pub mod ffi;
 mod hash;
 pub mod hex;
@@ -61,6 +63,7 @@ pub use convert::{
     bump_to_tsc, bump_to_tsc_into, tsc_to_bump, tsc_to_bump_into, BUMP_TO_TSC_ROOM,
     TSC_TO_BUMP_ROOM,
 };
+pub use difference::{differences, differences_into, shorter, Difference, Side, MAX_DIFFERENCES};
 pub use hash::{join, sha256d, Hash, MAX_INPUT};
 pub use judge::{judge, judge_beef, Record, Verdict, MAX_TRANSACTIONS};
 pub use page::{prove_page, prove_page_into, Answer, MAX_PAGE};

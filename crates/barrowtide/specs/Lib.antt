@@ -4,3 +4,5 @@ pub mod Forms
 pub mod FormsLaws
 pub mod Answers
 pub mod AnswersLaws
+pub mod Choices
+pub mod ChoicesLaws

@@ -2,6 +2,7 @@
 // struct of three 64-bit numbers, lent as an array of them.
 mod blame;
 pub mod convert;
+pub mod differences;
 pub mod judge;
 pub mod pages;
 pub mod prove;

@@ -3,7 +3,7 @@
 //!
 //! Each call (but [`join`]) returns 01's refusal number, or 0 if it accepts. A refusal writes all
 //! three numbers of `blame` and leaves all other lent memory as it was, except that a lent table or
-//! row is zeroed. Acceptance writes the values and leaves `blame` as it was, and the room past what
+//! row is zeroed, and that [`shorter`] hands back no bytes. Acceptance writes the values and leaves `blame` as it was, and the room past what
 //! is written.
 //!
 //! The functions one module up are made of these and are nicer to use; these show what becomes of
@@ -14,6 +14,7 @@ mod blame;
 mod bundle;
 mod compare;
 mod convert;
+mod difference;
 mod hash;
 mod judge;
 mod page;
@@ -25,6 +26,7 @@ pub use blame::Blame;
 pub use bundle::{read_beef, read_transaction, read_tsc};
 pub use compare::{compare, Lent};
 pub use convert::{bump_to_tsc, tsc_to_bump};
+pub use difference::{differences, shorter};
 pub use hash::{join, sha256d};
 pub use judge::judge_beef;
 pub use page::prove_page;

@@ -14,6 +14,7 @@ pub mod climb;
 pub mod cmp;
 pub mod compare;
 pub mod convert;
+pub mod difference;
 pub mod fields;
 pub mod generate;
 pub mod hex;

@@ -1,0 +1,32 @@
+use Rattle.difference.specs.Shorter.{choiceOf, handed}
+use mathlib.Core.Path.{_≡_, refl, sym, ap, _∙_}
+use borrow.Author.Needs.{needs}
+use Rattle.barrowtide.proofs.differences.part_length.Statement.{statement}
+use Rattle.barrowtide.proofs.differences.part_length.Tie as tie
+use Rattle.barrowtide.proofs.differences.part_length.Reads as reads
+use Rattle.barrowtide.proofs.differences.part_length.Lts as lts
+
+enum-told : tie.Need-enum-told
+enum-told c = search needs
+
+enum-told-2 : tie.Need-enum-told-2
+enum-told-2 c = search needs
+
+enum-told-3 : tie.Need-enum-told-3
+enum-told-3 c = search needs
+
+returns : tie.Need-returns
+unfolding choiceOf handed
+returns c = rw (c .enum-told .given .1) refl
+
+returns-2 : tie.Need-returns-2
+unfolding choiceOf handed
+returns-2 c = rw (c .enum-told2 .given .1) refl
+
+returns-3 : tie.Need-returns-3
+unfolding choiceOf handed
+returns-3 c = rw (c .enum-told3 .given .1) refl
+
+pub part-length-spec : {M : Type 1} → statement M
+part-length-spec =
+    tie.close (tie.spec enum-told enum-told-2 enum-told-3 returns returns-2 returns-3)

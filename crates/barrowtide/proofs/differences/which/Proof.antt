@@ -1,0 +1,32 @@
+use Rattle.barrowtide.specs.Choices.{whichOf}
+use Rattle.difference.specs.Shorter.{choiceOf}
+use mathlib.Core.Path.{_≡_, refl, sym, ap, _∙_}
+use borrow.Author.Needs.{needs}
+use Rattle.barrowtide.proofs.differences.which.Statement.{statement}
+use Rattle.barrowtide.proofs.differences.which.Tie as tie
+use Rattle.barrowtide.proofs.differences.which.Reads as reads
+use Rattle.barrowtide.proofs.differences.which.Lts as lts
+
+enum-told : tie.Need-enum-told
+enum-told c = search needs
+
+enum-told-2 : tie.Need-enum-told-2
+enum-told-2 c = search needs
+
+enum-told-3 : tie.Need-enum-told-3
+enum-told-3 c = search needs
+
+returns : tie.Need-returns
+unfolding choiceOf whichOf
+returns c = rw (c .enum-told .given .1) refl
+
+returns-2 : tie.Need-returns-2
+unfolding choiceOf whichOf
+returns-2 c = rw (c .enum-told2 .given .1) refl
+
+returns-3 : tie.Need-returns-3
+unfolding choiceOf whichOf
+returns-3 c = rw (c .enum-told3 .given .1) refl
+
+pub which-spec : {M : Type 1} → statement M
+which-spec = tie.close (tie.spec enum-told enum-told-2 enum-told-3 returns returns-2 returns-3)
