@@ -23,6 +23,7 @@
  *   - in judging, transaction by transaction, 19, then 13, 14 or 15, 17 if it names a BUMP, and 20
  *     if not;
  *   - in comparing the first proof's refusal, the second's, 23, 24;
+ *   - of two BUMPs side by side the first one's, the second's, then 22 or 23;
  *   - in writing 5, 13, 6, 19, 15, 22;
  *   - in turning a TSC proof into a BUMP those of reading and proving, then 4, then 22; in turning
  *     an id's climb in a BUMP into a TSC proof those of reading and proving, then 22.
@@ -31,7 +32,8 @@
  * followed. All other pointers must be to memory of the size said, not null. What is lent by a
  * pointer to const is only read; what is lent by another must not overlap with anything else lent
  * to the same call. On a refusal all three numbers of *blame are written and everything else stays
- * as it was, but for a lent table or row, which is zeroed. On acceptance the values are written and
+ * as it was, but for a lent table or row, which is zeroed, and for what barrowtide_shorter hands
+ * back, which is an empty part. On acceptance the values are written and
  * *blame stays as it was, and so does the room past what is written.
  *
  * Stack. As built by the kit a call needs at most
@@ -39,7 +41,7 @@
  *   - 48 KiB  barrowtide_write_bump
  *   - 32 KiB  barrowtide_compare, barrowtide_bump_to_tsc
  *   - 24 KiB  barrowtide_prove_bump, barrowtide_prove_cmp, barrowtide_prove_page,
- *             barrowtide_check_clients
+ *             barrowtide_check_clients, barrowtide_differences, barrowtide_shorter
  *   -  8 KiB  barrowtide_read_bump, barrowtide_read_cmp, barrowtide_read_beef,
  *             barrowtide_prove_tsc, barrowtide_tsc_to_bump
  *   -  1 KiB  barrowtide_sha256d, barrowtide_join
@@ -84,6 +86,7 @@
 #define BARROWTIDE_WRITE_ROOM 36864            /* bytes that are enough for any BUMP written */
 #define BARROWTIDE_TSC_TO_BUMP_ROOM 1246       /* bytes that are enough for any TSC proof's BUMP */
 #define BARROWTIDE_BUMP_TO_TSC_ROOM 1127       /* bytes that are enough for any TSC proof made */
+#define BARROWTIDE_MAX_DIFFERENCES 47104       /* differences that two BUMPs have at most */
 
 #ifdef __cplusplus
 extern "C" {
@@ -126,8 +129,10 @@ enum barrowtide_refusal {
     BARROWTIDE_NO_PARENT = 20,    /* an input has no earlier parent | tx */
     BARROWTIDE_BAD_ROOTS = 21,    /* the list of roots is not a multiple of 32 bytes | 0 */
     BARROWTIDE_NO_ROOM = 22,      /* the table has fewer records than transactions | count field
-                                     the bytes to write or the ids are more than the room | 0 */
-    BARROWTIDE_UNLIKE = 23,       /* two proofs differ in root, position or layers | 0 */
+                                     the bytes to write, the ids or the differences are more than
+                                     the room | 0 */
+    BARROWTIDE_UNLIKE = 23,       /* two proofs differ in root, position or layers; of two BUMPs
+                                     side by side only in root | 0 */
     BARROWTIDE_SAME_ID = 24       /* two proofs agree and prove one id | 0 */
 };
 /* "tx": the number of the transaction where a BEEF is judged, and 0 from all other calls. From
@@ -256,6 +261,41 @@ uint32_t barrowtide_compare(uint32_t first_form, const uint8_t *first, size_t fi
                             const uint8_t *second, size_t second_len, const uint8_t second_id[32],
                             barrowtide_blame *blame, uint8_t first_string[64],
                             uint8_t second_string[64]);
+
+/* ---- Two BUMPs side by side ---- */
+
+/* What an entry of the list of differences says first. */
+enum barrowtide_difference {
+    BARROWTIDE_BLOCK_HEIGHT = 1,   /* the block heights differ */
+    BARROWTIDE_TREE_HEIGHT = 2,    /* the tree heights differ */
+    BARROWTIDE_IN_FIRST = 3,       /* a leaf stands in the first BUMP only */
+    BARROWTIDE_IN_SECOND = 4,      /* a leaf stands in the second BUMP only */
+    BARROWTIDE_IN_BOTH = 5         /* a leaf stands in both, with other flags or another hash */
+};
+
+/* Lists every difference of two BUMPs once and nothing else: block height, tree height, then leaves
+   by level and offset. The order in which leaves are written is no difference; a copy and a hash
+   differ, even if the copy stands for that hash. An entry is three numbers: what it says (see
+   above), the leaf's level and its offset, both 0 for a height. The list has list_len numbers, room
+   for list_len / 3 entries; 3 * BARROWTIDE_MAX_DIFFERENCES are always enough. On acceptance *entries
+   is their number, which stand at the front of the list; the numbers past them stay as they were,
+   and all of the list on a refusal.
+   It takes one pass over levels whose offsets rise, and the square of the number of leaves at worst:
+   two BUMPs of 32 levels of 1,024 falling leaves take 0.1 s.
+   Refused: as barrowtide_read_bump for the first, then for the second; 22 if there are more
+   differences than room. */
+uint32_t barrowtide_differences(const uint8_t *first, size_t first_len, const uint8_t *second,
+                                size_t second_len, uint64_t *list, size_t list_len,
+                                barrowtide_blame *blame, uint64_t *entries);
+
+/* The shorter of two BUMPs, where both prove the id to one root; the first if they are equally long.
+   *which is 0 for the first and 1 for the second, and *length the length of that input, which is the
+   proof to keep. On a refusal both are 0: an empty part of the first. Positions, layers and block
+   heights may differ.
+   Refused: as barrowtide_prove_bump for the first, then for the second; 23 for two roots. */
+uint32_t barrowtide_shorter(const uint8_t *first, size_t first_len, const uint8_t *second,
+                            size_t second_len, const uint8_t id[32], barrowtide_blame *blame,
+                            uint64_t *which, uint64_t *length);
 
 /* ---- Judging ---- */
 

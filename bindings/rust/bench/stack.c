@@ -57,6 +57,15 @@ static void compare(void)
     refusal = barrowtide_compare(BARROWTIDE_BUMP, data, len, more, BARROWTIDE_BUMP, data, len, more,
                                  &blame, first, second);
 }
+static void differences(void)
+{
+    refusal = barrowtide_differences(data, len, data, len, positions,
+                                     sizeof positions / sizeof positions[0], &blame, &a);
+}
+static void shorter(void)
+{
+    refusal = barrowtide_shorter(data, len, data, len, more, &blame, &a, &b);
+}
 static void judge_beef(void)
 {
     refusal = barrowtide_judge_beef(data, len, more, more_len, table, BARROWTIDE_MAX_TRANSACTIONS,
@@ -88,6 +97,7 @@ static const struct {
     CALL(prove_bump),    CALL(prove_cmp),        CALL(prove_tsc),   CALL(check_clients),
     CALL(prove_page),    CALL(compare),          CALL(judge_beef),  CALL(write_bump),
     CALL(tsc_to_bump),   CALL(bump_to_tsc),
+    CALL(differences),   CALL(shorter),
 };
 
 /* Runs a function, and says how many bytes of the painted stack have changed, from its top. */

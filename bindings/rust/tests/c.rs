@@ -11,7 +11,7 @@ use std::process::Command;
 use barrowtide::ffi::Blame;
 use barrowtide::{Answer, Reason, Record};
 use barrowtide::{BUMP_TO_TSC_ROOM, TSC_TO_BUMP_ROOM, WRITE_ROOM};
-use barrowtide::{MAX_IDS, MAX_INPUT, MAX_PAGE, MAX_TRANSACTIONS};
+use barrowtide::{MAX_DIFFERENCES, MAX_IDS, MAX_INPUT, MAX_PAGE, MAX_TRANSACTIONS};
 use published::without_sibling;
 use reference::hex::encode;
 
@@ -57,10 +57,11 @@ fn header() {
     expected += &format!("page {MAX_PAGE}\nids {MAX_IDS}\nwrite room {WRITE_ROOM}\n");
     expected += &format!("TSC to BUMP room {TSC_TO_BUMP_ROOM}\n");
     expected += &format!("BUMP to TSC room {BUMP_TO_TSC_ROOM}\n");
+    expected += &format!("differences {MAX_DIFFERENCES}\n");
     expected += &format!("record {}\nanswer {}\n", size_of::<Record>(), size_of::<Answer>());
     expected += &format!("blame {}\n", size_of::<Blame>());
     expected += "hash of nothing 0, blame 7 8 9\nno bundle 2, blame 0 0 0\n";
-    expected += "no path 2, blame 0 0 0\nno list 5, blame 0 0 0\n";
+    expected += "no path 2, blame 0 0 0\nno paths 2, blame 0 0 0\nno list 5, blame 0 0 0\n";
     expected += "no proof to turn 2, blame 0 0 0\nno BUMP to turn 2, blame 0 0 0\n";
     expected += "missing 14, blame 0 0 20\n";
     for standard in ["c99", "c11", "c17"] {

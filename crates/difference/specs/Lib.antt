@@ -13,6 +13,8 @@ pub mod Merge
 pub mod MergeLaws
 pub mod MergeTheorem
 pub mod WalkTheorem
+pub mod SameLeaves
 pub mod ListingLaws
+pub mod Examples
 pub mod Shorter
 pub mod ShorterLaws

@@ -1,16 +1,14 @@
 -- Laws of the list: how it is refused, and that what the code counts and writes is the list.
 use mathlib.Core.Path.{_≡_, refl, ap, sym, _∙_}
-use mathlib.Core.List.{List, [], _++_}
+use mathlib.Core.List.{List, _++_}
 use mathlib.Core.Bool.{Bool, true, false}
 use Prim.Native.Nat.{ℕ, _+_, _*_, _/_, _<_, _≤_, min}
 use lib.ListN.{length, drop}
-use lib.Dec.{leb}
 use native.Mathlib.Omega.{arith}
 use borrow.Author.Tests.{le-leb, lt-leb}
 use Rattle.format.specs.declared.refusal.Refusal.{Refusal}
 use Rattle.format.specs.declared.bump.BumpHead.{BumpHead}
-use Rattle.format.specs.declared.bump.BumpAnswer.{BumpAnswer}
-use Rattle.format.specs.Parse.{Parse, each, got, bad}
+use Rattle.format.specs.Parse.{each, got, bad}
 use Rattle.format.specs.ParseLaws.{each-got, each-bad}
 use Rattle.format.specs.Refusals.{NO-ROOM}
 use Rattle.format.specs.Bump.{Bump, bumpWhole, headOf}

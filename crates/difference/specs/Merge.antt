@@ -1,9 +1,11 @@
 -- The differences of a level as the code tells them: of two lists in the order of their offsets, from the least offset up.
 use mathlib.Core.List.{List, [], _∷_}
-use mathlib.Core.Bool.{Bool}
+use mathlib.Core.Bool.{Bool, true, false}
 use Prim.Native.Nat.{ℕ, zero, suc, _+_}
 use lib.Dec.{eqb, ltb}
 use Rattle.format.specs.Parse.{pick}
+use Rattle.format.specs.declared.level.Kind.{Kind}
+use Rattle.format.specs.declared.level.Kind.the-variants.{Plain, Copy, Client}
 use Rattle.format.specs.declared.bump.BumpHead.{BumpHead}
 use Rattle.format.specs.Refusals.{MAX-LEAVES}
 use Rattle.format.specs.BumpBytes.{Entry, carriedOf}
@@ -13,7 +15,7 @@ use Rattle.difference.specs.declared.level.Spot.{Spot}
 use Rattle.difference.specs.declared.level.Spot.the-variants.{Stands, Nothing}
 use Rattle.difference.specs.Differences.{Standing, stands, nothing, Difference, told, tell, higher}
 use Rattle.difference.specs.Page.{Page, putAll, putUnless}
-use Rattle.difference.specs.Sorted.{Gathering, entries, gatherLevel}
+use Rattle.difference.specs.Sorted.{entries, gatherLevel}
 
 -- the offset of the first
 unfoldable pub nextOf : List Entry → Next
@@ -43,6 +45,11 @@ onNext (Offset o) f = f o
 unfoldable pub merged : ℕ → ℕ → List Entry → List Entry → List Difference
 merged zero k x y = []
 merged (suc n) k x y = onNext (lesser (nextOf x) (nextOf y)) (λ o. tell k o (told (front o x) (front o y)) (merged n k (past o x) (past o y)))
+
+unfoldable pub isCopy : Kind → Bool
+isCopy (Plain p) = false
+isCopy Copy = true
+isCopy (Client p) = false
 
 -- what the code's answer says
 unfoldable pub standingOf : List ℕ → Spot → Standing

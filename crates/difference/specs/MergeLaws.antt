@@ -1,29 +1,31 @@
 -- Laws of telling the differences of a level, one for each turn of a loop.
 use mathlib.Core.Path.{_≡_, refl, ap, sym, _∙_}
-use mathlib.Core.List.{List, [], _∷_}
-use mathlib.Core.Bool.{Bool, true, false}
-use Prim.Native.Nat.{ℕ, zero, suc, _+_, _-_, _<_, _≤_}
-use lib.ListN.{length, getD, take, drop, drop-of-length-le}
+use mathlib.Core.List.{List, []}
+use mathlib.Core.Bool.{Bool}
+use Prim.Native.Nat.{ℕ, _+_, _-_, _<_, _≤_}
+use lib.ListN.{length, getD, drop, drop-of-length-le}
 use lib.Seq.{drop-cons}
-use lib.Dec.{eqb, ltb}
+use lib.Dec.{eqb}
 use native.Mathlib.Omega.{arith}
 use native.Mathlib.Numerals.{add-one}
 use borrow.Author.Tests.{eq-eqb, ne-eqb}
 use Rattle.format.specs.declared.level.Layout.{Layout}
 use Rattle.format.specs.declared.level.Leaf.{Leaf}
-use Rattle.format.specs.Parse.{pick, got, bad}
+use Rattle.format.specs.Parse.{got, bad}
 use Rattle.format.specs.Basics.{one-less}
+use Rattle.format.specs.declared.level.Kind.{Kind}
+use Rattle.format.specs.declared.level.Kind.the-variants.{Plain, Copy, Client}
 use Rattle.format.specs.declared.bump.BumpHead.{BumpHead}
 use Rattle.format.specs.Refusals.{MAX-LEAVES}
 use Rattle.format.specs.Search.{looseLeaf}
 use Rattle.format.specs.BumpBytes.{Entry, copy, carriedOf}
 use Rattle.difference.specs.declared.level.Next.{Next}
 use Rattle.difference.specs.declared.level.Next.the-variants.{Offset, End}
-use Rattle.difference.specs.Differences.{Standing, stands, nothing, Difference, told, tell, higher}
+use Rattle.difference.specs.Differences.{Standing, stands, nothing, equal, told, tell, higher}
 use Rattle.difference.specs.Page.{Page, putAll, toldWord, putPlace, putUnless}
 use Rattle.difference.specs.PageLaws.{all-told}
 use Rattle.difference.specs.Sorted.{offsetAt, carriedAt, entries, Gathering, gathering, gatherLevel}
-use Rattle.difference.specs.Merge.{nextOf, lesser, front, past, onNext, merged, walk, walkAll}
+use Rattle.difference.specs.Merge.{nextOf, lesser, front, past, onNext, merged, isCopy, walk, walkAll}
 
 module _ (s l : List ℕ) (i : ℕ) where
   none-left : length l ≤ i → entries s (drop i l) ≡ []
@@ -132,3 +134,10 @@ walked write s x t y p {p₁} {p₂} {p₃} rx ry a b c d e =
     ∙ ap (λ (r : ℕ). walk write s (x .height) MAX-LEAVES t (y .height) r (higher (x .height) (y .height)) 0 (x .levels .at) (y .levels .at) p₂) b
     ∙ ap above d
     ∙ ap (λ (q : Page). above (putUnless (eqb (x .height) (y .height)) write q 2)) c
+
+-- a copy equals a copy only
+pub equal-copy : (s t : List ℕ) (x y : Kind) → x ≡ Copy → isCopy y ≡ equal (carriedOf s x) (carriedOf t y)
+unfolding isCopy equal carriedOf
+equal-copy s t x (Plain q) e = rw e refl
+equal-copy s t x Copy e = rw e refl
+equal-copy s t x (Client q) e = rw e refl

@@ -4,16 +4,15 @@ use mathlib.Core.List.{List, [], _∷_}
 use mathlib.Core.Bool.{Bool, true, false}
 use Prim.Native.Nat.{ℕ, zero, suc, _+_, _<_, _≤_}
 use lib.ListN.{length}
-use lib.Dec.{eqb, ltb}
+use lib.Dec.{eqb}
 use native.Mathlib.Omega.{arith}
 use borrow.Author.Tests.{eqb-true, eqb-false, ne-eqb, lt-ltb, le-ltb}
 use Rattle.format.specs.Parse.{pick}
 use Rattle.format.specs.BumpBytes.{Entry}
-use Rattle.difference.specs.declared.level.Next.{Next}
-use Rattle.difference.specs.declared.level.Next.the-variants.{Offset, End}
-use Rattle.difference.specs.Differences.{Standing, stands, nothing, at, Difference, Told, told, tell, offsetsFrom}
+use Rattle.difference.specs.declared.level.Next.the-variants.{Offset}
+use Rattle.difference.specs.Differences.{Standing, stands, nothing, at, Told, told, tell, offsetsFrom}
 use Rattle.difference.specs.InOrder.{From, Under, InOrder, from-weaken, under-weaken, at-below}
-use Rattle.difference.specs.Merge.{nextOf, lesser, front, past, onNext, merged}
+use Rattle.difference.specs.Merge.{nextOf, lesser, front, past, merged}
 
 -- the differences at offsets from o on go by what stands there
 pub offsets-same : (k : ℕ) (c c′ d d′ : ℕ → Standing) (n o : ℕ) → ((p : ℕ) → o ≤ p → c p ≡ c′ p) → ((p : ℕ) → o ≤ p → d p ≡ d′ p) → offsetsFrom k c d n o ≡ offsetsFrom k c′ d′ n o

@@ -1,22 +1,21 @@
 -- The list is empty exactly when block height, tree height and, level by level, the leaves are equal up to their order.
 use mathlib.Core.Path.{_≡_, refl, ap, sym, _∙_}
-use mathlib.Core.List.{List, [], _∷_, _++_}
+use mathlib.Core.List.{[]}
 use mathlib.Core.Bool.{Bool, true, false, not, false≢true}
-use Prim.Native.Nat.{ℕ, zero, suc, _^_, _<_, _≤_}
+use Prim.Native.Nat.{ℕ, zero, suc, _^_}
 use lib.Dec.{eqb}
-use lib.ListN.{getD}
 use native.Mathlib.Omega.{arith}
-use borrow.Author.Tests.{eqb-true, eqb-false, eq-eqb, ne-eqb}
+use borrow.Author.Tests.{eqb-true, eq-eqb}
 use Rattle.format.specs.BytesLaws.{same-eq, same-refl}
 use Rattle.format.specs.Parse.{pick}
 use Rattle.format.specs.BumpBytes.{Carried, plain, copy, client, Content}
-use Rattle.difference.specs.Differences.{Standing, stands, nothing, at, standing, Side, first, second, both, Difference, block, height, leaf, equal, Told, alike, differ, told, tell, offsetsFrom, levelsFrom, unless, higher, differences}
+use Rattle.difference.specs.Differences.{Standing, stands, nothing, standing, Side, first, second, both, Difference, block, height, leaf, equal, Told, alike, differ, told, tell, offsetsFrom, levelsFrom, unless, higher, differences}
 use Rattle.difference.specs.Once.{count, one, differs, isTold, sameSide, Within, once}
 
 no-bool : {A : Type 0} → false ≡ true → A
 no-bool e = absurd (false≢true e)
 
-equal-eq : (c d : Carried) → equal c d ≡ true → c ≡ d
+pub equal-eq : (c d : Carried) → equal c d ≡ true → c ≡ d
 unfolding equal
 equal-eq (plain h) (plain i) e = ap plain (same-eq h i e)
 equal-eq (plain h) copy e = no-bool e
@@ -28,7 +27,7 @@ equal-eq (client h) (plain i) e = no-bool e
 equal-eq (client h) copy e = no-bool e
 equal-eq (client h) (client i) e = ap client (same-eq h i e)
 
-equal-refl : (c : Carried) → equal c c ≡ true
+pub equal-refl : (c : Carried) → equal c c ≡ true
 unfolding equal
 equal-refl (plain h) = same-refl h
 equal-refl copy = refl

@@ -1,5 +1,5 @@
 -- Every difference stands in the list once, and nothing else does.
-use mathlib.Core.Path.{_≡_, refl, ap, ap₂, sym, _∙_}
+use mathlib.Core.Path.{_≡_, refl, ap, sym, _∙_}
 use mathlib.Core.List.{List, [], _∷_, _++_}
 use mathlib.Core.Bool.{Bool, true, false, not, _&&_, false≢true}
 use Prim.Native.Nat.{ℕ, zero, suc, _+_, _-_, _^_, _<_, _≤_}
@@ -7,11 +7,10 @@ use lib.Dec.{eqb, leb, ltb}
 use native.Mathlib.Omega.{arith}
 use native.Mathlib.Nat.{le-trans}
 use lib.Pow.{pow-mono}
-use borrow.Author.Tests.{eqb-true, eqb-false, eq-eqb, ne-eqb, leb-true, leb-false, ltb-true, ltb-false, lt-ltb}
-use Rattle.format.specs.BytesLaws.{same-eq, same-refl}
+use borrow.Author.Tests.{eqb-true, eqb-false, eq-eqb, ne-eqb, leb-true, leb-false, ltb-true, ltb-false}
 use Rattle.format.specs.Parse.{pick}
-use Rattle.format.specs.BumpBytes.{Carried, plain, copy, client, Content}
-use Rattle.difference.specs.Differences.{Standing, stands, nothing, standing, Side, first, second, both, Difference, block, height, leaf, equal, Told, alike, differ, told, tell, offsetsFrom, levelsFrom, unless, higher, differences}
+use Rattle.format.specs.BumpBytes.{Content}
+use Rattle.difference.specs.Differences.{stands, nothing, standing, Side, first, second, both, Difference, block, height, leaf, Told, alike, differ, told, tell, offsetsFrom, levelsFrom, unless, higher, differences}
 
 -- ---- the statement
 

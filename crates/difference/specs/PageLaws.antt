@@ -2,14 +2,13 @@
 use mathlib.Core.Path.{_≡_, refl, ap, sym, _∙_}
 use mathlib.Core.List.{List, [], _∷_, _++_, append-assoc}
 use mathlib.Core.Bool.{Bool, true, false}
-use Prim.Native.Nat.{ℕ, zero, suc, _+_, _*_, _/_, _<_, _≤_, min}
-use lib.ListN.{length, set, drop, length-append, length-set}
+use Prim.Native.Nat.{ℕ, suc, _+_, _*_, _/_, _<_, _≤_, min}
+use lib.ListN.{length, set, drop, length-append}
 use lib.Seq.{set-at}
-use lib.Dec.{leb, eqb}
+use lib.Dec.{leb}
 use native.Mathlib.Omega.{arith}
 use borrow.Author.Tests.{le-leb, lt-leb, eq-eqb, ne-eqb, leb-true, leb-false}
-use Rattle.format.specs.Parse.{pick}
-use Rattle.difference.specs.Differences.{Side, first, second, both, Difference, block, height, leaf, Told, alike, differ, tell, unless}
+use Rattle.difference.specs.Differences.{first, second, both, Difference, block, height, Told, alike, differ, tell, unless}
 use Rattle.difference.specs.Listing.{sideWord, whatOf, levelOf, offsetOf, wordsOf}
 use Rattle.difference.specs.Page.{Page, page, store, putOn, putAll, toldWord, putPlace, putUnless}
 

@@ -1,23 +1,22 @@
 -- Laws of the weighing, one for each answer.
 use Prim.Native.Nat.{ℕ, _≤_, _<_}
 use mathlib.Core.Path.{_≡_, refl, ap, sym, _∙_}
-use mathlib.Core.List.{List, []}
+use mathlib.Core.List.{List}
 use mathlib.Core.Bool.{Bool, true, false}
 use lib.ListN.{length}
-use lib.Dec.{leb}
 use borrow.Author.Tests.{le-leb, lt-leb}
 use native.Mathlib.Omega.{arith}
 use Rattle.format.specs.Bytes.{same}
 use Rattle.format.specs.Parse.{pick}
 use Rattle.format.specs.Refusals.{UNLIKE}
-use Rattle.spv.specs.Result.{Result, accepted, refused, carrying, follow}
+use Rattle.spv.specs.Result.{Result, accepted, refused, carrying}
 use Rattle.spv.specs.Compare.{Proof, prove}
 use Rattle.spv.specs.Readings.{bumpReading}
 use Rattle.spv.specs.Shapes.{provedOf, acceptedOf}
 use Rattle.spv.specs.declared.prove.Outcome.the-variants.{Accepted, Refused}
 use Rattle.spv.specs.declared.prove.Proved.{Proved}
 use Rattle.spv.specs.declared.rejection.Rejection.{Rejection}
-use Rattle.difference.specs.Shorter.{Choice, first, second, shorterOf, settled, weighing}
+use Rattle.difference.specs.Shorter.{first, second, shorterOf, settled, weighing}
 
 -- what a proof's answer says of its result
 module _ (r : Proved) where

@@ -1,6 +1,6 @@
 -- The differences of two BUMPs that were read, told level by level, are those of the definition.
 use mathlib.Core.Path.{_≡_, refl, ap, sym, subst, _∙_}
-use mathlib.Core.List.{List, [], _∷_, _++_, map}
+use mathlib.Core.List.{List, [], _∷_, map}
 use mathlib.Core.Bool.{Bool, true, false}
 use Prim.Native.Nat.{ℕ, zero, suc, _+_, _-_, _^_, _<_, _≤_}
 use lib.ListN.{length, getD, drop, length-map, List·getD-map, List·getD-eq-default}
@@ -13,24 +13,23 @@ use native.Mathlib.Nat.{sub-zero}
 use borrow.Author.Tests.{leb-true, leb-false}
 use Rattle.format.specs.declared.level.Layout.{Layout}
 use Rattle.format.specs.declared.level.Leaf.{Leaf}
-use Rattle.format.specs.declared.bump.BumpHead.{BumpHead}
 use Rattle.format.specs.Basics.{one-less}
-use Rattle.format.specs.Parse.{many, _passing_else_, got, bad}
+use Rattle.format.specs.Parse.{many, _passing_else_, got}
 use Rattle.format.specs.ParseLaws.{onward-told, passing-told, many-told, many-length}
 use Rattle.format.specs.Field.{varint}
 use Rattle.format.specs.Refusals.{OVER-LIMIT, MAX-LEAVES}
-use Rattle.format.specs.Level.{leafField, andOffset, levelField, levelOfTurn, levelInTurn, nextTurn, levelFields}
+use Rattle.format.specs.Level.{leafField, andOffset, levelField, levelOfTurn, levelInTurn, nextTurn}
 use Rattle.format.specs.Bump.{Bump, bumpWhole, headOf}
 use Rattle.format.specs.BumpLaws.{bump-whole-told}
 use Rattle.format.specs.BumpBytes.{Entry, Content, entryOf, levelsOf, contentOf}
-use Rattle.difference.specs.Differences.{Standing, nothing, at, standing, Difference, offsetsFrom, levelsFrom, higher, differences}
+use Rattle.difference.specs.Differences.{nothing, at, standing, Difference, offsetsFrom, levelsFrom, higher, differences}
 use Rattle.difference.specs.Once.{Within, higher-bounds}
 use Rattle.difference.specs.Page.{Page, putAll, putUnless}
 use Rattle.difference.specs.PageLaws.{all-block, all-height, all-append}
-use Rattle.difference.specs.InOrder.{From, Under, InOrder, orElse, from-least, under-weaken, at-above}
-use Rattle.difference.specs.Sorted.{entryAt, entries, Gathering, gathering, gatherFrom, gatherLevel}
+use Rattle.difference.specs.InOrder.{Under, InOrder, orElse, from-least, under-weaken, at-above}
+use Rattle.difference.specs.Sorted.{entryAt, entries, Gathering, gathering, gatherLevel}
 use Rattle.difference.specs.SortedLaws.{level-above, level-gathered}
-use Rattle.difference.specs.SortedTheorem.{Gathers, gather-read}
+use Rattle.difference.specs.SortedTheorem.{gather-read}
 use Rattle.difference.specs.Merge.{merged, walk, walkAll}
 use Rattle.difference.specs.MergeTheorem.{offsets-same, merged-all}
 

@@ -19,7 +19,7 @@ ghost use Rattle.difference.specs.Differences.{equal, told, higher as hi
 ghost use Rattle.difference.specs.Listing.{listing, listedOf, wordsIn, roomIn};
 ghost use Rattle.difference.specs.Page.{page, putOn, putAll, toldWord, putPlace, putUnless};
 ghost use Rattle.difference.specs.Sorted.{entries};
-ghost use Rattle.difference.specs.Merge.{standingOf, merged, walk, walkAll};
+ghost use Rattle.difference.specs.Merge.{isCopy, standingOf, merged, walk, walkAll};
 
 // What an entry says first; its level and offset follow, 0 of a height.
 pub const BLOCK: u64 = 1;
@@ -55,6 +55,16 @@ fn put(out: &mut [u64], at: usize, write: bool, what: u64, level: u64, offset: u
     at + 1
 }
 
+fn is_copy(x: Kind) -> bool
+    ensures { λ r. ⌜ r ≡ isCopy x ⌝ }
+{
+    match x {
+        Kind::Plain(_) => false,
+        Kind::Copy => true,
+        Kind::Client(_) => false,
+    }
+}
+
 // Whether flags and hash are equal.
 fn equal(s: &[u8], x: Kind, t: &[u8], y: Kind) -> bool
     ensures { λ r. ⌜ r ≡ equal (carriedOf (now (s .entry)) x) (carriedOf (now (t .entry)) y) ⌝ }
@@ -65,11 +75,7 @@ fn equal(s: &[u8], x: Kind, t: &[u8], y: Kind) -> bool
             Kind::Copy => false,
             Kind::Client(_) => false,
         },
-        Kind::Copy => match y {
-            Kind::Plain(_) => false,
-            Kind::Copy => true,
-            Kind::Client(_) => false,
-        },
+        Kind::Copy => is_copy(y),
         Kind::Client(p) => match y {
             Kind::Plain(_) => false,
             Kind::Copy => false,

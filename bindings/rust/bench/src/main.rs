@@ -5,6 +5,7 @@
 //! ```
 
 mod convert;
+mod difference;
 mod hash;
 mod joins;
 mod judge;
@@ -34,5 +35,6 @@ fn main() {
     merged::run();
     write::run();
     convert::run();
+    difference::run();
     stack::run();
 }

@@ -54,6 +54,8 @@ pub fn run() {
     row(c"check_clients", &bump, &[]);
     row(c"prove_page", &bump, &[id; 256].concat());
     row(c"compare", &bump, &id);
+    row(c"differences", &bump, &[]);
+    row(c"shorter", &bump, &id);
     row(c"judge_beef", &beef, &roots);
     row(c"write_bump", &random.bytes(32 * 1_024), &[]);
     row(c"tsc_to_bump", &proof, &[]);

@@ -29,6 +29,7 @@ int main(void)
     printf("write room %d\n", BARROWTIDE_WRITE_ROOM);
     printf("TSC to BUMP room %d\n", BARROWTIDE_TSC_TO_BUMP_ROOM);
     printf("BUMP to TSC room %d\n", BARROWTIDE_BUMP_TO_TSC_ROOM);
+    printf("differences %d\n", BARROWTIDE_MAX_DIFFERENCES);
     printf("record %zu\n", sizeof(barrowtide_record));
     printf("answer %zu\n", sizeof(barrowtide_answer));
     printf("blame %zu\n", sizeof(barrowtide_blame));
@@ -37,6 +38,8 @@ int main(void)
     print_call("no bundle",
                barrowtide_judge_beef(NULL, 0, NULL, 0, NULL, 0, &blame, &transactions), &blame);
     print_call("no path", barrowtide_prove_page(NULL, 0, NULL, 0, NULL, 0, &blame), &blame);
+    print_call("no paths",
+               barrowtide_differences(NULL, 0, NULL, 0, NULL, 0, &blame, &written), &blame);
     print_call("no list", barrowtide_write_bump(0, NULL, 0, NULL, 0, NULL, 0, &blame, &written),
                &blame);
     /* A BUMP of five levels with one leaf, an id of zeros at position 21. */

@@ -1,10 +1,6 @@
 use borrow.Author.Needs.{needs}
 use Rattle.barrowtide.proofs.differences.barrowtide_differences.Statement.{statement}
 use Rattle.barrowtide.proofs.differences.barrowtide_differences.Tie as tie
-use Rattle.barrowtide.proofs.differences.barrowtide_differences.Reads as reads
-use Rattle.barrowtide.proofs.differences.barrowtide_differences.Lts as lts
-use Rattle.barrowtide.proofs.differences.tell.Reads as tell-reads
-use Rattle.difference.proofs.list_differences.Reads as list-differences-reads
 
 list-differences-requires : tie.Need-list-differences-requires
 list-differences-requires c κs = search needs

@@ -3,16 +3,10 @@ use Rattle.barrowtide.specs.Interface.{refusal, blame}
 use Rattle.difference.specs.Shorter.{Choice, handed}
 use Rattle.spv.specs.Result.{Result}
 use lib.ListN.{length}
-use mathlib.Core.Path.{_≡_, refl, sym, ap, _∙_}
+use mathlib.Core.Path.{ap, _∙_}
 use borrow.Author.Needs.{needs}
 use Rattle.barrowtide.proofs.differences.barrowtide_shorter.Statement.{statement}
 use Rattle.barrowtide.proofs.differences.barrowtide_shorter.Tie as tie
-use Rattle.barrowtide.proofs.differences.barrowtide_shorter.Reads as reads
-use Rattle.barrowtide.proofs.differences.barrowtide_shorter.Lts as lts
-use Rattle.barrowtide.proofs.differences.part_length.Reads as part-length-reads
-use Rattle.barrowtide.proofs.differences.weighed_number.Reads as weighed-number-reads
-use Rattle.barrowtide.proofs.differences.which.Reads as which-reads
-use Rattle.difference.proofs.weigh.Reads as weigh-reads
 
 weigh-requires : tie.Need-weigh-requires
 weigh-requires c κs = search needs

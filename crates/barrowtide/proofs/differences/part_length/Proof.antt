@@ -1,10 +1,8 @@
 use Rattle.difference.specs.Shorter.{choiceOf, handed}
-use mathlib.Core.Path.{_≡_, refl, sym, ap, _∙_}
+use mathlib.Core.Path.{refl}
 use borrow.Author.Needs.{needs}
 use Rattle.barrowtide.proofs.differences.part_length.Statement.{statement}
 use Rattle.barrowtide.proofs.differences.part_length.Tie as tie
-use Rattle.barrowtide.proofs.differences.part_length.Reads as reads
-use Rattle.barrowtide.proofs.differences.part_length.Lts as lts
 
 enum-told : tie.Need-enum-told
 enum-told c = search needs

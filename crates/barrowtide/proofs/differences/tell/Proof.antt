@@ -5,9 +5,6 @@ use lib.ListN.{length}
 use borrow.Author.Needs.{needs}
 use Rattle.barrowtide.proofs.differences.tell.Statement.{statement}
 use Rattle.barrowtide.proofs.differences.tell.Tie as tie
-use Rattle.barrowtide.proofs.differences.tell.Reads as reads
-use Rattle.barrowtide.proofs.differences.tell.Lts as lts
-use Rattle.barrowtide.proofs.blame.blame_of.Reads as blame-of-reads
 
 enum-known-answer : tie.Need-enum-known-answer
 enum-known-answer c = search needs

@@ -1,12 +1,9 @@
 use Rattle.barrowtide.specs.Interface.{refusal, blame}
 use Rattle.difference.specs.Shorter.{choiceOf}
-use mathlib.Core.Path.{_≡_, refl, sym, ap, _∙_}
+use mathlib.Core.Path.{refl, _∙_}
 use borrow.Author.Needs.{needs}
 use Rattle.barrowtide.proofs.differences.weighed_number.Statement.{statement}
 use Rattle.barrowtide.proofs.differences.weighed_number.Tie as tie
-use Rattle.barrowtide.proofs.differences.weighed_number.Reads as reads
-use Rattle.barrowtide.proofs.differences.weighed_number.Lts as lts
-use Rattle.barrowtide.proofs.blame.blame_of.Reads as blame-of-reads
 
 enum-told : tie.Need-enum-told
 enum-told c = search needs

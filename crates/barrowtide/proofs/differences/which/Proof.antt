@@ -1,11 +1,9 @@
 use Rattle.barrowtide.specs.Choices.{whichOf}
 use Rattle.difference.specs.Shorter.{choiceOf}
-use mathlib.Core.Path.{_≡_, refl, sym, ap, _∙_}
+use mathlib.Core.Path.{refl}
 use borrow.Author.Needs.{needs}
 use Rattle.barrowtide.proofs.differences.which.Statement.{statement}
 use Rattle.barrowtide.proofs.differences.which.Tie as tie
-use Rattle.barrowtide.proofs.differences.which.Reads as reads
-use Rattle.barrowtide.proofs.differences.which.Lts as lts
 
 enum-told : tie.Need-enum-told
 enum-told c = search needs

@@ -1,13 +1,10 @@
+use Rattle.difference.specs.MergeLaws.{equal-copy}
 use Rattle.difference.specs.Differences.{equal}
 use Rattle.format.specs.BumpBytes.{carriedOf}
-use mathlib.Core.Path.{_≡_, refl, sym, ap, _∙_}
+use mathlib.Core.Path.{refl, _∙_}
 use borrow.Author.Needs.{needs}
 use Rattle.difference.proofs.listing.equal.Statement.{statement}
 use Rattle.difference.proofs.listing.equal.Tie as tie
-use Rattle.difference.proofs.listing.equal.Reads as reads
-use Rattle.difference.proofs.listing.equal.Lts as lts
-use Rattle.format.proofs.hash_at.Reads as hash-at-reads
-use Rattle.format.proofs.same_bytes.Reads as same-bytes-reads
 
 enum-known-x : tie.Need-enum-known-x
 enum-known-x c = search needs
@@ -33,23 +30,17 @@ enum-told-2 c = search needs
 enum-told-3 : tie.Need-enum-told-3
 enum-told-3 c = search needs
 
+is-copy-requires : tie.Need-is-copy-requires
+is-copy-requires c κs = search needs
+
+enum-known-x-2 : tie.Need-enum-known-x-2
+enum-known-x-2 c = search needs
+
 enum-told-4 : tie.Need-enum-told-4
 enum-told-4 c = search needs
 
 enum-told-5 : tie.Need-enum-told-5
 enum-told-5 c = search needs
-
-enum-told-6 : tie.Need-enum-told-6
-enum-told-6 c = search needs
-
-enum-known-x-2 : tie.Need-enum-known-x-2
-enum-known-x-2 c = search needs
-
-enum-told-7 : tie.Need-enum-told-7
-enum-told-7 c = search needs
-
-enum-told-8 : tie.Need-enum-told-8
-enum-told-8 c = search needs
 
 enum-known-y-2 : tie.Need-enum-known-y-2
 enum-known-y-2 c = search needs
@@ -76,28 +67,19 @@ unfolding carriedOf equal
 returns-3 c = rw (c .before .before .before .x .given .1, c .enum-told2 .given .1) refl
 
 returns-4 : tie.Need-returns-4
-unfolding carriedOf equal
-returns-4 c = rw (c .before .before .enum-told3 .given .1, c .enum-told4 .given .1) refl
+returns-4 c = c .is-copy .ensures ∙ equal-copy _ _ _ _ (c .before .enum-told3 .given .1)
 
 returns-5 : tie.Need-returns-5
 unfolding carriedOf equal
-returns-5 c = rw (c .before .before .enum-told3 .given .1, c .enum-told5 .given .1) refl
+returns-5 c = rw (c .before .before .before .x2 .given .1, c .enum-told4 .given .1) refl
 
 returns-6 : tie.Need-returns-6
 unfolding carriedOf equal
-returns-6 c = rw (c .before .before .enum-told3 .given .1, c .enum-told6 .given .1) refl
+returns-6 c = rw (c .before .before .before .x2 .given .1, c .enum-told5 .given .1) refl
 
 returns-7 : tie.Need-returns-7
 unfolding carriedOf equal
-returns-7 c = rw (c .before .before .before .x2 .given .1, c .enum-told7 .given .1) refl
-
-returns-8 : tie.Need-returns-8
-unfolding carriedOf equal
-returns-8 c = rw (c .before .before .before .x2 .given .1, c .enum-told8 .given .1) refl
-
-returns-9 : tie.Need-returns-9
-unfolding carriedOf equal
-returns-9 c = c .same-bytes2 .ensures ∙ rw (c .before .before .hash-at3 .ensures, c .before .hash-at4 .ensures, c .before .before .before .before .before .before .before .x2 .given .1, c .before .before .before .before .y2 .given .1) refl
+returns-7 c = c .same-bytes2 .ensures ∙ rw (c .before .before .hash-at3 .ensures, c .before .hash-at4 .ensures, c .before .before .before .before .before .before .before .x2 .given .1, c .before .before .before .before .y2 .given .1) refl
 
 pub equal-spec : {M : Type 1} → statement M
 equal-spec =
@@ -111,12 +93,10 @@ equal-spec =
     enum-told
     enum-told-2
     enum-told-3
+    is-copy-requires
+    enum-known-x-2
     enum-told-4
     enum-told-5
-    enum-told-6
-    enum-known-x-2
-    enum-told-7
-    enum-told-8
     enum-known-y-2
     hash-at-requires-3
     hash-at-requires-4
@@ -127,6 +107,4 @@ equal-spec =
     returns-4
     returns-5
     returns-6
-    returns-7
-    returns-8
-    returns-9)
+    returns-7)

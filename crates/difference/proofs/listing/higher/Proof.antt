@@ -1,11 +1,8 @@
-use borrow.Author.Needs.{needs}
 use Rattle.difference.specs.Differences.{higher}
 use borrow.Author.Tests.{le-leb, lt-leb}
-use mathlib.Core.Path.{_≡_, refl, sym, ap, _∙_}
+use mathlib.Core.Path.{sym}
 use Rattle.difference.proofs.listing.higher.Statement.{statement}
 use Rattle.difference.proofs.listing.higher.Tie as tie
-use Rattle.difference.proofs.listing.higher.Reads as reads
-use Rattle.difference.proofs.listing.higher.Lts as lts
 
 returns : tie.Need-returns
 unfolding higher

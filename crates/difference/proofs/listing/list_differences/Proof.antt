@@ -2,17 +2,10 @@ use Rattle.difference.specs.ListingLaws.{first-unread, second-unread, to
 use Rattle.spv.specs.Result.{refusedReading}
 use Rattle.format.specs.Bump.{bumpAnswer, refusalOfBump}
 use Rattle.format.specs.ParseLaws.{answered}
-use mathlib.Core.Path.{_≡_, refl, sym, ap, _∙_}
+use mathlib.Core.Path.{refl, ap, _∙_}
 use borrow.Author.Needs.{needs}
 use Rattle.difference.proofs.listing.list_differences.Statement.{statement}
 use Rattle.difference.proofs.listing.list_differences.Tie as tie
-use Rattle.difference.proofs.listing.list_differences.Reads as reads
-use Rattle.difference.proofs.listing.list_differences.Lts as lts
-use Rattle.difference.proofs.listing.tell_all.Reads as tell-all-reads
-use Rattle.format.proofs.bump.BumpAnswer.refusal.Reads as refusal-reads
-use Rattle.format.proofs.read_bump.Reads as read-bump-reads
-use Rattle.spv.proofs.reject.Reads as reject-reads
-use Rattle.spv.proofs.reject_reading.Reads as reject-reading-reads
 
 read-bump-requires : tie.Need-read-bump-requires
 read-bump-requires c κs = search needs
@@ -30,7 +23,11 @@ reject-reading-requires : tie.Need-reject-reading-requires
 reject-reading-requires c κs = search needs
 
 returns : tie.Need-returns
-returns c = let told = c .before .before .enum-told .given .1 in let e = first-unread _ _ _ _ (answered bumpAnswer (c .before .before .before .before .read-bump .ensures) told) in (told-refused _ _ _ (c .reject-reading .ensures ∙ ap refusedReading (c .before .refusal .ensures ∙ ap refusalOfBump told)) e, left-refused _ _ _ _ refl e)
+returns c =
+    let told = c .before .before .enum-told .given .1 in
+    let e = first-unread _ _ _ _ (answered bumpAnswer (c .before .before .before .before .read-bump .ensures) told) in
+    let why = c .reject-reading .ensures ∙ ap refusedReading (c .before .refusal .ensures ∙ ap refusalOfBump told) in
+    (told-refused _ _ _ why e, left-refused _ _ _ _ refl e)
 
 read-bump-requires-2 : tie.Need-read-bump-requires-2
 read-bump-requires-2 c κs = search needs
@@ -48,7 +45,12 @@ reject-reading-requires-2 : tie.Need-reject-reading-requires-2
 reject-reading-requires-2 c κs = search needs
 
 returns-2 : tie.Need-returns-2
-returns-2 c = let told = c .before .before .enum-told2 .given .1 in let e = second-unread _ _ _ _ (answered bumpAnswer (c .before .before .before .before .before .before .before .before .read-bump .ensures) (c .before .before .before .before .before .before .a .given .1)) (answered bumpAnswer (c .before .before .before .before .read-bump2 .ensures) told) in (told-refused _ _ _ (c .reject-reading2 .ensures ∙ ap refusedReading (c .before .refusal2 .ensures ∙ ap refusalOfBump told)) e, left-refused _ _ _ _ refl e)
+returns-2 c =
+    let told = c .before .before .enum-told2 .given .1 in
+    let a = answered bumpAnswer (c .before .before .before .before .before .before .before .before .read-bump .ensures) (c .before .before .before .before .before .before .a .given .1) in
+    let e = second-unread _ _ _ _ a (answered bumpAnswer (c .before .before .before .before .read-bump2 .ensures) told) in
+    let why = c .reject-reading2 .ensures ∙ ap refusedReading (c .before .refusal2 .ensures ∙ ap refusalOfBump told) in
+    (told-refused _ _ _ why e, left-refused _ _ _ _ refl e)
 
 tell-all-requires : tie.Need-tell-all-requires
 tell-all-requires c κs = search needs
@@ -60,7 +62,12 @@ same-length : tie.Need-same-length
 same-length c = search needs
 
 returns-3 : tie.Need-returns-3
-returns-3 c = let e = answered bumpAnswer (c .before .before .before .before .before .before .before .before .before .before .before .before .before .read-bump .ensures) (c .before .before .before .before .before .before .before .before .before .before .before .a .given .1) in let f = answered bumpAnswer (c .before .before .before .before .before .before .before .before .before .read-bump2 .ensures) (c .before .before .before .before .before .before .before .b .given .1) in let g = listed-over _ _ _ _ _ e f _ _ (c .before .before .before .before .tell-all .ensures) (c .before .if1 .taken) in (told-refused _ _ _ (c .reject .ensures) g, left-refused _ _ _ _ (as-before _ _ _ _ _ e f _ _ (c .before .before .before .before .tell-all .ensures)) g)
+returns-3 c =
+    let a = answered bumpAnswer (c .before .before .before .before .before .before .before .before .before .before .before .before .before .read-bump .ensures) (c .before .before .before .before .before .before .before .before .before .before .before .a .given .1) in
+    let b = answered bumpAnswer (c .before .before .before .before .before .before .before .before .before .read-bump2 .ensures) (c .before .before .before .before .before .before .before .b .given .1) in
+    let counted = c .before .before .before .before .tell-all .ensures in
+    let e = listed-over _ _ _ _ _ a b _ _ counted (c .before .if1 .taken) in
+    (told-refused _ _ _ (c .reject .ensures) e, left-refused _ _ _ _ (as-before _ _ _ _ _ a b _ _ counted) e)
 
 tell-all-requires-2 : tie.Need-tell-all-requires-2
 tell-all-requires-2 c κs = search needs
@@ -69,7 +76,13 @@ same-length-2 : tie.Need-same-length-2
 same-length-2 c = search needs
 
 returns-4 : tie.Need-returns-4
-returns-4 c = let e = answered bumpAnswer (c .before .before .before .before .before .before .before .before .before .before .before .before .before .before .before .before .read-bump .ensures) (c .before .before .before .before .before .before .before .before .before .before .before .before .before .before .a .given .1) in let f = answered bumpAnswer (c .before .before .before .before .before .before .before .before .before .before .before .before .read-bump2 .ensures) (c .before .before .before .before .before .before .before .before .before .before .b .given .1) in (listed-entries _ _ _ _ _ e f _ _ (c .before .before .before .before .before .before .before .tell-all .ensures) (c .before .before .before .before .if1 .left) _ _ (c .before .before .tell-all2 .ensures), listed-words _ _ _ _ _ e f _ _ (c .before .before .before .before .before .before .before .tell-all .ensures) (c .before .before .before .before .if1 .left) _ _ (c .before .before .tell-all2 .ensures))
+returns-4 c =
+    let a = answered bumpAnswer (c .before .before .before .before .before .before .before .before .before .before .before .before .before .before .before .before .read-bump .ensures) (c .before .before .before .before .before .before .before .before .before .before .before .before .before .before .a .given .1) in
+    let b = answered bumpAnswer (c .before .before .before .before .before .before .before .before .before .before .before .before .read-bump2 .ensures) (c .before .before .before .before .before .before .before .before .before .before .b .given .1) in
+    let counted = c .before .before .before .before .before .before .before .tell-all .ensures in
+    let fits = c .before .before .before .before .if1 .left in
+    let wrote = c .before .before .tell-all2 .ensures in
+    (listed-entries _ _ _ _ _ a b _ _ counted fits _ _ wrote, listed-words _ _ _ _ _ a b _ _ counted fits _ _ wrote)
 
 pub list-differences-spec : {M : Type 1} → statement M
 list-differences-spec =

@@ -3,12 +3,10 @@ use Rattle.difference.specs.Page.{store}
 use lib.ListN.{length-set}
 use borrow.Author.Tests.{not-true, not-false}
 use native.Mathlib.Omega.{arith}
-use mathlib.Core.Path.{_≡_, refl, sym, ap, _∙_}
+use mathlib.Core.Path.{sym}
 use borrow.Author.Needs.{needs}
 use Rattle.difference.proofs.listing.put.Statement.{statement}
 use Rattle.difference.proofs.listing.put.Tie as tie
-use Rattle.difference.proofs.listing.put.Reads as reads
-use Rattle.difference.proofs.listing.put.Lts as lts
 
 add-result : tie.Need-add-result
 add-result c = search needs

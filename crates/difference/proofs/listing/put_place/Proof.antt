@@ -1,11 +1,8 @@
 use Rattle.difference.specs.PageLaws.{place-alike, place-told}
-use mathlib.Core.Path.{_≡_, refl, sym, ap, _∙_}
+use mathlib.Core.Path.{sym, _∙_}
 use borrow.Author.Needs.{needs}
 use Rattle.difference.proofs.listing.put_place.Statement.{statement}
 use Rattle.difference.proofs.listing.put_place.Tie as tie
-use Rattle.difference.proofs.listing.put_place.Reads as reads
-use Rattle.difference.proofs.listing.put_place.Lts as lts
-use Rattle.difference.proofs.listing.put.Reads as put-reads
 
 returns : tie.Need-returns
 returns c = sym (place-alike _ _ _ _ _ _ (c .if1 .taken))

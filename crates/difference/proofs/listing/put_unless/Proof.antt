@@ -1,11 +1,8 @@
 use Rattle.difference.specs.Page.{putUnless}
-use mathlib.Core.Path.{_≡_, refl, sym, ap, _∙_}
+use mathlib.Core.Path.{refl, _∙_}
 use borrow.Author.Needs.{needs}
 use Rattle.difference.proofs.listing.put_unless.Statement.{statement}
 use Rattle.difference.proofs.listing.put_unless.Tie as tie
-use Rattle.difference.proofs.listing.put_unless.Reads as reads
-use Rattle.difference.proofs.listing.put_unless.Lts as lts
-use Rattle.difference.proofs.listing.put.Reads as put-reads
 
 returns : tie.Need-returns
 unfolding putUnless

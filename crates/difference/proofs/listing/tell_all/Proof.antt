@@ -1,14 +1,9 @@
 use Prim.Native.Nat.{ℕ}
 use Rattle.difference.specs.MergeLaws.{walked}
 use lib.ListN.{length-replicate}
-use mathlib.Core.Path.{_≡_, refl, sym, ap, _∙_}
 use borrow.Author.Needs.{needs}
 use Rattle.difference.proofs.listing.tell_all.Statement.{statement}
 use Rattle.difference.proofs.listing.tell_all.Tie as tie
-use Rattle.difference.proofs.listing.tell_all.Reads as reads
-use Rattle.difference.proofs.listing.tell_all.Lts as lts
-use Rattle.difference.proofs.listing.put_unless.Reads as put-unless-reads
-use Rattle.difference.proofs.listing.tell_levels.Reads as tell-levels-reads
 
 put-unless-requires : tie.Need-put-unless-requires
 put-unless-requires c κs = search needs

@@ -6,17 +6,9 @@ use Rattle.difference.specs.Page.{page, putAll}
 use lib.ListN.{length, drop}
 use Prim.Native.Nat.{_-_, _≤_}
 use native.Mathlib.Omega.{arith}
-use mathlib.Core.Path.{_≡_, refl, sym, ap, _∙_}
+use mathlib.Core.Path.{_≡_, refl, sym, _∙_}
 use Rattle.difference.proofs.listing.tell_level.Statement.{statement}
 use Rattle.difference.proofs.listing.tell_level.Tie as tie
-use Rattle.difference.proofs.listing.tell_level.Reads as reads
-use Rattle.difference.proofs.listing.tell_level.Lts as lts
-use Rattle.difference.proofs.level.front.Reads as front-reads
-use Rattle.difference.proofs.level.lesser.Reads as lesser-reads
-use Rattle.difference.proofs.level.next_offset.Reads as next-offset-reads
-use Rattle.difference.proofs.level.past.Reads as past-reads
-use Rattle.difference.proofs.listing.put_place.Reads as put-place-reads
-use Rattle.difference.proofs.listing.told.Reads as told-reads
 
 abbrev Inv-loop : tie.InvT-loop
 Inv-loop s x t y out₀ at write level at₀ i₀ j₀ turn₀ out at' i j turn = (putAll write (page out₀ at₀) (merged 2048 level (entries s x) (entries t y)) ≡ putAll write (page out at') (merged (2048 - turn) level (entries s (drop i x)) (entries t (drop j y)))) × (turn ≤ 2048) × (length out ≡ length out₀)
@@ -46,7 +38,9 @@ same-length : tie.Need-same-length Inv-loop μ-loop
 same-length c = c .before .before .before .before .before .before .loop .inv .2
 
 returns : tie.Need-returns Inv-loop μ-loop
-returns c = sym (c .before .before .before .before .before .before .loop .inv .0 ∙ merge-stop _ _ _ _ _ _ _ (c .before .before .before .before .before .loop-test .taken) (least _ _ (c .before .before .before .before .next-offset .ensures) (c .before .before .before .next-offset2 .ensures) (c .before .before .lesser .ensures) (c .enum-told .given .1)))
+returns c =
+    let next = least _ _ (c .before .before .before .before .next-offset .ensures) (c .before .before .before .next-offset2 .ensures) (c .before .before .lesser .ensures) (c .enum-told .given .1) in
+    sym (c .before .before .before .before .before .before .loop .inv .0 ∙ merge-stop _ _ _ _ _ _ _ (c .before .before .before .before .before .loop-test .taken) next)
 
 front-requires : tie.Need-front-requires Inv-loop μ-loop
 front-requires c κs = search needs
@@ -73,7 +67,13 @@ loop-less : tie.Need-loop-less Inv-loop μ-loop
 loop-less c = omega arith
 
 loop-again : tie.Need-loop-again Inv-loop μ-loop
-loop-again c = (c .before .before .before .before .before .before .before .before .before .before .before .before .before .before .before .before .loop .inv .0 ∙ merge-on _ _ _ _ _ _ _ (c .before .before .before .before .before .before .before .before .before .before .before .before .before .before .before .loop-test .taken) (least _ _ (c .before .before .before .before .before .before .before .before .before .before .before .before .before .before .next-offset .ensures) (c .before .before .before .before .before .before .before .before .before .before .before .before .before .next-offset2 .ensures) (c .before .before .before .before .before .before .before .before .before .before .before .before .lesser .ensures) (c .before .before .before .before .before .before .before .before .before .before .next .given .1)) (told-there _ _ _ (c .before .before .before .before .before .before .before .before .front .ensures) (c .before .before .before .before .before .before .before .front2 .ensures) (c .before .before .before .before .before .before .told .ensures)) (c .before .before .before .before .put-place .ensures) (c .before .past .ensures) (c .past2 .ensures), omega arith, c .before .before .before .before .put-place .kept .0 ∙ c .before .before .before .before .before .before .before .before .before .before .before .before .before .before .before .before .loop .inv .2)
+loop-again c =
+    let i = c .before .before .before .before .before .before .before .before .before .before .before .before .before .before .before .before .loop .inv in
+    let below = c .before .before .before .before .before .before .before .before .before .before .before .before .before .before .before .loop-test .taken in
+    let next = least _ _ (c .before .before .before .before .before .before .before .before .before .before .before .before .before .before .next-offset .ensures) (c .before .before .before .before .before .before .before .before .before .before .before .before .before .next-offset2 .ensures) (c .before .before .before .before .before .before .before .before .before .before .before .before .lesser .ensures) (c .before .before .before .before .before .before .before .before .before .before .next .given .1) in
+    let what = told-there _ _ _ (c .before .before .before .before .before .before .before .before .front .ensures) (c .before .before .before .before .before .before .before .front2 .ensures) (c .before .before .before .before .before .before .told .ensures) in
+    let put = c .before .before .before .before .put-place in
+    (i .0 ∙ merge-on _ _ _ _ _ _ _ below next what (put .ensures) (c .before .past .ensures) (c .past2 .ensures), omega (arith, below), put .kept .0 ∙ i .2)
 
 same-length-2 : tie.Need-same-length-2 Inv-loop μ-loop
 same-length-2 c = c .before .loop .inv .2

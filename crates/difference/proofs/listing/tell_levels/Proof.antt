@@ -5,17 +5,12 @@ use Rattle.difference.specs.MergeLaws.{walk-end, walk-on}
 use Rattle.difference.specs.Merge.{walk}
 use Rattle.difference.specs.Page.{page}
 use lib.ListN.{length}
-use Prim.Native.Nat.{ℕ, _-_, _≤_}
+use Prim.Native.Nat.{_-_, _≤_}
 use native.Mathlib.Nat.{sub-zero}
 use native.Mathlib.Omega.{arith}
-use mathlib.Core.Path.{_≡_, refl, sym, ap, _∙_}
+use mathlib.Core.Path.{_≡_, refl, sym, _∙_}
 use Rattle.difference.proofs.listing.tell_levels.Statement.{statement}
 use Rattle.difference.proofs.listing.tell_levels.Tie as tie
-use Rattle.difference.proofs.listing.tell_levels.Reads as reads
-use Rattle.difference.proofs.listing.tell_levels.Lts as lts
-use Rattle.difference.proofs.level.gather_level.Reads as gather-level-reads
-use Rattle.difference.proofs.listing.higher.Reads as higher-reads
-use Rattle.difference.proofs.listing.tell_level.Reads as tell-level-reads
 
 abbrev Inv-loop : tie.InvT-loop
 Inv-loop s x t y out₀ at write first₀ second₀ height c₀ d₀ at₀ level₀ out first second c d at' level = (walk write s (x .height) (length first₀) t (y .height) (length second₀) height 0 (c₀ .at) (d₀ .at) (page out₀ at₀) ≡ walk write s (x .height) (length first₀) t (y .height) (length second₀) (height - level) level (c .at) (d .at) (page out at')) × (level ≤ height) × (length out ≡ length out₀) × (length first ≡ length first₀) × (length second ≡ length second₀)
@@ -36,16 +31,28 @@ gather-level-requires-2 : tie.Need-gather-level-requires-2 Inv-loop μ-loop
 gather-level-requires-2 c κs = search needs
 
 slice-reshare-prefix-tell-level : tie.Need-slice-reshare-prefix-tell-level Inv-loop μ-loop
-slice-reshare-prefix-tell-level c = let l = c .before .before .before .before .before .before .gather-level .ensures .1 in let m = c .before .before .before .before .before .before .gather-level .kept .1 .1 .1 .1 .0 in omega arith
+slice-reshare-prefix-tell-level c =
+    let l = c .before .before .before .before .before .before .gather-level .ensures .1 in
+    let m = c .before .before .before .before .before .before .gather-level .kept .1 .1 .1 .1 .0 in
+    omega arith
 
 slice-aggregate-tell-level : tie.Need-slice-aggregate-tell-level Inv-loop μ-loop
-slice-aggregate-tell-level c = let l = c .before .before .before .before .before .before .before .gather-level .ensures .1 in let m = c .before .before .before .before .before .before .before .gather-level .kept .1 .1 .1 .1 .0 in sym (length-take-le _ _ (omega arith))
+slice-aggregate-tell-level c =
+    let l = c .before .before .before .before .before .before .before .gather-level .ensures .1 in
+    let m = c .before .before .before .before .before .before .before .gather-level .kept .1 .1 .1 .1 .0 in
+    sym (length-take-le _ _ (omega arith))
 
 slice-reshare-prefix-tell-level-2 : tie.Need-slice-reshare-prefix-tell-level-2 Inv-loop μ-loop
-slice-reshare-prefix-tell-level-2 c = let l = c .before .before .before .gather-level2 .ensures .1 in let m = c .before .before .before .gather-level2 .kept .1 .1 .1 .1 .0 in omega arith
+slice-reshare-prefix-tell-level-2 c =
+    let l = c .before .before .before .gather-level2 .ensures .1 in
+    let m = c .before .before .before .gather-level2 .kept .1 .1 .1 .1 .0 in
+    omega arith
 
 slice-aggregate-tell-level-2 : tie.Need-slice-aggregate-tell-level-2 Inv-loop μ-loop
-slice-aggregate-tell-level-2 c = let l = c .before .before .before .before .gather-level2 .ensures .1 in let m = c .before .before .before .before .gather-level2 .kept .1 .1 .1 .1 .0 in sym (length-take-le _ _ (omega arith))
+slice-aggregate-tell-level-2 c =
+    let l = c .before .before .before .before .gather-level2 .ensures .1 in
+    let m = c .before .before .before .before .gather-level2 .kept .1 .1 .1 .1 .0 in
+    sym (length-take-le _ _ (omega arith))
 
 tell-level-requires : tie.Need-tell-level-requires Inv-loop μ-loop
 tell-level-requires c κs = search needs
@@ -57,7 +64,18 @@ loop-less : tie.Need-loop-less Inv-loop μ-loop
 loop-less c = omega arith
 
 loop-again : tie.Need-loop-again Inv-loop μ-loop
-loop-again c = (c .before .before .before .before .before .before .before .before .before .before .before .before .before .before .before .before .before .loop .inv .0 ∙ walk-on _ _ _ _ _ _ _ _ _ _ _ _ _ _ _ _ _ _ _ (c .before .before .before .before .before .before .before .before .before .before .before .before .before .before .before .before .loop-test .taken) (c .before .before .before .before .before .before .before .before .before .before .before .before .before .before .before .before .before .loop .inv .3) (c .before .before .before .before .before .before .before .before .before .before .before .before .before .before .before .before .before .loop .inv .4) (c .before .before .before .before .before .before .before .before .before .before .before .before .before .before .gather-level .ensures .0) (c .before .before .before .before .before .before .before .before .before .before .gather-level2 .ensures .0) (c .before .before .before .before .tell-level .ensures), omega arith, c .before .before .before .before .tell-level .kept .1 .1 .1 .1 .0 ∙ c .before .before .before .before .before .before .before .before .before .before .before .before .before .before .before .before .before .loop .inv .2, c .before .before .before .before .before .before .before .before .before .before .before .before .before .before .gather-level .kept .1 .1 .1 .1 .0 ∙ c .before .before .before .before .before .before .before .before .before .before .before .before .before .before .before .before .before .loop .inv .3, c .before .before .before .before .before .before .before .before .before .before .gather-level2 .kept .1 .1 .1 .1 .0 ∙ c .before .before .before .before .before .before .before .before .before .before .before .before .before .before .before .before .before .loop .inv .4)
+loop-again c =
+    let i = c .before .before .before .before .before .before .before .before .before .before .before .before .before .before .before .before .before .loop .inv in
+    let below = c .before .before .before .before .before .before .before .before .before .before .before .before .before .before .before .before .loop-test .taken in
+    let a = c .before .before .before .before .before .before .before .before .before .before .before .before .before .before .gather-level in
+    let b = c .before .before .before .before .before .before .before .before .before .before .gather-level2 in
+    let t = c .before .before .before .before .tell-level in (
+      i .0 ∙ walk-on _ _ _ _ _ _ _ _ _ _ _ _ _ _ _ _ _ _ _ below (i .3) (i .4) (a .ensures .0) (b .ensures .0) (t .ensures),
+      omega (arith, below),
+      t .kept .1 .1 .1 .1 .0 ∙ i .2,
+      a .kept .1 .1 .1 .1 .0 ∙ i .3,
+      b .kept .1 .1 .1 .1 .0 ∙ i .4,
+    )
 
 same-length : tie.Need-same-length Inv-loop μ-loop
 same-length c = c .before .loop .inv .2

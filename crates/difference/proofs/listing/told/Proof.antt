@@ -4,13 +4,10 @@ use Rattle.difference.specs.Differences.{told, alike, differ, both}
 use Rattle.difference.specs.Listing.{sideWord}
 use Rattle.format.specs.Parse.{pick}
 use mathlib.Core.Bool.{Bool}
-use mathlib.Core.Path.{_≡_, refl, sym, ap, _∙_}
+use mathlib.Core.Path.{refl, sym, ap, _∙_}
 use borrow.Author.Needs.{needs}
 use Rattle.difference.proofs.listing.told.Statement.{statement}
 use Rattle.difference.proofs.listing.told.Tie as tie
-use Rattle.difference.proofs.listing.told.Reads as reads
-use Rattle.difference.proofs.listing.told.Lts as lts
-use Rattle.difference.proofs.listing.equal.Reads as equal-reads
 
 enum-told : tie.Need-enum-told
 enum-told c = search needs

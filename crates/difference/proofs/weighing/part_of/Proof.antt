@@ -1,38 +1,29 @@
-use mathlib.Core.Path.{refl, _∙_, sym, ap}
+use mathlib.Core.Path.{refl}
 use Rattle.difference.specs.Shorter.{handed, choiceOf}
 use borrow.Author.Needs.{needs}
 use Rattle.difference.proofs.weighing.part_of.Statement.{statement}
 use Rattle.difference.proofs.weighing.part_of.Tie as tie
-use Rattle.difference.proofs.weighing.part_of.Reads as reads
-use Rattle.difference.proofs.weighing.part_of.Lts as lts
 
--- src/weighing.rt:64:27
 enum-told : tie.Need-enum-told
 enum-told c = search needs
 
--- src/weighing.rt:65:28
 enum-told-2 : tie.Need-enum-told-2
 enum-told-2 c = search needs
 
--- src/weighing.rt:66:32
 enum-told-3 : tie.Need-enum-told-3
 enum-told-3 c = search needs
 
--- src/weighing.rt:66:32
 slice-aggregate-result : tie.Need-slice-aggregate-result
 slice-aggregate-result c = search needs
 
--- src/weighing.rt:60:1
 returns : tie.Need-returns
 unfolding handed choiceOf
 returns c = rw (c .enum-told .given .1) refl
 
--- src/weighing.rt:60:1
 returns-2 : tie.Need-returns-2
 unfolding handed choiceOf
 returns-2 c = rw (c .enum-told2 .given .1) refl
 
--- src/weighing.rt:60:1
 returns-3 : tie.Need-returns-3
 unfolding handed choiceOf
 returns-3 c = rw (c .before .enum-told3 .given .1) refl

@@ -1,18 +1,14 @@
-use mathlib.Core.Path.{_∙_, sym, ap}
+use mathlib.Core.Path.{sym, ap}
 use Rattle.spv.specs.Result.{accepted}
 use Rattle.difference.specs.Shorter.{choiceOf}
 use Rattle.difference.specs.ShorterLaws.{takes-first, takes-second}
 use Rattle.difference.proofs.weighing.shorter_of.Statement.{statement}
 use Rattle.difference.proofs.weighing.shorter_of.Tie as tie
-use Rattle.difference.proofs.weighing.shorter_of.Reads as reads
-use Rattle.difference.proofs.weighing.shorter_of.Lts as lts
 
--- src/weighing.rt:19:9
 returns : tie.Need-returns
 unfolding choiceOf
 returns c = ap accepted (sym (takes-first _ _ (c .if1 .taken)))
 
--- src/weighing.rt:15:1
 returns-2 : tie.Need-returns-2
 unfolding choiceOf
 returns-2 c = ap accepted (sym (takes-second _ _ (c .if1 .left)))

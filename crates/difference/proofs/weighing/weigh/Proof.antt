@@ -6,46 +6,31 @@ use Rattle.difference.specs.ShorterLaws.{first-refused, second-refused, 
 use borrow.Author.Needs.{needs}
 use Rattle.difference.proofs.weighing.weigh.Statement.{statement}
 use Rattle.difference.proofs.weighing.weigh.Tie as tie
-use Rattle.difference.proofs.weighing.weigh.Reads as reads
-use Rattle.difference.proofs.weighing.weigh.Lts as lts
-use Rattle.difference.proofs.weighing.shorter_of.Reads as shorter-of-reads
-use Rattle.format.proofs.same_bytes.Reads as same-bytes-reads
-use Rattle.spv.proofs.reject.Reads as reject-reads
-use Rattle.spv.proofs.prove_bump.Reads as prove-bump-reads
 
--- src/weighing.rt:28:9
 prove-bump-requires : tie.Need-prove-bump-requires
 prove-bump-requires c κs = search needs
 
--- src/weighing.rt:32:25
 enum-known-x : tie.Need-enum-known-x
 enum-known-x c = search needs
 
--- src/weighing.rt:37:17
 enum-told : tie.Need-enum-told
 enum-told c = search needs
 
--- src/weighing.rt:37:17
 prove-bump-requires-2 : tie.Need-prove-bump-requires-2
 prove-bump-requires-2 c κs = search needs
 
--- src/weighing.rt:41:33
 enum-known-y : tie.Need-enum-known-y
 enum-known-y c = search needs
 
--- src/weighing.rt:46:25
 enum-told-2 : tie.Need-enum-told-2
 enum-told-2 c = search needs
 
--- src/weighing.rt:46:25
 same-bytes-requires : tie.Need-same-bytes-requires
 same-bytes-requires c κs = search needs
 
--- src/weighing.rt:47:25
 reject-requires : tie.Need-reject-requires
 reject-requires c κs = search needs
 
--- src/weighing.rt:47:25
 returns : tie.Need-returns
 unfolding choiceOf
 returns c =
@@ -53,18 +38,15 @@ returns c =
     let q = c .before .before .before .before .before .before .prove-bump2 in
     ap refused (c .reject .ensures) ∙ two-roots _ _ _ (p .result) (p .ensures) _ _ (c .before .before .before .before .before .before .before .enum-told .given .1) (q .result) (q .ensures) _ _ (c .before .before .before .enum-told2 .given .1) (sym (c .before .before .same-bytes .ensures) ∙ not-true _ (c .before .if1 .taken))
 
--- src/weighing.rt:52:21
 shorter-of-requires : tie.Need-shorter-of-requires
 shorter-of-requires c κs = search needs
 
--- src/weighing.rt:25:1
 returns-2 : tie.Need-returns-2
 unfolding choiceOf
 returns-2 c =
     let p = c .before .before .before .before .prove-bump in
     first-refused _ _ _ (p .result) (p .ensures) _ (c .before .x .given .1)
 
--- src/weighing.rt:25:1
 returns-3 : tie.Need-returns-3
 unfolding choiceOf
 returns-3 c =
@@ -72,7 +54,6 @@ returns-3 c =
     let q = c .before .before .before .before .prove-bump2 in
     second-refused _ _ _ (p .result) (p .ensures) _ _ (c .before .before .before .before .before .enum-told .given .1) (q .result) (q .ensures) _ (c .before .y .given .1)
 
--- src/weighing.rt:25:1
 returns-4 : tie.Need-returns-4
 returns-4 c =
     let p = c .before .before .before .before .before .before .before .before .before .before .prove-bump in

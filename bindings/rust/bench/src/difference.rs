@@ -1,0 +1,59 @@
+//! Two BUMPs side by side.
+
+use barrowtide::{differences_into, MAX_DIFFERENCES};
+use reference::difference::differences;
+use reference::generate::path::Plan;
+use reference::generate::random::Random;
+use reference::generate::tree::Tree;
+
+use crate::read::{falling, heading, row, seconds_of};
+
+/// Prints the table of differences.
+pub fn run() {
+    heading("Differences of two BUMPs");
+    let mut random = Random::of("difference");
+    let tree = Tree::random(&mut random, 1_024);
+    let small = Plan::of(&tree, &[777]);
+    compare("10 layers, one client, no difference", &small, &small);
+    for (name, apart) in [("same offsets", false), ("other offsets", true)] {
+        let (mut first, mut second) = (falling(false), beside(apart));
+        compare(&format!("32 levels of 1,024 falling, {name}"), &first, &second);
+        for path in [&mut first, &mut second] {
+            path.levels.iter_mut().for_each(|leaves| leaves.reverse());
+        }
+        compare(&format!("32 levels of 1,024 rising, {name}"), &first, &second);
+        for path in [&mut first, &mut second] {
+            path.levels.iter_mut().for_each(|leaves| random.shuffle(leaves));
+        }
+        compare(&format!("32 levels of 1,024 shuffled, {name}"), &first, &second);
+    }
+}
+
+/// A path of falling leaves at the offsets of [`falling`], or at others where there are any.
+fn beside(apart: bool) -> Plan {
+    let mut path = falling(false);
+    for leaf in path.levels.iter_mut().flatten() {
+        leaf.hash = [0xbb; 32];
+    }
+    if apart {
+        for (level, leaves) in path.levels.iter_mut().enumerate().take(22) {
+            let end = 1u64 << (32 - level);
+            leaves.iter_mut().for_each(|leaf| leaf.offset -= end - 1_024);
+        }
+    }
+    path
+}
+
+fn compare(name: &str, first: &Plan, second: &Plan) {
+    let (first, second) = (first.bump().bytes, second.bump().bytes);
+    let told = differences(&first, &second, usize::MAX).expect("two sound paths");
+    let mut list = vec![0; 3 * MAX_DIFFERENCES];
+    assert_eq!(differences_into(&first, &second, &mut list), Ok(told.len()));
+    assert_eq!(list[..3 * told.len()], *told.as_flattened());
+    row(
+        name,
+        first.len() + second.len(),
+        seconds_of(|| differences_into(&first, &second, &mut list)),
+        seconds_of(|| differences(&first, &second, usize::MAX)),
+    );
+}
