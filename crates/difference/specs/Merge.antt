@@ -1,6 +1,6 @@
 -- The differences of a level as the code tells them: of two lists in the order of their offsets, from the least offset up.
 use mathlib.Core.List.{List, [], _∷_}
-use mathlib.Core.Bool.{Bool, true, false}
+use mathlib.Core.Bool.{Bool}
 use Prim.Native.Nat.{ℕ, zero, suc, _+_}
 use lib.Dec.{eqb, ltb}
 use Rattle.format.specs.Parse.{pick}
@@ -46,10 +46,16 @@ unfoldable pub merged : ℕ → ℕ → List Entry → List Entry → List Diffe
 merged zero k x y = []
 merged (suc n) k x y = onNext (lesser (nextOf x) (nextOf y)) (λ o. tell k o (told (front o x) (front o y)) (merged n k (past o x) (past o y)))
 
-unfoldable pub isCopy : Kind → Bool
-isCopy (Plain p) = false
-isCopy Copy = true
-isCopy (Client p) = false
+-- a leaf's flags, and the place of its hash
+unfoldable pub flagsOf : Kind → ℕ
+flagsOf (Plain p) = 0
+flagsOf Copy = 1
+flagsOf (Client p) = 2
+
+unfoldable pub placeOf : Kind → ℕ
+placeOf (Plain p) = p
+placeOf Copy = 0
+placeOf (Client p) = p
 
 -- what the code's answer says
 unfoldable pub standingOf : List ℕ → Spot → Standing

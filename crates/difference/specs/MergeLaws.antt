@@ -1,7 +1,7 @@
 -- Laws of telling the differences of a level, one for each turn of a loop.
 use mathlib.Core.Path.{_≡_, refl, ap, sym, _∙_}
 use mathlib.Core.List.{List, []}
-use mathlib.Core.Bool.{Bool}
+use mathlib.Core.Bool.{Bool, true, false}
 use Prim.Native.Nat.{ℕ, _+_, _-_, _<_, _≤_}
 use lib.ListN.{length, getD, drop, drop-of-length-le}
 use lib.Seq.{drop-cons}
@@ -17,7 +17,8 @@ use Rattle.format.specs.declared.level.Kind.{Kind}
 use Rattle.format.specs.declared.level.Kind.the-variants.{Plain, Copy, Client}
 use Rattle.format.specs.declared.bump.BumpHead.{BumpHead}
 use Rattle.format.specs.Refusals.{MAX-LEAVES}
-use Rattle.format.specs.Search.{looseLeaf}
+use Rattle.format.specs.Bytes.{same}
+use Rattle.format.specs.Search.{looseLeaf, hashAt}
 use Rattle.format.specs.BumpBytes.{Entry, copy, carriedOf}
 use Rattle.difference.specs.declared.level.Next.{Next}
 use Rattle.difference.specs.declared.level.Next.the-variants.{Offset, End}
@@ -25,7 +26,7 @@ use Rattle.difference.specs.Differences.{Standing, stands, nothing, equa
 use Rattle.difference.specs.Page.{Page, putAll, toldWord, putPlace, putUnless}
 use Rattle.difference.specs.PageLaws.{all-told}
 use Rattle.difference.specs.Sorted.{offsetAt, carriedAt, entries, Gathering, gathering, gatherLevel}
-use Rattle.difference.specs.Merge.{nextOf, lesser, front, past, onNext, merged, isCopy, walk, walkAll}
+use Rattle.difference.specs.Merge.{nextOf, lesser, front, past, onNext, merged, flagsOf, placeOf, walk, walkAll}
 
 module _ (s l : List ℕ) (i : ℕ) where
   none-left : length l ≤ i → entries s (drop i l) ≡ []
@@ -135,9 +136,34 @@ walked write s x t y p {p₁} {p₂} {p₃} rx ry a b c d e =
     ∙ ap above d
     ∙ ap (λ (q : Page). above (putUnless (eqb (x .height) (y .height)) write q 2)) c
 
--- a copy equals a copy only
-pub equal-copy : (s t : List ℕ) (x y : Kind) → x ≡ Copy → isCopy y ≡ equal (carriedOf s x) (carriedOf t y)
-unfolding isCopy equal carriedOf
-equal-copy s t x (Plain q) e = rw e refl
-equal-copy s t x Copy e = rw e refl
-equal-copy s t x (Client q) e = rw e refl
+-- two leaves differ in flags, are copies, or are compared by their hashes
+module _ (s t : List ℕ) where
+  pub flags-differ : (x y : Kind) → (flagsOf x ≡ flagsOf y → ⊥) → false ≡ equal (carriedOf s x) (carriedOf t y)
+  unfolding flagsOf equal carriedOf
+  flags-differ (Plain p) (Plain q) h = absurd (h refl)
+  flags-differ (Plain p) Copy h = refl
+  flags-differ (Plain p) (Client q) h = refl
+  flags-differ Copy (Plain q) h = refl
+  flags-differ Copy Copy h = absurd (h refl)
+  flags-differ Copy (Client q) h = refl
+  flags-differ (Client p) (Plain q) h = refl
+  flags-differ (Client p) Copy h = refl
+  flags-differ (Client p) (Client q) h = absurd (h refl)
+
+  pub both-copies : (x y : Kind) → flagsOf x ≡ flagsOf y → flagsOf x ≡ 1 → true ≡ equal (carriedOf s x) (carriedOf t y)
+  unfolding flagsOf equal carriedOf
+  both-copies (Plain p) y e f = absurd (omega arith)
+  both-copies Copy (Plain q) e f = absurd (omega arith)
+  both-copies Copy Copy e f = refl
+  both-copies Copy (Client q) e f = absurd (omega arith)
+  both-copies (Client p) y e f = absurd (omega arith)
+
+  pub by-hash : (x y : Kind) → flagsOf x ≡ flagsOf y → (flagsOf x ≡ 1 → ⊥) → same (hashAt s (placeOf x)) (hashAt t (placeOf y)) ≡ equal (carriedOf s x) (carriedOf t y)
+  unfolding flagsOf placeOf equal carriedOf
+  by-hash (Plain p) (Plain q) e f = refl
+  by-hash (Plain p) Copy e f = absurd (omega arith)
+  by-hash (Plain p) (Client q) e f = absurd (omega arith)
+  by-hash Copy y e f = absurd (f refl)
+  by-hash (Client p) (Plain q) e f = absurd (omega arith)
+  by-hash (Client p) Copy e f = absurd (omega arith)
+  by-hash (Client p) (Client q) e f = refl

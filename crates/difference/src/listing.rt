@@ -19,7 +19,7 @@ ghost use Rattle.difference.specs.Differences.{equal, told, higher as hi
 ghost use Rattle.difference.specs.Listing.{listing, listedOf, wordsIn, roomIn};
 ghost use Rattle.difference.specs.Page.{page, putOn, putAll, toldWord, putPlace, putUnless};
 ghost use Rattle.difference.specs.Sorted.{entries};
-ghost use Rattle.difference.specs.Merge.{isCopy, standingOf, merged, walk, walkAll};
+ghost use Rattle.difference.specs.Merge.{flagsOf, placeOf, standingOf, merged, walk, walkAll};
 
 // What an entry says first; its level and offset follow, 0 of a height.
 pub const BLOCK: u64 = 1;
@@ -55,13 +55,24 @@ fn put(out: &mut [u64], at: usize, write: bool, what: u64, level: u64, offset: u
     at + 1
 }
 
-fn is_copy(x: Kind) -> bool
-    ensures { λ r. ⌜ r ≡ isCopy x ⌝ }
+fn flags_of(kind: Kind) -> u64
+    ensures { λ r. ⌜ r ≡ flagsOf kind ⌝ }
 {
-    match x {
-        Kind::Plain(_) => false,
-        Kind::Copy => true,
-        Kind::Client(_) => false,
+    match kind {
+        Kind::Plain(_) => 0,
+        Kind::Copy => 1,
+        Kind::Client(_) => 2,
+    }
+}
+
+// The place of the hash; of a copy there is none.
+fn place_of(kind: Kind) -> usize
+    ensures { λ r. ⌜ r ≡ placeOf kind ⌝ }
+{
+    match kind {
+        Kind::Plain(place) => place,
+        Kind::Copy => 0,
+        Kind::Client(place) => place,
     }
 }
 
@@ -69,19 +80,17 @@ fn is_copy(x: Kind) -> bool
 fn equal(s: &[u8], x: Kind, t: &[u8], y: Kind) -> bool
     ensures { λ r. ⌜ r ≡ equal (carriedOf (now (s .entry)) x) (carriedOf (now (t .entry)) y) ⌝ }
 {
-    match x {
-        Kind::Plain(p) => match y {
-            Kind::Plain(q) => format::same_bytes(format::hash_at(s, p), format::hash_at(t, q)),
-            Kind::Copy => false,
-            Kind::Client(_) => false,
-        },
-        Kind::Copy => is_copy(y),
-        Kind::Client(p) => match y {
-            Kind::Plain(_) => false,
-            Kind::Copy => false,
-            Kind::Client(q) => format::same_bytes(format::hash_at(s, p), format::hash_at(t, q)),
-        },
+    let flags = flags_of(x);
+    if flags != flags_of(y) {
+        return false;
     }
+    if flags == 1 {
+        return true;
+    }
+    format::same_bytes(
+        format::hash_at(s, place_of(x)),
+        format::hash_at(t, place_of(y)),
+    )
 }
 
 // What is told of a place, 0 if nothing.

@@ -1,8 +1,8 @@
-use Rattle.difference.specs.Merge.{isCopy}
+use Rattle.difference.specs.Merge.{flagsOf}
 use mathlib.Core.Path.{refl}
 use borrow.Author.Needs.{needs}
-use Rattle.difference.proofs.listing.is_copy.Statement.{statement}
-use Rattle.difference.proofs.listing.is_copy.Tie as tie
+use Rattle.difference.proofs.listing.flags_of.Statement.{statement}
+use Rattle.difference.proofs.listing.flags_of.Tie as tie
 
 enum-told : tie.Need-enum-told
 enum-told c = search needs
@@ -14,16 +14,16 @@ enum-told-3 : tie.Need-enum-told-3
 enum-told-3 c = search needs
 
 returns : tie.Need-returns
-unfolding isCopy
+unfolding flagsOf
 returns c = rw (c .enum-told .given .1) refl
 
 returns-2 : tie.Need-returns-2
-unfolding isCopy
+unfolding flagsOf
 returns-2 c = rw (c .enum-told2 .given .1) refl
 
 returns-3 : tie.Need-returns-3
-unfolding isCopy
+unfolding flagsOf
 returns-3 c = rw (c .enum-told3 .given .1) refl
 
-pub is-copy-spec : {M : Type 1} → statement M
-is-copy-spec = tie.close (tie.spec enum-told enum-told-2 enum-told-3 returns returns-2 returns-3)
+pub flags-of-spec : {M : Type 1} → statement M
+flags-of-spec = tie.close (tie.spec enum-told enum-told-2 enum-told-3 returns returns-2 returns-3)
