@@ -33,8 +33,8 @@
  * pointer to const is only read; what is lent by another must not overlap with anything else lent
  * to the same call. On a refusal all three numbers of *blame are written and everything else stays
  * as it was, but for a lent table or row, which is zeroed, and for what barrowtide_shorter hands
- * back, which is an empty part. On acceptance the values are written and
- * *blame stays as it was, and so does the room past what is written.
+ * back, which is an empty part. On acceptance the values are written and *blame stays as it was,
+ * and so does the room past what is written.
  *
  * Stack. As built by the kit a call needs at most
  *   - 64 KiB  barrowtide_judge_beef
@@ -266,32 +266,32 @@ uint32_t barrowtide_compare(uint32_t first_form, const uint8_t *first, size_t fi
 
 /* What an entry of the list of differences says first. */
 enum barrowtide_difference {
-    BARROWTIDE_BLOCK_HEIGHT = 1,   /* the block heights differ */
-    BARROWTIDE_TREE_HEIGHT = 2,    /* the tree heights differ */
-    BARROWTIDE_IN_FIRST = 3,       /* a leaf stands in the first BUMP only */
-    BARROWTIDE_IN_SECOND = 4,      /* a leaf stands in the second BUMP only */
-    BARROWTIDE_IN_BOTH = 5         /* a leaf stands in both, with other flags or another hash */
+    BARROWTIDE_BLOCK_HEIGHT = 1, /* the block heights differ */
+    BARROWTIDE_TREE_HEIGHT = 2,  /* the tree heights differ */
+    BARROWTIDE_IN_FIRST = 3,     /* a leaf stands in the first BUMP only */
+    BARROWTIDE_IN_SECOND = 4,    /* a leaf stands in the second BUMP only */
+    BARROWTIDE_IN_BOTH = 5       /* a leaf stands in both, with other flags or another hash */
 };
 
 /* Lists every difference of two BUMPs once and nothing else: block height, tree height, then leaves
    by level and offset. The order in which leaves are written is no difference; a copy and a hash
    differ, even if the copy stands for that hash. An entry is three numbers: what it says (see
    above), the leaf's level and its offset, both 0 for a height. The list has list_len numbers, room
-   for list_len / 3 entries; 3 * BARROWTIDE_MAX_DIFFERENCES are always enough. On acceptance *entries
-   is their number, which stand at the front of the list; the numbers past them stay as they were,
-   and all of the list on a refusal.
-   It takes one pass over levels whose offsets rise, and the square of the number of leaves at worst:
-   two BUMPs of 32 levels of 1,024 falling leaves take 0.1 s.
+   for list_len / 3 entries; 3 * BARROWTIDE_MAX_DIFFERENCES are always enough. On acceptance
+   *entries is the number of entries, which stand at the front of the list; the numbers past them
+   stay as they were, and all of the list on a refusal.
+   Levels whose offsets rise take one pass, others up to the square of their leaves: two BUMPs of 32
+   levels of 1,024 falling leaves take 0.1 s.
    Refused: as barrowtide_read_bump for the first, then for the second; 22 if there are more
    differences than room. */
 uint32_t barrowtide_differences(const uint8_t *first, size_t first_len, const uint8_t *second,
                                 size_t second_len, uint64_t *list, size_t list_len,
                                 barrowtide_blame *blame, uint64_t *entries);
 
-/* The shorter of two BUMPs, where both prove the id to one root; the first if they are equally long.
-   *which is 0 for the first and 1 for the second, and *length the length of that input, which is the
-   proof to keep. On a refusal both are 0: an empty part of the first. Positions, layers and block
-   heights may differ.
+/* The shorter of two BUMPs, where both prove the id to one root; the first if they are equally
+   long. *which is 0 for the first and 1 for the second, and *length is the length of that input,
+   the proof to keep. On a refusal both are 0: an empty part of the first. Positions, layers and
+   block heights may differ.
    Refused: as barrowtide_prove_bump for the first, then for the second; 23 for two roots. */
 uint32_t barrowtide_shorter(const uint8_t *first, size_t first_len, const uint8_t *second,
                             size_t second_len, const uint8_t id[32], barrowtide_blame *blame,
