@@ -3,8 +3,8 @@ pub mod Once
 pub mod Rising
 pub mod NoDifference
 pub mod Listing
-pub mod Page
-pub mod PageLaws
+pub mod Filling
+pub mod FillingLaws
 pub mod Sorted
 pub mod SortedLaws
 pub mod InOrder

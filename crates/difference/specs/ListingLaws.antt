@@ -18,8 +18,8 @@ use Rattle.spv.specs.Result.{Result, accepted, refused, carrying, refusedReadin
 use Rattle.difference.specs.declared.listing.Listed.{Listed}
 use Rattle.difference.specs.Differences.{Difference, differences}
 use Rattle.difference.specs.Listing.{wordsOf, fitting, listing, listedOf, wordsIn}
-use Rattle.difference.specs.Page.{Page, page, putAll}
-use Rattle.difference.specs.PageLaws.{counted, written}
+use Rattle.difference.specs.Filling.{Filling, filling, putAll}
+use Rattle.difference.specs.FillingLaws.{counted, written}
 use Rattle.difference.specs.Merge.{walkAll}
 use Rattle.difference.specs.WalkTheorem.{told-all}
 
@@ -47,7 +47,7 @@ unfolding wordsIn
 left-refused l why v w e f = rw (← f) e
 
 module _ (a b w : List ℕ) (hx hy : BumpHead) {q r : ℕ} (e : each headOf (bumpWhole a) ≡ got hx q) (f : each headOf (bumpWhole b) ≡ got hy r)
-    (v : List ℕ) (n : ℕ) (g : page v n ≡ walkAll false a hx b hy (page w 0)) where
+    (v : List ℕ) (n : ℕ) (g : filling v n ≡ walkAll false a hx b hy (filling w 0)) where
   abbrev first : (x : Bump) × (bumpWhole a ≡ got x q) × (headOf x ≡ hx)
   first = each-got headOf (bumpWhole a) e
 
@@ -57,21 +57,21 @@ module _ (a b w : List ℕ) (hx hy : BumpHead) {q r : ℕ} (e : each headOf (bum
   abbrev all : List Difference
   all = differences (contentOf a (first .0)) (contentOf b (second .0))
 
-  told : (write : Bool) (p : Page) → walkAll write a hx b hy p ≡ putAll write p all
+  told : (write : Bool) (p : Filling) → walkAll write a hx b hy p ≡ putAll write p all
   told write p =
       ap (λ (h : BumpHead). walkAll write a h b hy p) (sym (first .2))
       ∙ ap (λ (h : BumpHead). walkAll write a (headOf (first .0)) b h p) (sym (second .2))
       ∙ told-all write a b p (first .1) (second .1)
 
   -- what the first pass found: the memory as it was, and the count or one past the room
-  found : page v n ≡ page w (min (0 + length all) (length w / 3 + 1))
-  found = g ∙ told false (page w 0) ∙ counted w 0 all (omega arith)
+  found : filling v n ≡ filling w (min (0 + length all) (length w / 3 + 1))
+  found = g ∙ told false (filling w 0) ∙ counted w 0 all (omega arith)
 
   pub as-before : v ≡ w
-  as-before = ap (λ (p : Page). p .words) found
+  as-before = ap (λ (p : Filling). p .words) found
 
   count : n ≡ min (0 + length all) (length v / 3 + 1)
-  count = ap (λ (p : Page). p .told) found ∙ ap (λ (u : List ℕ). min (0 + length all) (length u / 3 + 1)) (sym as-before)
+  count = ap (λ (p : Filling). p .told) found ∙ ap (λ (u : List ℕ). min (0 + length all) (length u / 3 + 1)) (sym as-before)
 
   room-same : length v / 3 ≡ length w / 3
   room-same = ap (λ (u : List ℕ). length u / 3) as-before
@@ -82,7 +82,7 @@ module _ (a b w : List ℕ) (hx hy : BumpHead) {q r : ℕ} (e : each headOf (bum
       let over : length w / 3 < length all = (let c = count in let d = room-same in omega (arith, c, d)) in
       sym (both-read a b (length w / 3) (first .1) (second .1) ∙ rw (lt-leb (length all) (length w / 3) over) refl)
 
-  module _ (h : n ≤ length v / 3) (u : List ℕ) (m : ℕ) (i : page u m ≡ walkAll true a hx b hy (page v 0)) where
+  module _ (h : n ≤ length v / 3) (u : List ℕ) (m : ℕ) (i : filling u m ≡ walkAll true a hx b hy (filling v 0)) where
     fits : length all ≤ length w / 3
     fits = let c = count in let d = room-same in omega (arith, c, d)
 
@@ -91,13 +91,13 @@ module _ (a b w : List ℕ) (hx hy : BumpHead) {q r : ℕ} (e : each headOf (bum
     is = both-read a b (length w / 3) (first .1) (second .1) ∙ rw (le-leb (length all) (length w / 3) fits) refl
 
     -- what the second pass wrote
-    wrote : page u m ≡ page (wordsOf all ++ drop (3 * length all) w) (length all)
-    wrote = i ∙ told true (page v 0) ∙ ap (λ (x : List ℕ). putAll true (page x 0) all) as-before ∙ written w all fits
+    wrote : filling u m ≡ filling (wordsOf all ++ drop (3 * length all) w) (length all)
+    wrote = i ∙ told true (filling v 0) ∙ ap (λ (x : List ℕ). putAll true (filling x 0) all) as-before ∙ written w all fits
 
     pub listed-entries : Listed.Entries m ≡ listedOf (listing a b (length w / 3))
     unfolding listedOf
-    listed-entries = ap (λ (p : Page). Listed.Entries (p .told)) wrote ∙ sym (ap listedOf is)
+    listed-entries = ap (λ (p : Filling). Listed.Entries (p .told)) wrote ∙ sym (ap listedOf is)
 
     pub listed-words : u ≡ wordsIn (listing a b (length w / 3)) w
     unfolding wordsIn
-    listed-words = ap (λ (p : Page). p .words) wrote ∙ sym (ap (λ (l : Result (List Difference)). wordsIn l w) is)
+    listed-words = ap (λ (p : Filling). p .words) wrote ∙ sym (ap (λ (l : Result (List Difference)). wordsIn l w) is)

@@ -14,7 +14,7 @@ use Rattle.difference.specs.declared.level.Next.the-variants.{Offset, En
 use Rattle.difference.specs.declared.level.Spot.{Spot}
 use Rattle.difference.specs.declared.level.Spot.the-variants.{Stands, Nothing}
 use Rattle.difference.specs.Differences.{Standing, stands, nothing, Difference, told, tell, higher}
-use Rattle.difference.specs.Page.{Page, putAll, putUnless}
+use Rattle.difference.specs.Filling.{Filling, putAll, putUnless}
 use Rattle.difference.specs.Sorted.{entries, gatherLevel}
 
 -- the offset of the first
@@ -67,14 +67,14 @@ abbrev pub OFFSETS : ℕ
 OFFSETS = 2048
 
 -- n levels from k, which start at these places in the first and in the second; the arrays have room for so many places
-unfoldable pub walk : Bool → List ℕ → ℕ → ℕ → List ℕ → ℕ → ℕ → ℕ → ℕ → ℕ → ℕ → Page → Page
+unfoldable pub walk : Bool → List ℕ → ℕ → ℕ → List ℕ → ℕ → ℕ → ℕ → ℕ → ℕ → ℕ → Filling → Filling
 walk write s hx rx t hy ry zero k c d p = p
 walk write s hx rx t hy ry (suc n) k c d p =
     walk write s hx rx t hy ry n (k + 1) (gatherLevel rx s hx k c .next) (gatherLevel ry t hy k d .next)
     (putAll write p (merged OFFSETS k (entries s (gatherLevel rx s hx k c .places)) (entries t (gatherLevel ry t hy k d .places))))
 
 -- the two heights, then the levels
-unfoldable pub walkAll : Bool → List ℕ → BumpHead → List ℕ → BumpHead → Page → Page
+unfoldable pub walkAll : Bool → List ℕ → BumpHead → List ℕ → BumpHead → Filling → Filling
 walkAll write s x t y p =
     walk write s (x .height) MAX-LEAVES t (y .height) MAX-LEAVES (higher (x .height) (y .height)) 0 (x .levels .at) (y .levels .at)
     (putUnless (eqb (x .height) (y .height)) write (putUnless (eqb (x .block) (y .block)) write p 1) 2)

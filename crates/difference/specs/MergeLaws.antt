@@ -23,8 +23,8 @@ use Rattle.format.specs.BumpBytes.{Entry, copy, carriedOf}
 use Rattle.difference.specs.declared.level.Next.{Next}
 use Rattle.difference.specs.declared.level.Next.the-variants.{Offset, End}
 use Rattle.difference.specs.Differences.{Standing, stands, nothing, equal, told, tell, higher}
-use Rattle.difference.specs.Page.{Page, putAll, toldWord, putPlace, putUnless}
-use Rattle.difference.specs.PageLaws.{all-told}
+use Rattle.difference.specs.Filling.{Filling, putAll, toldWord, putPlace, putUnless}
+use Rattle.difference.specs.FillingLaws.{all-told}
 use Rattle.difference.specs.Sorted.{offsetAt, carriedAt, entries, Gathering, gathering, gatherLevel}
 use Rattle.difference.specs.Merge.{nextOf, lesser, front, past, onNext, merged, flagsOf, placeOf, walk, walkAll}
 
@@ -69,7 +69,7 @@ module _ (s l : List ℕ) (i : ℕ) where
     unfolding past
     past-here o f = rw (drop-cons l i 0 h, ← e, eq-eqb a o f, add-one) refl
 
-module _ (write : Bool) (p : Page) (n i k : ℕ) (x y : List Entry) where
+module _ (write : Bool) (p : Filling) (n i k : ℕ) (x y : List Entry) where
   pub merge-end : n ≤ i → putAll write p (merged (n - i) k x y) ≡ p
   unfolding merged putAll
   merge-end h = let e : n - i ≡ 0 = omega arith in rw e
@@ -84,17 +84,17 @@ module _ (write : Bool) (p : Page) (n i k : ℕ) (x y : List Entry) where
     unfolding putAll
     merge-stop e = ap (putAll write p) (turn End e)
 
-    pub merge-on : {o what : ℕ} {p′ : Page} {x′ y′ : List Entry} → lesser (nextOf x) (nextOf y) ≡ Offset o → what ≡ toldWord (told (front o x) (front o y))
+    pub merge-on : {o what : ℕ} {p′ : Filling} {x′ y′ : List Entry} → lesser (nextOf x) (nextOf y) ≡ Offset o → what ≡ toldWord (told (front o x) (front o y))
         → p′ ≡ putPlace write p what k o → x′ ≡ past o x → y′ ≡ past o y → putAll write p (merged (n - i) k x y) ≡ putAll write p′ (merged (n - (i + 1)) k x′ y′)
     merge-on {o} {what} {p′} {x′} {y′} e f g a b =
         ap (putAll write p) (turn (Offset o) e)
         ∙ all-told write p k o (told (front o x) (front o y)) (merged (n - (i + 1)) k (past o x) (past o y))
         ∙ ap (λ (v : ℕ). putAll write (putPlace write p v k o) (merged (n - (i + 1)) k (past o x) (past o y))) (sym f)
-        ∙ ap (λ (q : Page). putAll write q (merged (n - (i + 1)) k (past o x) (past o y))) (sym g)
+        ∙ ap (λ (q : Filling). putAll write q (merged (n - (i + 1)) k (past o x) (past o y))) (sym g)
         ∙ ap (λ (v : List Entry). putAll write p′ (merged (n - (i + 1)) k v (past o y))) (sym a)
         ∙ ap (λ (v : List Entry). putAll write p′ (merged (n - (i + 1)) k x′ v)) (sym b)
 
-module _ (write : Bool) (s : List ℕ) (hx rx : ℕ) (t : List ℕ) (hy ry h k c d : ℕ) (p : Page) where
+module _ (write : Bool) (s : List ℕ) (hx rx : ℕ) (t : List ℕ) (hy ry h k c d : ℕ) (p : Filling) where
   pub walk-end : h ≤ k → walk write s hx rx t hy ry (h - k) k c d p ≡ p
   unfolding walk
   walk-end g = let e : h - k ≡ 0 = omega arith in rw e
@@ -102,10 +102,10 @@ module _ (write : Bool) (s : List ℕ) (hx rx : ℕ) (t : List ℕ) (hy ry h k c
   pub walk-high : {h′ : ℕ} → h ≡ h′ → walk write s hx rx t hy ry h′ k c d p ≡ walk write s hx rx t hy ry h k c d p
   walk-high e = ap (λ (n : ℕ). walk write s hx rx t hy ry n k c d p) (sym e)
 
-  unfoldable after : Gathering → Gathering → Page
+  unfoldable after : Gathering → Gathering → Filling
   after v w = walk write s hx rx t hy ry (h - (k + 1)) (k + 1) (v .next) (w .next) (putAll write p (merged 2048 k (entries s (v .places)) (entries t (w .places))))
 
-  pub walk-on : (a b : List ℕ) (c′ d′ : ℕ) (p′ : Page) (rx′ ry′ : ℕ) → k < h → rx′ ≡ rx → ry′ ≡ ry → gathering a c′ ≡ gatherLevel rx′ s hx k c → gathering b d′ ≡ gatherLevel ry′ t hy k d
+  pub walk-on : (a b : List ℕ) (c′ d′ : ℕ) (p′ : Filling) (rx′ ry′ : ℕ) → k < h → rx′ ≡ rx → ry′ ≡ ry → gathering a c′ ≡ gatherLevel rx′ s hx k c → gathering b d′ ≡ gatherLevel ry′ t hy k d
       → p′ ≡ putAll write p (merged 2048 k (entries s a) (entries t b)) → walk write s hx rx t hy ry (h - k) k c d p ≡ walk write s hx rx t hy ry (h - (k + 1)) (k + 1) c′ d′ p′
   unfolding walk after
   walk-on a b c′ d′ p′ rx′ ry′ g i l e f j =
@@ -124,17 +124,17 @@ pub told-there : (x y : List Entry) (o : ℕ) {f g : Standing} {what : ℕ} → 
 told-there x y o {f} {g} e h i = i ∙ ap (λ (v : Standing). toldWord (told v g)) e ∙ ap (λ (v : Standing). toldWord (told (front o x) v)) h
 
 -- the two heights, then the levels, as code tells them one after the other
-pub walked : (write : Bool) (s : List ℕ) (x : BumpHead) (t : List ℕ) (y : BumpHead) (p : Page) {p₁ p₂ p₃ : Page} (rx ry : ℕ) → rx ≡ MAX-LEAVES → ry ≡ MAX-LEAVES
+pub walked : (write : Bool) (s : List ℕ) (x : BumpHead) (t : List ℕ) (y : BumpHead) (p : Filling) {p₁ p₂ p₃ : Filling} (rx ry : ℕ) → rx ≡ MAX-LEAVES → ry ≡ MAX-LEAVES
     → p₁ ≡ putUnless (eqb (x .block) (y .block)) write p 1 → p₂ ≡ putUnless (eqb (x .height) (y .height)) write p₁ 2
     → p₃ ≡ walk write s (x .height) rx t (y .height) ry (higher (x .height) (y .height)) 0 (x .levels .at) (y .levels .at) p₂ → p₃ ≡ walkAll write s x t y p
 unfolding walkAll
 walked write s x t y p {p₁} {p₂} {p₃} rx ry a b c d e =
-    let above : Page → Page = walk write s (x .height) MAX-LEAVES t (y .height) MAX-LEAVES (higher (x .height) (y .height)) 0 (x .levels .at) (y .levels .at) in
+    let above : Filling → Filling = walk write s (x .height) MAX-LEAVES t (y .height) MAX-LEAVES (higher (x .height) (y .height)) 0 (x .levels .at) (y .levels .at) in
     e
     ∙ ap (λ (r : ℕ). walk write s (x .height) r t (y .height) ry (higher (x .height) (y .height)) 0 (x .levels .at) (y .levels .at) p₂) a
     ∙ ap (λ (r : ℕ). walk write s (x .height) MAX-LEAVES t (y .height) r (higher (x .height) (y .height)) 0 (x .levels .at) (y .levels .at) p₂) b
     ∙ ap above d
-    ∙ ap (λ (q : Page). above (putUnless (eqb (x .height) (y .height)) write q 2)) c
+    ∙ ap (λ (q : Filling). above (putUnless (eqb (x .height) (y .height)) write q 2)) c
 
 -- two leaves differ in flags, are copies, or are compared by their hashes
 module _ (s t : List ℕ) where

@@ -24,8 +24,8 @@ use Rattle.format.specs.BumpLaws.{bump-whole-told}
 use Rattle.format.specs.BumpBytes.{Entry, Content, entryOf, levelsOf, contentOf}
 use Rattle.difference.specs.Differences.{nothing, at, standing, Difference, offsetsFrom, levelsFrom, higher, differences}
 use Rattle.difference.specs.Once.{Within, higher-bounds}
-use Rattle.difference.specs.Page.{Page, putAll, putUnless}
-use Rattle.difference.specs.PageLaws.{all-block, all-height, all-append}
+use Rattle.difference.specs.Filling.{Filling, putAll, putUnless}
+use Rattle.difference.specs.FillingLaws.{all-block, all-height, all-append}
 use Rattle.difference.specs.InOrder.{Under, InOrder, orElse, from-least, under-weaken, at-above}
 use Rattle.difference.specs.Sorted.{entryAt, entries, Gathering, gathering, gatherLevel}
 use Rattle.difference.specs.SortedLaws.{level-above, level-gathered}
@@ -110,7 +110,7 @@ module _ (s : List ℕ) (x : Content) (k : ℕ) (ls : List (List Leaf)) (e : dro
   levels-are = sym (drop-drop 1 k (x .levels)) ∙ ap (drop 1) e ∙ drop-map s ls
 
 module _ (write : Bool) (s : List ℕ) (x : Content) (hx qx : ℕ) (t : List ℕ) (y : Content) (hy qy : ℕ) where
-  walk-told : (n k c d : ℕ) (p : Page) (ls lt : List (List Leaf)) → Ahead s hx k c ls qx → Ahead t hy k d lt qy → drop k (x .levels) ≡ levelsOf s ls → drop k (y .levels) ≡ levelsOf t lt
+  walk-told : (n k c d : ℕ) (p : Filling) (ls lt : List (List Leaf)) → Ahead s hx k c ls qx → Ahead t hy k d lt qy → drop k (x .levels) ≡ levelsOf s ls → drop k (y .levels) ≡ levelsOf t lt
       → hx ≤ k + n → hy ≤ k + n → walk write s hx 1024 t hy 1024 n k c d p ≡ putAll write p (levelsFrom x y n k)
   unfolding walk levelsFrom putAll standing
   walk-told zero k c d p ls lt a b e f g h = refl
@@ -132,7 +132,7 @@ module _ (write : Bool) (s : List ℕ) (x : Content) (hx qx : ℕ) (t : List ℕ
       ∙ sym (all-append write p (offsetsFrom k (standing x k) (standing y k) (2 ^ suc n) 0) (levelsFrom x y n (suc k)))
 
 -- the whole of two BUMPs
-pub told-all : (write : Bool) (s t : List ℕ) {x y : Bump} {q r : ℕ} (p : Page) → bumpWhole s ≡ got x q → bumpWhole t ≡ got y r
+pub told-all : (write : Bool) (s t : List ℕ) {x y : Bump} {q r : ℕ} (p : Filling) → bumpWhole s ≡ got x q → bumpWhole t ≡ got y r
     → walkAll write s (headOf x) t (headOf y) p ≡ putAll write p (differences (contentOf s x) (contentOf t y))
 unfolding walkAll differences
 told-all write s t {x} {y} {q} {r} p e f =

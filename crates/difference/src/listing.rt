@@ -17,7 +17,7 @@ ghost use lib.ListN.{length};
 ghost use Rattle.format.specs.BumpBytes.{carriedOf};
 ghost use Rattle.difference.specs.Differences.{equal, told, higher as higherOf};
 ghost use Rattle.difference.specs.Listing.{listing, listedOf, wordsIn, roomIn};
-ghost use Rattle.difference.specs.Page.{page, putOn, putAll, toldWord, putPlace, putUnless};
+ghost use Rattle.difference.specs.Filling.{filling, putOn, putAll, toldWord, putPlace, putUnless};
 ghost use Rattle.difference.specs.Sorted.{entries};
 ghost use Rattle.difference.specs.Merge.{flagsOf, placeOf, standingOf, merged, walk, walkAll};
 
@@ -40,7 +40,7 @@ pub enum Listed {
 
 // One entry more: written where there is room and `write` says so. The answer is the count of entries, or room and one if there are more.
 fn put(out: &mut [u64], at: usize, write: bool, what: u64, level: u64, offset: u64) -> usize
-    ensures { λ r. ⌜ page (now (out .exit)) r ≡ putOn write (page (now (out .entry)) at) what level offset ⌝ }
+    ensures { λ r. ⌜ filling (now (out .exit)) r ≡ putOn write (filling (now (out .entry)) at) what level offset ⌝ }
 {
     let room = out.len() / 3;
     if room <= at {
@@ -115,7 +115,7 @@ fn told(s: &[u8], x: Spot, t: &[u8], y: Spot) -> u64
 }
 
 fn put_place(out: &mut [u64], at: usize, write: bool, what: u64, level: u64, offset: u64) -> usize
-    ensures { λ r. ⌜ page (now (out .exit)) r ≡ putPlace write (page (now (out .entry)) at) what level offset ⌝ }
+    ensures { λ r. ⌜ filling (now (out .exit)) r ≡ putPlace write (filling (now (out .entry)) at) what level offset ⌝ }
 {
     if what == 0 {
         return at;
@@ -137,7 +137,7 @@ fn tell_level(
     write: bool,
     level: u64,
 ) -> usize
-    ensures { λ r. ⌜ page (now (out .exit)) r ≡ putAll write (page (now (out .entry)) at) (merged 2048 level (entries (now (s .entry)) (now (x .entry))) (entries (now (t .entry)) (now (y .entry)))) ⌝ }
+    ensures { λ r. ⌜ filling (now (out .exit)) r ≡ putAll write (filling (now (out .entry)) at) (merged 2048 level (entries (now (s .entry)) (now (x .entry))) (entries (now (t .entry)) (now (y .entry)))) ⌝ }
 {
     let mut at = at;
     let mut i: usize = 0;
@@ -175,7 +175,7 @@ fn tell_levels(
     first: &mut [usize],
     second: &mut [usize],
 ) -> usize
-    ensures { λ r. ⌜ page (now (out .exit)) r ≡ walk write (now (s .entry)) (x .height) (length (now (first .entry))) (now (t .entry)) (y .height) (length (now (second .entry))) (higherOf (x .height) (y .height)) 0 (x .levels .at) (y .levels .at) (page (now (out .entry)) at) ⌝ }
+    ensures { λ r. ⌜ filling (now (out .exit)) r ≡ walk write (now (s .entry)) (x .height) (length (now (first .entry))) (now (t .entry)) (y .height) (length (now (second .entry))) (higherOf (x .height) (y .height)) 0 (x .levels .at) (y .levels .at) (filling (now (out .entry)) at) ⌝ }
 {
     let height = higher(x.height, y.height);
     let mut c = x.levels;
@@ -196,7 +196,7 @@ fn tell_levels(
 }
 
 fn put_unless(same: bool, out: &mut [u64], at: usize, write: bool, what: u64) -> usize
-    ensures { λ r. ⌜ page (now (out .exit)) r ≡ putUnless same write (page (now (out .entry)) at) what ⌝ }
+    ensures { λ r. ⌜ filling (now (out .exit)) r ≡ putUnless same write (filling (now (out .entry)) at) what ⌝ }
 {
     if same {
         return at;
@@ -209,7 +209,7 @@ const PLACES: usize = Layout::MAX_LEAVES;
 
 // All differences: the two heights, then the levels.
 fn tell_all(s: &[u8], x: BumpHead, t: &[u8], y: BumpHead, out: &mut [u64], write: bool) -> usize
-    ensures { λ r. ⌜ page (now (out .exit)) r ≡ walkAll write (now (s .entry)) x (now (t .entry)) y (page (now (out .entry)) 0) ⌝ }
+    ensures { λ r. ⌜ filling (now (out .exit)) r ≡ walkAll write (now (s .entry)) x (now (t .entry)) y (filling (now (out .entry)) 0) ⌝ }
 {
     let mut first = [0usize; PLACES];
     let mut second = [0usize; PLACES];

@@ -1,5 +1,5 @@
-use Rattle.difference.specs.PageLaws.{put-full, put-counted, put-written}
-use Rattle.difference.specs.Page.{store}
+use Rattle.difference.specs.FillingLaws.{put-full, put-counted, put-written}
+use Rattle.difference.specs.Filling.{store}
 use lib.ListN.{length-set}
 use borrow.Author.Tests.{not-true, not-false}
 use native.Mathlib.Omega.{arith}

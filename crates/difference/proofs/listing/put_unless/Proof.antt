@@ -1,4 +1,4 @@
-use Rattle.difference.specs.Page.{putUnless}
+use Rattle.difference.specs.Filling.{putUnless}
 use mathlib.Core.Path.{refl, _∙_}
 use borrow.Author.Needs.{needs}
 use Rattle.difference.proofs.listing.put_unless.Statement.{statement}

@@ -2,7 +2,7 @@ use borrow.Author.Needs.{needs}
 use Rattle.difference.specs.MergeLaws.{least, told-there, merge-stop, merge-on, merge-end}
 use Rattle.difference.specs.Merge.{merged}
 use Rattle.difference.specs.Sorted.{entries}
-use Rattle.difference.specs.Page.{page, putAll}
+use Rattle.difference.specs.Filling.{filling, putAll}
 use lib.ListN.{length, drop}
 use Prim.Native.Nat.{_-_, _≤_}
 use native.Mathlib.Omega.{arith}
@@ -11,7 +11,10 @@ use Rattle.difference.proofs.listing.tell_level.Statement.{statement}
 use Rattle.difference.proofs.listing.tell_level.Tie as tie
 
 abbrev Inv-loop : tie.InvT-loop
-Inv-loop s x t y out₀ at write level at₀ i₀ j₀ turn₀ out at' i j turn = (putAll write (page out₀ at₀) (merged 2048 level (entries s x) (entries t y)) ≡ putAll write (page out at') (merged (2048 - turn) level (entries s (drop i x)) (entries t (drop j y)))) × (turn ≤ 2048) × (length out ≡ length out₀)
+Inv-loop s x t y out₀ at write level at₀ i₀ j₀ turn₀ out at' i j turn =
+    (putAll write (filling out₀ at₀) (merged 2048 level (entries s x) (entries t y)) ≡ putAll write (filling out at') (merged (2048 - turn) level (entries s (drop i x)) (entries t (drop j y))))
+    × (turn ≤ 2048)
+    × (length out ≡ length out₀)
 
 abbrev μ-loop : tie.MeasureT-loop
 μ-loop s x t y out₀ at write level at₀ i₀ j₀ turn₀ out at' i j turn = 2048 - turn

@@ -3,7 +3,7 @@ use lib.Seq.{length-take-le}
 use borrow.Author.Needs.{needs}
 use Rattle.difference.specs.MergeLaws.{walk-end, walk-on}
 use Rattle.difference.specs.Merge.{walk}
-use Rattle.difference.specs.Page.{page}
+use Rattle.difference.specs.Filling.{filling}
 use lib.ListN.{length}
 use Prim.Native.Nat.{_-_, _≤_}
 use native.Mathlib.Nat.{sub-zero}
@@ -13,7 +13,12 @@ use Rattle.difference.proofs.listing.tell_levels.Statement.{statement}
 use Rattle.difference.proofs.listing.tell_levels.Tie as tie
 
 abbrev Inv-loop : tie.InvT-loop
-Inv-loop s x t y out₀ at write first₀ second₀ height c₀ d₀ at₀ level₀ out first second c d at' level = (walk write s (x .height) (length first₀) t (y .height) (length second₀) height 0 (c₀ .at) (d₀ .at) (page out₀ at₀) ≡ walk write s (x .height) (length first₀) t (y .height) (length second₀) (height - level) level (c .at) (d .at) (page out at')) × (level ≤ height) × (length out ≡ length out₀) × (length first ≡ length first₀) × (length second ≡ length second₀)
+Inv-loop s x t y out₀ at write first₀ second₀ height c₀ d₀ at₀ level₀ out first second c d at' level =
+    (walk write s (x .height) (length first₀) t (y .height) (length second₀) height 0 (c₀ .at) (d₀ .at) (filling out₀ at₀) ≡ walk write s (x .height) (length first₀) t (y .height) (length second₀) (height - level) level (c .at) (d .at) (filling out at'))
+    × (level ≤ height)
+    × (length out ≡ length out₀)
+    × (length first ≡ length first₀)
+    × (length second ≡ length second₀)
 
 abbrev μ-loop : tie.MeasureT-loop
 μ-loop s x t y out₀ at write first₀ second₀ height c₀ d₀ at₀ level₀ out first second c d at' level = height - level

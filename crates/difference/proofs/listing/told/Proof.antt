@@ -1,5 +1,5 @@
 use Rattle.difference.specs.Merge.{standingOf}
-use Rattle.difference.specs.Page.{toldWord}
+use Rattle.difference.specs.Filling.{toldWord}
 use Rattle.difference.specs.Differences.{told, alike, differ, both}
 use Rattle.difference.specs.Listing.{sideWord}
 use Rattle.format.specs.Parse.{pick}

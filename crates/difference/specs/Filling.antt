@@ -9,24 +9,24 @@ use Rattle.format.specs.Parse.{pick}
 use Rattle.difference.specs.Differences.{Difference, Told, alike, differ}
 use Rattle.difference.specs.Listing.{sideWord, whatOf, levelOf, offsetOf}
 
-pub record Page : Type 0 where
+pub record Filling : Type 0 where
   pub words : List ℕ
   pub told : ℕ
 
-abbrev pub page : List ℕ → ℕ → Page
-page w n = record { words = w; told = n }
+abbrev pub filling : List ℕ → ℕ → Filling
+filling w n = record { words = w; told = n }
 
 unfoldable pub store : List ℕ → ℕ → ℕ → ℕ → ℕ → List ℕ
 store w n what level offset = set (set (set w (n * 3) what) (n * 3 + 1) level) (n * 3 + 2) offset
 
 -- one entry more; past the room only that there are more is known
-unfoldable pub putOn : Bool → Page → ℕ → ℕ → ℕ → Page
+unfoldable pub putOn : Bool → Filling → ℕ → ℕ → ℕ → Filling
 putOn write p what level offset =
-    pick (leb (length (p .words) / 3) (p .told)) (page (p .words) (length (p .words) / 3 + 1))
-    (page (pick write (store (p .words) (p .told) what level offset) (p .words)) (p .told + 1))
+    pick (leb (length (p .words) / 3) (p .told)) (filling (p .words) (length (p .words) / 3 + 1))
+    (filling (pick write (store (p .words) (p .told) what level offset) (p .words)) (p .told + 1))
 
 -- all entries of a list
-unfoldable pub putAll : Bool → Page → List Difference → Page
+unfoldable pub putAll : Bool → Filling → List Difference → Filling
 putAll write p [] = p
 putAll write p (d ∷ l) = putAll write (putOn write p (whatOf d) (levelOf d) (offsetOf d)) l
 
@@ -35,8 +35,8 @@ unfoldable pub toldWord : Told → ℕ
 toldWord alike = 0
 toldWord (differ s) = sideWord s
 
-unfoldable pub putPlace : Bool → Page → ℕ → ℕ → ℕ → Page
+unfoldable pub putPlace : Bool → Filling → ℕ → ℕ → ℕ → Filling
 putPlace write p what level offset = pick (eqb what 0) p (putOn write p what level offset)
 
-unfoldable pub putUnless : Bool → Bool → Page → ℕ → Page
+unfoldable pub putUnless : Bool → Bool → Filling → ℕ → Filling
 putUnless same write p what = pick same p (putOn write p what 0 0)
