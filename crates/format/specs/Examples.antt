@@ -3,10 +3,11 @@ use mathlib.Core.Path.{_≡_, refl}
 use mathlib.Core.List.{[], _∷_, _++_, map}
 use Prim.Native.Nat.{ℕ, _+_}
 use lib.ListN.{replicate}
-use Rattle.format.specs.declared.level.Kind.the-variants.{Plain}
+use Rattle.format.specs.declared.level.Kind.the-variants.{Plain, Copy}
 use Rattle.format.specs.Parse.{each, many, whole, got, bad}
 use Rattle.format.specs.Field.{bytes, byte, varint, le4}
-use Rattle.format.specs.Level.{holds, offsetField, carriedField, leafField, levelField, levelOfTurn}
+use Rattle.format.specs.Level.{holds, offsetField, flagField, kindField, carriedField, leafField, levelField, levelOfTurn}
+use Rattle.format.specs.Bump.{blockField, heightField, bumpField, bumpWhole}
 use Rattle.format.specs.Cmp.{topField, cmpField, cmpWhole}
 use Rattle.format.specs.Transaction.{scriptField, inputField, outputField, someField, listField, txField}
 use Rattle.format.specs.Tsc.{flagsField, exactField, statedField, subjectField, targetField, indexFits, nodeCountField, nodesField, tscField}
@@ -42,8 +43,8 @@ index-outside : tscField (0x00 ∷ 0x09 ∷ replicate 64 0xaa ++ (0x03 ∷ [])) 
 unfolding tscField flagsField subjectField targetField nodesField nodeCountField indexFits varint bytes byte each
 index-outside = refl
 
--- over 32 nodes come first
-nodes-over : tscField (0x00 ∷ 0x08 ∷ replicate 64 0xaa ++ (0x21 ∷ [])) 0 ≡ bad 5 66
+-- over 64 nodes come first
+nodes-over : tscField (0x00 ∷ 0x08 ∷ replicate 64 0xaa ++ (0x41 ∷ [])) 0 ≡ bad 5 66
 unfolding tscField flagsField subjectField targetField nodesField nodeCountField indexFits varint bytes byte each
 nodes-over = refl
 
@@ -69,14 +70,20 @@ tx-one : txField
 unfolding txField listField scriptField someField inputField outputField varint bytes byte many each
 tx-one = refl
 
--- a CMP at its edges: nothing; m above 31; one empty level; level 1 empty and level 0 with offset 3, the greatest it may hold; an offset outside
+-- a CMP at its edges: nothing; m above 63; one empty level; level 1 empty and level 0 with offset 3, the greatest it may hold; an offset outside
 -- the top level; an offset twice
-pub cmp-edges : map cmpWhole ([] ∷ (0x20 ∷ []) ∷ (0x00 ∷ 0x00 ∷ []) ∷ (0x01 ∷ 0x00 ∷ 0x01 ∷ 0x03 ∷ replicate 32 0) ∷ (0x01 ∷ 0x01 ∷ 0x02 ∷ []) ∷ (0x00 ∷ 0x02 ∷ 0x01 ∷ replicate 32 0 ++ 0x01 ∷ []) ∷ [])
+pub cmp-edges : map cmpWhole ([] ∷ (0x40 ∷ []) ∷ (0x00 ∷ 0x00 ∷ []) ∷ (0x01 ∷ 0x00 ∷ 0x01 ∷ 0x03 ∷ replicate 32 0) ∷ (0x01 ∷ 0x01 ∷ 0x02 ∷ []) ∷ (0x00 ∷ 0x02 ∷ 0x01 ∷ replicate 32 0 ++ 0x01 ∷ []) ∷ [])
     ≡ bad 2 0 ∷ bad 4 0 ∷ got (record { height = 1; start = 1; levels = [] ∷ [] }) 2
     ∷ got (record { height = 2; start = 1; levels = (record { offset = 3; kind = Plain 4 } ∷ []) ∷ [] ∷ [] }) 36
     ∷ bad 6 2 ∷ bad 8 35 ∷ []
 unfolding varint byte bytes many each holds offsetField carriedField leafField levelField levelOfTurn topField cmpField whole
 cmp-edges = refl
+
+-- a BUMP of 64 layers: level 0 holds 2 ^ 64 - 1, level 1 doesn't
+pub bump-edges : map bumpWhole ((0x00 ∷ 0x40 ∷ 0x01 ∷ replicate 9 0xff ++ 0x01 ∷ replicate 63 0x00) ∷ (0x00 ∷ 0x40 ∷ 0x00 ∷ 0x01 ∷ replicate 9 0xff) ∷ [])
+    ≡ got (record { block = 0; height = 64; start = 2; levels = (record { offset = 18446744073709551615; kind = Copy } ∷ []) ∷ replicate 63 [] }) 76 ∷ bad 6 4 ∷ []
+unfolding varint byte bytes many each holds offsetField flagField kindField carriedField leafField levelField levelOfTurn blockField heightField bumpField whole
+bump-edges = refl
 
 -- a count near 2 ^ 64 ends where the bytes do
 many-huge : many {S = ℕ} {A = ℕ} (λ _. byte) (λ n _. n) 18446744073709551615 0 (1 ∷ 2 ∷ []) 0 ≡ bad 2 2

@@ -38,10 +38,6 @@ module _ (x : ℕ) where
   holds-snoc [] y = or-false _
   holds-snoc (z ∷ l) y = rw (holds-snoc l y) (sym (or-assoc (eqb x z) (holds x l) (eqb x y)))
 
--- the offsets seen, with one more: none is above what is at least each
-pub none-above : (l : List ℕ) (top o r : ℕ) → ((x : ℕ) → top < x → holds x l ≡ false) → top ≤ r → o ≤ r → (x : ℕ) → r < x → holds x (l ++ (o ∷ [])) ≡ false
-none-above l top o r h t u x lt = holds-snoc x l o ∙ simp (h x (omega arith), ne-eqb x o (λ e. omega arith))
-
 module _ (limit : ℕ) (seen : List ℕ) (s : List ℕ) (at : ℕ) where
   pub offset-refused : {n q : ℕ} → varint s at ≡ bad n q → offsetField limit seen s at ≡ bad n q
   unfolding offsetField

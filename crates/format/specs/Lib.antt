@@ -52,4 +52,5 @@ pub mod BumpRoundTrip
 pub mod TscBytes
 pub mod TscSpelling
 pub mod TscRoundTrip
+pub mod MoreLayers
 pub mod Examples

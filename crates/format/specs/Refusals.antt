@@ -98,7 +98,7 @@ UNLIKE = 23
 abbrev pub SAME-ID : ℕ
 SAME-ID = 24
 
--- 01, "Sizes"
+-- 01, "Sizes"; layers and nodes as 02, Item 8, raised them
 
 -- bytes of an input, as for the hash
 abbrev pub MAX-INPUT : ℕ
@@ -106,11 +106,11 @@ MAX-INPUT = S.MAX-INPUT
 
 -- layers of a BUMP or CMP, nodes of a TSC proof
 abbrev pub MAX-HEIGHT : ℕ
-MAX-HEIGHT = 32
+MAX-HEIGHT = 64
 
 -- the byte m of a CMP
 abbrev pub MAX-TOP : ℕ
-MAX-TOP = 31
+MAX-TOP = 63
 
 -- how many numbers 32 bits hold
 abbrev pub U32 : ℕ

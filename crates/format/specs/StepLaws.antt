@@ -2,11 +2,12 @@
 use mathlib.Core.Path.{_≡_, refl, ap, sym, subst, _∙_}
 use mathlib.Core.List.{List, [], _∷_, _++_}
 use mathlib.Core.Bool.{Bool, true, false, not, _||_, or-false}
-use Prim.Native.Nat.{ℕ, _+_, _-_, _≤_, _<_}
-use lib.ListN.{length, getD, drop}
+use Prim.Native.Nat.{ℕ, _+_, _-_, _≤_, _<_, _%_}
+use lib.ListN.{length, getD, drop, set, length-set}
+use lib.Seq.{getD-set-same, getD-set-other}
 use lib.Dec.{ltb, eqb}
 use native.Mathlib.Omega.{arith}
-use borrow.Author.Tests.{ne-eqb, ltb-true}
+use borrow.Author.Tests.{ne-eqb, eqb-true, eqb-false, ltb-true}
 use Rattle.format.specs.declared.field.Cursor.{Cursor}
 use Rattle.format.specs.declared.field.Number.{Number}
 use Rattle.format.specs.declared.level.Layout.{Layout}
@@ -29,7 +30,7 @@ use Rattle.format.specs.LevelLaws.{holds-here, holds-on, holds-end, hold
 use Rattle.format.specs.Refusals.{BAD-OFFSET, REPEATED}
 use Rattle.format.specs.Search.{hashAt, carries, lesser, looseCarried, looseLeaf, seekId}
 use Rattle.format.specs.SearchLaws.{least-on, lesser-nowhere}
-use Rattle.format.specs.Steps.{offsetOf, keepOffset, Above, leafWith, Tells, refusalAt}
+use Rattle.format.specs.Steps.{offsetOf, keepOffset, Above, Slotted, leafWith, Tells, refusalAt}
 
 -- a scan to the end of a list that keeps what it found
 module _ (x : ℕ) (l : List ℕ) (i : ℕ) (found : Bool) where
@@ -41,6 +42,19 @@ module _ (x : ℕ) (l : List ℕ) (i : ℕ) (found : Bool) where
 
   pub scan-end : length l ≤ i → (found || holds x (drop i l)) ≡ found
   scan-end h = rw (holds-end x l i h) (or-false found)
+
+-- the offsets seen, with one more and its slot marked
+pub slotted-more : (slots l : List ℕ) (o : ℕ) → Slotted slots l → Slotted (set slots (o % 4096) 1) (l ++ (o ∷ []))
+slotted-more slots l o h = (simp length-set (h .0), λ x e. go x e (eqb (x % 4096) (o % 4096)) refl)
+  where
+    go : (x : ℕ) → getD (set slots (o % 4096) 1) (x % 4096) 0 ≡ 0 → (t : Bool) → eqb (x % 4096) (o % 4096) ≡ t → holds x (l ++ (o ∷ [])) ≡ false
+    go x e true f =
+        let marked : getD (set slots (o % 4096) 1) (o % 4096) 0 ≡ 1 = getD-set-same slots (o % 4096) 1 0 (let n = h .0 in omega arith) in
+        let here : getD (set slots (o % 4096) 1) (x % 4096) 0 ≡ 1 = ap (λ (k : ℕ). getD (set slots (o % 4096) 1) k 0) (eqb-true (x % 4096) (o % 4096) f) ∙ marked in
+        absurd (let z : _≡_ {A = ℕ} 1 0 = sym here ∙ e in omega arith)
+    go x e false f =
+        let apart = eqb-false (x % 4096) (o % 4096) f in
+        holds-snoc x l o ∙ simp (h .1 x (sym (getD-set-other slots (o % 4096) (x % 4096) 1 0 apart) ∙ e), ne-eqb x o (λ z. apart (ap (λ (k : ℕ). k % 4096) z)))
 
 -- an offset is below its limit, and where none was seen only that and the VarInt are tested
 module _ (limit : ℕ) (s : List ℕ) (at : ℕ) where
@@ -104,9 +118,6 @@ module _ (layout : Layout) (limit level : ℕ) (s : List ℕ) (at : ℕ) where
           let g : each (keepOffset p) (carriedField layout level p s r) ≡ got o q = sym (leaf-carried seen f) ∙ e in
           parted p r (each-got (keepOffset p) (carriedField layout level p s r) g .2) f g
       told (bad n r) f = absurd (let z : got o q ≡ bad n r = sym e ∙ leaf-refused seen f in let y : _≡_ {A = ℕ} 0 1 = cc in omega arith)
-
-  pub leaf-below : (seen : List ℕ) {o q : ℕ} → each offsetOf (leafField layout limit level seen s at) ≡ got o q → o < limit
-  leaf-below seen e = let x = leaf-told seen e in offset-told limit s at seen (x .1) .1
 
   -- a leaf where none was seen is the same where others were, but not its offset
   pub leaf-fresh : (seen : List ℕ) {o q : ℕ} → each offsetOf (leafField layout limit level [] s at) ≡ got o q → holds o seen ≡ false → each offsetOf (leafField layout limit level seen s at) ≡ got o q

@@ -1,7 +1,9 @@
 -- What is kept of a leaf while the leaves of a level are passed.
 use mathlib.Core.Path.{_≡_}
 use mathlib.Core.List.{List}
-use Prim.Native.Nat.{ℕ, _≤_}
+use mathlib.Core.Bool.{false}
+use Prim.Native.Nat.{ℕ, _≤_, _%_}
+use lib.ListN.{length, getD}
 use Rattle.format.specs.declared.field.Number.{Number}
 use Rattle.format.specs.declared.refusal.Refusal.{Refusal}
 use Rattle.format.specs.declared.level.Leaf.{Leaf}
@@ -10,6 +12,7 @@ use Rattle.format.specs.declared.level.Step.{Step}
 use Rattle.format.specs.declared.path.Found.{Found}
 use Rattle.format.specs.Parse.{Parse, onward, otherwise, got, bad}
 use Rattle.format.specs.Bytes.{same}
+use Rattle.format.specs.Level.{holds}
 use Rattle.format.specs.Search.{hashAt, carries}
 
 abbrev pub offsetOf : Leaf → ℕ
@@ -23,6 +26,10 @@ keepOffset offset _ = offset
 abbrev pub Above : ℕ → Number → Parse ℕ → Type 0
 Above least (Number.Value o c) p = (p ≡ got o (c .at)) × (least ≤ o)
 Above least (Number.Refused r) p = Unit {0}
+
+-- an offset whose slot, by its remainder, is not marked was not seen
+abbrev pub Slotted : List ℕ → List ℕ → Type 0
+Slotted slots seen = (length slots ≡ 4096) × ((x : ℕ) → getD slots (x % 4096) 0 ≡ 0 → holds x seen ≡ false)
 
 -- a leaf of a known offset
 abbrev pub leafWith : ℕ → Parse Kind → Parse Leaf

@@ -19,13 +19,13 @@ ghost use Rattle.format.specs.FieldAnswer.{numberOf};
 ghost use Rattle.format.specs.Search.{looseLevel, looseBump};
 ghost use Rattle.format.specs.Bump.{blockField, heightField, bumpField, bumpWhole, headOf, bumpAnswer, refusalOfBump};
 
-// The format: its limits (01, "Sizes"), and where a reading of it starts.
+// The format: its limits (01, "Sizes"; 02, Item 8), and where a reading of it starts.
 pub struct Bump;
 
 impl Bump {
     pub const MAX_BLOCK: u64 = 4294967295;
 
-    pub const MAX_HEIGHT: u64 = 32;
+    pub const MAX_HEIGHT: u64 = 64;
 
     pub fn start() -> Cursor
         ensures { λ r. ⌜ r ≡ record { at = 0 } ⌝ }

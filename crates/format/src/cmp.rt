@@ -14,12 +14,12 @@ ghost use Rattle.format.specs.Parse.{each};
 ghost use Rattle.format.specs.FieldAnswer.{numberOf};
 ghost use Rattle.format.specs.Cmp.{topField, cmpField, cmpWhole, cmpHeadOf, cmpAnswer, refusalOfCmp};
 
-// The format: its limit (01, "Sizes"), and where a reading of it starts.
+// The format: its limit (02, Item 8), and where a reading of it starts.
 pub struct Cmp;
 
 impl Cmp {
     // The byte m.
-    pub const MAX_TOP: u64 = 31;
+    pub const MAX_TOP: u64 = 63;
 
     pub fn start() -> Cursor
         ensures { λ r. ⌜ r ≡ record { at = 0 } ⌝ }

@@ -11,15 +11,14 @@ use super::refusal::OVER_LIMIT;
 use super::refusal::REPEATED;
 use super::refusal::Refusal;
 ghost use mathlib.Core.Path.{_≡_};
-ghost use mathlib.Core.Bool.{false};
 ghost use mathlib.Core.List.{[]};
-ghost use Prim.Native.Nat.{ℕ, _+_, _-_, _≤_, _<_, _^_};
+ghost use Prim.Native.Nat.{_+_, _-_, _≤_, _<_, _^_};
 ghost use lib.ListN.{length};
 ghost use Rattle.format.specs.Parse.{each, times};
 ghost use Rattle.format.specs.FieldAnswer.{numberOf};
-ghost use Rattle.format.specs.Refusals.{MAX-HEIGHT, MAX-LEAVES, U32};
+ghost use Rattle.format.specs.Refusals.{MAX-HEIGHT, MAX-LEAVES};
 ghost use Rattle.format.specs.Level.{holds, offsetField, flagField, flagAllowed, kindField, carriedField, leafField, leafFields, levelField, levelOfTurn, levelInTurn, levelFields, total};
-ghost use Rattle.format.specs.Steps.{offsetOf, keepOffset, Above, leafWith, Tells, refusalAt};
+ghost use Rattle.format.specs.Steps.{offsetOf, keepOffset, Above, Slotted, leafWith, Tells, refusalAt};
 ghost use Rattle.format.specs.LevelAnswer.{kindOf, leafOf, refusalOfKind, refusalOfLeaf};
 ghost use Rattle.format.specs.Search.{looseCarried, looseLeaf, looseLevel};
 
@@ -84,8 +83,11 @@ impl LeafAnswer {
     }
 }
 
+// The slots in which offsets seen are marked, each by its remainder.
+const SLOTS: usize = 4096;
+
 // The scan goes to the end whatever it meets, so that several numbers are compared at once.
-fn contains(l: &[u32], x: u32) -> bool
+fn contains(l: &[u64], x: u64) -> bool
     ensures { λ r. ⌜ r ≡ holds x (now (l .entry)) ⌝ }
 {
     let mut found = false;
@@ -117,9 +119,9 @@ fn read_bounded(s: &[u8], c: Cursor, greatest: u64) -> Number
     field
 }
 
-// No offset seen is above top.
-fn read_offset(s: &[u8], c: Cursor, greatest: u64, seen: &[u32], top: u64) -> Number
-    requires { ⌜ (greatest < U32) × ((x : ℕ) → top < x → holds x (now seen) ≡ false) ⌝ }
+// Only an offset whose slot is marked is looked for among those seen.
+fn read_offset(s: &[u8], c: Cursor, greatest: u64, seen: &[u64], slots: &[u8]) -> Number
+    requires { ⌜ Slotted (now slots) (now seen) ⌝ }
     ensures { λ r. ⌜ numberOf r ≡ offsetField (greatest + 1) (now (seen .entry)) (now (s .entry)) (c .at) ⌝ }
 {
     let at = c.at;
@@ -127,8 +129,8 @@ fn read_offset(s: &[u8], c: Cursor, greatest: u64, seen: &[u32], top: u64) -> Nu
     let Number::Value(offset, _) = field else {
         return field;
     };
-    if offset <= top {
-        if contains(seen, offset as u32) {
+    if slots[offset as usize % SLOTS] != 0 {
+        if contains(seen, offset) {
             return Number::Refused(Refusal {
                 number: REPEATED,
                 place: at,
@@ -227,26 +229,20 @@ fn read_leaf(
     layout: Layout,
     level: u64,
     greatest: u64,
-    seen: &[u32],
-    top: u64,
+    seen: &[u64],
+    slots: &[u8],
 ) -> Number
-    requires { ⌜ (greatest < U32) × ((x : ℕ) → top < x → holds x (now seen) ≡ false) ⌝ }
+    requires { ⌜ Slotted (now slots) (now seen) ⌝ }
     ensures { λ r. ⌜ numberOf r ≡ each offsetOf (leafField layout (greatest + 1) level (now (seen .entry)) (now (s .entry)) (c .at)) ⌝ }
 {
-    let first = read_offset(s, c, greatest, seen, top);
+    let first = read_offset(s, c, greatest, seen, slots);
     let Number::Value(offset, second_at) = first else {
         return first;
     };
     read_carried(s, second_at, layout, level, offset)
 }
 
-fn larger(a: u64, b: u64) -> u64
-    ensures { λ r. ⌜ (a ≤ r) × (b ≤ r) ⌝ }
-{
-    if a < b { b } else { a }
-}
-
-// Only an offset that isn't above all before it is looked for among them.
+// Leaves in any order: each offset is kept, and its slot marked.
 fn read_leaves(
     s: &[u8],
     c: Cursor,
@@ -255,20 +251,20 @@ fn read_leaves(
     greatest: u64,
     count: usize,
 ) -> Number
-    requires { ⌜ (greatest < U32) × (count ≤ MAX-LEAVES) ⌝ }
+    requires { ⌜ count ≤ MAX-LEAVES ⌝ }
     ensures { λ r. ⌜ numberOf r ≡ each length (leafFields layout (greatest + 1) level count (now (s .entry)) (c .at)) ⌝ }
 {
-    let mut seen = [0u32; Layout::MAX_LEAVES];
-    let mut top: u64 = 0;
+    let mut seen = [0u64; Layout::MAX_LEAVES];
+    let mut slots = [0u8; SLOTS];
     let mut next = c;
     let mut i: usize = 0;
     while i < count {
-        let field = read_leaf(s, next, layout, level, greatest, &seen[..i], top);
+        let field = read_leaf(s, next, layout, level, greatest, &seen[..i], &slots);
         let Number::Value(offset, after) = field else {
             return field;
         };
-        seen[i] = offset as u32;
-        top = larger(top, offset);
+        seen[i] = offset;
+        slots[offset as usize % SLOTS] = 1;
         next = after;
         i += 1;
     }
@@ -293,7 +289,8 @@ fn read_above(s: &[u8], c: Cursor, layout: Layout, level: u64, greatest: u64, le
     read_carried(s, second_at, layout, level, offset)
 }
 
-// Where offsets rise, none can be a repeated one and none is kept. Other leaves are read again from the first.
+// Where offsets rise, none can be a repeated one and none is kept. Other leaves are read again from the first; so are those with the greatest number of
+// 64 bits among them, which no other is above.
 fn read_rising(
     s: &[u8],
     c: Cursor,
@@ -302,7 +299,7 @@ fn read_rising(
     greatest: u64,
     count: usize,
 ) -> Number
-    requires { ⌜ (greatest < U32) × (count ≤ MAX-LEAVES) ⌝ }
+    requires { ⌜ count ≤ MAX-LEAVES ⌝ }
     ensures { λ r. ⌜ numberOf r ≡ each length (leafFields layout (greatest + 1) level count (now (s .entry)) (c .at)) ⌝ }
 {
     let mut least: u64 = 0;
@@ -313,6 +310,9 @@ fn read_rising(
         let Number::Value(offset, after) = field else {
             return read_leaves(s, c, layout, level, greatest, count);
         };
+        if offset == 18446744073709551615 {
+            return read_leaves(s, c, layout, level, greatest, count);
+        }
         least = offset + 1;
         next = after;
         i += 1;
@@ -322,7 +322,6 @@ fn read_rising(
 
 // A level: the answer is how many leaves it has.
 fn read_level(s: &[u8], c: Cursor, layout: Layout, level: u64, greatest: u64) -> Number
-    requires { ⌜ greatest < U32 ⌝ }
     ensures { λ r. ⌜ numberOf r ≡ each length (levelField layout (greatest + 1) level (now (s .entry)) (c .at)) ⌝ }
 {
     let at = c.at;

@@ -33,7 +33,7 @@ ghost use Rattle.format.specs.TscAnswer.{subjectAnswer, refusalOfSubject
 pub struct Tsc;
 
 impl Tsc {
-    pub const MAX_NODES: u64 = 32;
+    pub const MAX_NODES: u64 = 64;
 
     pub fn start() -> Cursor
         ensures { λ r. ⌜ r ≡ record { at = 0 } ⌝ }

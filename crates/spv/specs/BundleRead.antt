@@ -35,7 +35,6 @@ use Rattle.spv.specs.Table.{flatHead}
 use Rattle.spv.specs.ReadingsLaws.{bump-path-proves}
 use Rattle.spv.specs.Bundle.{among, rests, trusted, proving, nthBump, emptyBump, entryId, entryRow, anchoring, standing, judgeFrom, judgeEntries, judgeRead, judgeBeef}
 use Rattle.spv.specs.BundleTheorems.{emptyEntry, trusted-told}
-use Rattle.spv.specs.BundlePosition.{bump-position}
 use Rattle.spv.specs.BundleLaws.{from-map, from-same}
 use Rattle.spv.specs.BundleHeads.{restsFrom, headProving, headAnchoring, headStanding, headId, headStands, headRow, headsFrom, numbersOf}
 
@@ -96,29 +95,29 @@ module _ (s roots : List ℕ) (room : ℕ) (b : Beef) (read : BeefRead room s b)
         ap (λ (x : List ℕ). headStanding s roots heads earlier x (entryHeadOf (nth k))) same-id
         ∙ ap (pick (among (entryId s (nth k)) earlier) (Refuses (carrying SAME-TX 0))) (anchors-agree earlier (nth k .anchor) refl)
 
-    -- the anchor's number and the position fit the record's fields
-    fits : (earlier : List (List ℕ)) (a n i : ℕ) → standing s roots (b .bumps) earlier (nth k) ≡ Passes a n i → (a < U32) × (i < U32)
+    -- the mark and the BUMP's number fit the record's fields
+    fits : (earlier : List (List ℕ)) (a n i : ℕ) → standing s roots (b .bumps) earlier (nth k) ≡ Passes a n i → (a < U32) × (n < U32)
     unfolding standing anchoring
     fits earlier a n i e = go (among (entryId s (nth k)) earlier) e
       where
-        anchored : (x : Anchor) → nth k .anchor ≡ x → anchoring s roots (b .bumps) earlier (nth k) x ≡ Passes a n i → (a < U32) × (i < U32)
+        anchored : (x : Anchor) → nth k .anchor ≡ x → anchoring s roots (b .bumps) earlier (nth k) x ≡ Passes a n i → (a < U32) × (n < U32)
         anchored (InBump m) h q =
             let w = trusted-told roots m (proving s (nthBump (b .bumps) m) (entryId s (nth k))) a n i q in
             let few : m < length (b .bumps) = entry .anchored m h in
-            let below = bump-position s (entryId s (nth k)) (nthBump (b .bumps) m) (bump-read m few .1) (w .0) (w .1) in
+            let low = read .bumps-low in
             let one = w .3 in
-            let is = w .5 in
+            let is = w .4 in
             (omega arith, omega arith)
         anchored Unanchored h q = free (rests s earlier (nth k .transaction .inputs)) q
           where
-            free : (t : Bool) → pick t (Passes 0 0 0) (Refuses (carrying NO-PARENT 0)) ≡ Passes a n i → (a < U32) × (i < U32)
+            free : (t : Bool) → pick t (Passes 0 0 0) (Refuses (carrying NO-PARENT 0)) ≡ Passes a n i → (a < U32) × (n < U32)
             free true m =
                 let y : 0 ≡ a = cc in
-                let z : 0 ≡ i = cc in
+                let z : 0 ≡ n = cc in
                 (omega arith, omega arith)
             free false m = absurd (let z : _≡_ {A = ℕ} 0 1 = cc in omega arith)
 
-        go : (t : Bool) → pick t (Refuses (carrying SAME-TX 0)) (anchoring s roots (b .bumps) earlier (nth k) (nth k .anchor)) ≡ Passes a n i → (a < U32) × (i < U32)
+        go : (t : Bool) → pick t (Refuses (carrying SAME-TX 0)) (anchoring s roots (b .bumps) earlier (nth k) (nth k .anchor)) ≡ Passes a n i → (a < U32) × (n < U32)
         go true m = absurd (let z : _≡_ {A = ℕ} 0 1 = cc in omega arith)
         go false m = anchored (nth k .anchor) refl m
 
@@ -128,12 +127,12 @@ module _ (s roots : List ℕ) (room : ℕ) (b : Beef) (read : BeefRead room s b)
         let f = fits earlier a n i e in
         let id : List ℕ = entryId s (nth k) in
         ap (λ (x : List ℕ). flatHead x (numbersOf (txHeadOf (nth k .transaction)) a n i)) same-id
-        ∙ ap (λ (x : List ℕ). row x (a % U32) (i % U32)) (take-all 32 id (let z = span-length s (nth k .transaction .start) (nth k .transaction .end) in let y = ap length same-id in omega arith))
-        ∙ ap (λ (x : ℕ). row id x (i % U32)) (mod-eq-of-lt (f .0))
+        ∙ ap (λ (x : List ℕ). row x (a % U32) (n % U32)) (take-all 32 id (let z = span-length s (nth k .transaction .start) (nth k .transaction .end) in let y = ap length same-id in omega arith))
+        ∙ ap (λ (x : ℕ). row id x (n % U32)) (mod-eq-of-lt (f .0))
         ∙ ap (row id a) (mod-eq-of-lt (f .1))
       where
         row : List ℕ → ℕ → ℕ → Record
-        row id a i = record { start = nth k .transaction .start; length = nth k .transaction .end - nth k .transaction .start; id = id; anchored = a; bump = n; position = i }
+        row id a n = record { start = nth k .transaction .start; length = nth k .transaction .end - nth k .transaction .start; id = id; anchored = a; bump = n; position = i }
 
   -- judged by heads as by entries
   pub heads-judged : judgeFrom (headId s) (headStands s roots heads) (headRow s) [] (map entryHeadOf (b .entries)) ≡ judgeEntries s roots b

@@ -1,4 +1,4 @@
--- The examples at the edges of 01, P1 to P14, as one table under one statement.
+-- The examples at the edges of 01, P1 to P14, as one table under one statement; P9 as 02, Item 8, changed it.
 use mathlib.Core.Path.{_≡_, refl}
 use mathlib.Core.Bool.{Bool, true, false}
 use mathlib.Core.List.{List, [], _∷_, map}
@@ -54,7 +54,8 @@ cases =
     case (varIntOf []) (number (bad 2 0)) ∷
     case (bumpOf (0x00 ∷ 0x01 ∷ 0x00 ∷ [])) (path (got (record { block = 0; height = 1; start = 2; levels = [] ∷ [] }) 3) (λ id. refused (carrying 13 0))) ∷
     case (bumpOf (0x00 ∷ 0x00 ∷ [])) (refusedPath 4 1) ∷
-    case (bumpOf (0x00 ∷ 0x21 ∷ [])) (refusedPath 4 1) ∷
+    case (bumpOf (0x00 ∷ 0x21 ∷ [])) (refusedPath 2 2) ∷
+    case (bumpOf (0x00 ∷ 0x41 ∷ [])) (refusedPath 4 1) ∷
     case (bumpOf (0x00 ∷ 0x01 ∷ 0x01 ∷ 0x00 ∷ 0x01 ∷ [])) (refusedPath 7 4) ∷
     case (bumpOf (0x00 ∷ 0x01 ∷ 0x01 ∷ 0x02 ∷ [])) (refusedPath 6 3) ∷
     case (bumpOf (0x00 ∷ 0x01 ∷ 0x02 ∷ 0x01 ∷ 0x01 ∷ 0x01 ∷ [])) (refusedPath 8 5) ∷

@@ -45,7 +45,6 @@ pub mod BundleTheorems
 pub mod BundleAnswer
 pub mod BundleAnswerLaws
 pub mod BundleTurns
-pub mod BundlePosition
 pub mod BundleRead
 pub mod Acceptance
 pub mod Reread

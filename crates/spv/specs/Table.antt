@@ -25,9 +25,9 @@ flatHead ids numbers = record {
   start = getD numbers 0 0;
   length = getD numbers 1 0;
   id = take 32 ids;
-  bump = getD numbers 2 0;
+  bump = getD numbers 2 0 % U32;
   anchored = getD numbers 3 0 % U32;
-  position = getD numbers 4 0 % U32;
+  position = getD numbers 4 0;
 }
 
 -- n records of a flat form
@@ -45,9 +45,9 @@ flatRecord ids numbers count row =
       start = getD numbers (5 * row) 0;
       length = getD numbers (5 * row + 1) 0;
       id = hashAt ids (32 * row);
-      bump = getD numbers (5 * row + 2) 0;
+      bump = getD numbers (5 * row + 2) 0 % U32;
       anchored = getD numbers (5 * row + 3) 0 % U32;
-      position = getD numbers (5 * row + 4) 0 % U32;
+      position = getD numbers (5 * row + 4) 0;
     })
     blankRecord)
     blankRecord)

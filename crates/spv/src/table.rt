@@ -21,9 +21,9 @@ pub struct Record {
     pub start: u64,
     pub length: u64,
     pub id: [u8; 32],
-    pub bump: u64,
+    pub bump: u32,
     pub anchored: u32,
-    pub position: u32,
+    pub position: u64,
 }
 
 // The record of no transaction.
@@ -60,9 +60,9 @@ pub(crate) fn record_at(ids: &[u8], numbers: &[u64], count: usize, row: usize) -
         start: numbers[at],
         length: numbers[at + 1],
         id,
-        bump: numbers[at + 2],
+        bump: (numbers[at + 2] % U32) as u32,
         anchored: (numbers[at + 3] % U32) as u32,
-        position: (numbers[at + 4] % U32) as u32,
+        position: numbers[at + 4],
     }
 }
 

@@ -226,8 +226,8 @@ fn record(row: Record) {
     number(b"start", row.start);
     number(b"length", row.length);
     number(b"anchored", row.anchored as u64);
-    number(b"bump", row.bump);
-    number(b"position", row.position as u64);
+    number(b"bump", row.bump as u64);
+    number(b"position", row.position);
     let id = row.id;
     text(b" id ");
     hex(id);

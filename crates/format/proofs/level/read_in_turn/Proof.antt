@@ -1,8 +1,6 @@
 use borrow.Author.Needs.{needs}
 use native.Mathlib.Omega.{arith}
 use mathlib.Core.Path.{_∙_}
-use Prim.Native.Nat.{_^_, _-_, _≤_}
-use lib.Pow.{pow-mono}
 use Rattle.format.specs.LevelLaws.{turn-below, in-turn}
 use Rattle.format.proofs.level.read_in_turn.Statement.{statement}
 use Rattle.format.proofs.level.read_in_turn.Tie as tie
@@ -17,11 +15,7 @@ greatest-of-requires : tie.Need-greatest-of-requires
 greatest-of-requires c κs = let h = turn-below _ _ _ _ (c .level-in-turn .ensures) (c .before .before .pre .0) in omega arith
 
 read-level-requires : tie.Need-read-level-requires
-read-level-requires c κs =
-    let n = c .before .before .before .args .height - c .before .level-in-turn .result in
-    let h : n ≤ 32 = omega arith in
-    let p : 2 ^ n ≤ 2 ^ 32 = pow-mono h in
-    omega (arith, c .greatest-of .ensures)
+read-level-requires c κs = search needs
 
 returns : tie.Need-returns
 returns c = c .read-level .ensures ∙ in-turn _ _ _ _ _ _ _ (c .before .before .level-in-turn .ensures) (c .before .greatest-of .ensures)

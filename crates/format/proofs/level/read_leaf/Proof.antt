@@ -9,7 +9,7 @@ use Rattle.format.proofs.level.read_carried.Reads as read-carried-reads
 use Rattle.format.proofs.level.read_offset.Reads as read-offset-reads
 
 read-offset-requires : tie.Need-read-offset-requires
-read-offset-requires c κs = c .before .before .pre
+read-offset-requires c κs = c .before .before .before .pre
 
 enum-known-first : tie.Need-enum-known-first
 enum-known-first c = search needs

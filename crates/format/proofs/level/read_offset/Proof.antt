@@ -23,24 +23,23 @@ returns : tie.Need-returns
 returns c =
     rw (c .enum-told .given .1) (sym (bounded-refused _ _ _ _ (answered numberOf (c .before .before .read-bounded .ensures) (c .enum-told .given .1))))
 
-cast-contains : tie.Need-cast-contains
-cast-contains c =
-    let b = offset-told _ _ _ _ (answered numberOf (c .before .before .before .before .read-bounded .ensures) (c .before .before .field .given .1)) in omega arith
+shared-slice-read-if1 : tie.Need-shared-slice-read-if1
+shared-slice-read-if1 c = let n = c .before .before .before .before .before .before .before .before .pre .0 in omega arith
 
 contains-requires : tie.Need-contains-requires
 contains-requires c κs = search needs
 
 returns-2 : tie.Need-returns-2
 returns-2 c =
-    let b = offset-told _ _ _ _ (answered numberOf (c .before .before .before .before .before .before .read-bounded .ensures) (c .before .before .before .before .field .given .1)) in sym (offset-again _ _ _ _ (b .0) (b .1) (sym (c .before .contains .ensures) ∙ c .if2 .taken))
+    let b = offset-told _ _ _ _ (answered numberOf (c .before .before .before .before .before .before .before .read-bounded .ensures) (c .before .before .before .before .before .field .given .1)) in sym (offset-again _ _ _ _ (b .0) (b .1) (sym (c .before .contains .ensures) ∙ c .if2 .taken))
 
 returns-3 : tie.Need-returns-3
 returns-3 c =
-    let b = offset-told _ _ _ _ (answered numberOf (c .before .before .before .before .before .before .read-bounded .ensures) (c .before .before .before .before .field .given .1)) in sym (offset-fresh _ _ _ _ (b .0) (b .1) (sym (c .before .contains .ensures) ∙ c .if2 .left))
+    let b = offset-told _ _ _ _ (answered numberOf (c .before .before .before .before .before .before .before .read-bounded .ensures) (c .before .before .before .before .before .field .given .1)) in sym (offset-fresh _ _ _ _ (b .0) (b .1) (sym (c .before .contains .ensures) ∙ c .if2 .left))
 
 returns-4 : tie.Need-returns-4
 returns-4 c =
-    let b = offset-told _ _ _ _ (answered numberOf (c .before .before .before .before .read-bounded .ensures) (c .before .before .field .given .1)) in sym (offset-fresh _ _ _ _ (b .0) (b .1) (c .before .before .before .before .before .before .before .pre .1 _ (c .if1 .left)))
+    let b = offset-told _ _ _ _ (answered numberOf (c .before .before .before .before .before .read-bounded .ensures) (c .before .before .before .field .given .1)) in sym (offset-fresh _ _ _ _ (b .0) (b .1) (c .before .before .before .before .before .before .before .before .before .pre .1 _ (c .if1 .left)))
 
 pub read-offset-spec : {M : Type 1} → statement M
 read-offset-spec =
@@ -50,7 +49,7 @@ read-offset-spec =
     enum-known-field
     enum-told
     returns
-    cast-contains
+    shared-slice-read-if1
     contains-requires
     returns-2
     returns-3

@@ -5,7 +5,7 @@ use Prim.Native.Nat.{_≤_, _-_, _+_}
 use lib.ListN.{length}
 use Rattle.format.specs.Parse.{each}
 use Rattle.format.specs.Level.{leafFields}
-use Rattle.format.specs.StepLaws.{leaf-below, above-told, Risen, risen-start, risen-step, risen-done}
+use Rattle.format.specs.StepLaws.{above-told, Risen, risen-start, risen-step, risen-done}
 use Rattle.format.proofs.level.read_rising.Statement.{statement}
 use Rattle.format.proofs.level.read_rising.Tie as tie
 use Rattle.format.proofs.level.read_above.Reads as read-above-reads
@@ -36,9 +36,14 @@ read-leaves-requires c κs = search needs
 returns : tie.Need-returns Inv-loop μ-loop
 returns c = c .read-leaves .ensures
 
+read-leaves-requires-2 : tie.Need-read-leaves-requires-2 Inv-loop μ-loop
+read-leaves-requires-2 c κs = search needs
+
+returns-2 : tie.Need-returns-2 Inv-loop μ-loop
+returns-2 c = c .read-leaves2 .ensures
+
 add-least : tie.Need-add-least Inv-loop μ-loop
-add-least c =
-    let a = above-told _ _ (c .before .before .before .read-above .ensures) (c .before .field .given .1) in let b = leaf-below _ _ _ _ _ _ (a .0) in omega arith
+add-least c = search needs
 
 add-i : tie.Need-add-i Inv-loop μ-loop
 add-i c = search needs
@@ -48,10 +53,10 @@ loop-less c = search needs
 
 loop-again : tie.Need-loop-again Inv-loop μ-loop
 loop-again c =
-    let a = above-told _ _ (c .before .before .before .read-above .ensures) (c .before .field .given .1) in (omega arith, risen-step _ _ _ _ _ _ _ _ _ (omega arith) (c .before .before .before .before .before .loop .inv .1) (a .0) (a .1))
+    let a = above-told _ _ (c .before .before .before .before .read-above .ensures) (c .before .before .field .given .1) in (omega arith, risen-step _ _ _ _ _ _ _ _ _ (omega arith) (c .before .before .before .before .before .before .loop .inv .1) (a .0) (a .1))
 
-returns-2 : tie.Need-returns-2 Inv-loop μ-loop
-returns-2 c = sym (risen-done _ _ _ _ _ _ _ _ _ (c .loop-test .left) (c .before .loop .inv .1))
+returns-3 : tie.Need-returns-3 Inv-loop μ-loop
+returns-3 c = sym (risen-done _ _ _ _ _ _ _ _ _ (c .loop-test .left) (c .before .loop .inv .1))
 
 pub read-rising-spec : {M : Type 1} → statement M
 read-rising-spec =
@@ -65,8 +70,10 @@ read-rising-spec =
     enum-told
     read-leaves-requires
     returns
+    read-leaves-requires-2
+    returns-2
     add-least
     add-i
     loop-less
     loop-again
-    returns-2)
+    returns-3)

@@ -59,29 +59,29 @@ mul-t16 c = search needs
 shared-slice-read-t18 : tie.Need-shared-slice-read-t18
 shared-slice-read-t18 c = search needs
 
-add-t19 : tie.Need-add-t19
-add-t19 c = search needs
+cast-t20 : tie.Need-cast-t20
+cast-t20 c = search needs
 
-mul-t20 : tie.Need-mul-t20
-mul-t20 c = search needs
+add-t21 : tie.Need-add-t21
+add-t21 c = search needs
 
-shared-slice-read-t22 : tie.Need-shared-slice-read-t22
-shared-slice-read-t22 c = search needs
+mul-t22 : tie.Need-mul-t22
+mul-t22 c = search needs
 
-cast-t24 : tie.Need-cast-t24
-cast-t24 c = search needs
+shared-slice-read-t24 : tie.Need-shared-slice-read-t24
+shared-slice-read-t24 c = search needs
 
-add-t25 : tie.Need-add-t25
-add-t25 c = search needs
+cast-t26 : tie.Need-cast-t26
+cast-t26 c = search needs
 
-mul-t26 : tie.Need-mul-t26
-mul-t26 c = search needs
+add-t27 : tie.Need-add-t27
+add-t27 c = search needs
 
-shared-slice-read-t28 : tie.Need-shared-slice-read-t28
-shared-slice-read-t28 c = search needs
+mul-t28 : tie.Need-mul-t28
+mul-t28 c = search needs
 
-cast-t30 : tie.Need-cast-t30
-cast-t30 c = search needs
+shared-slice-read-t30 : tie.Need-shared-slice-read-t30
+shared-slice-read-t30 c = search needs
 
 returns-4 : tie.Need-returns-4
 unfolding flatRecord
@@ -108,12 +108,12 @@ record-at-spec =
     add-t15
     mul-t16
     shared-slice-read-t18
-    add-t19
-    mul-t20
-    shared-slice-read-t22
-    cast-t24
-    add-t25
-    mul-t26
-    shared-slice-read-t28
-    cast-t30
+    cast-t20
+    add-t21
+    mul-t22
+    shared-slice-read-t24
+    cast-t26
+    add-t27
+    mul-t28
+    shared-slice-read-t30
     returns-4)
