@@ -1,0 +1,50 @@
+-- Four words side by side, and the hash values, blocks and nodes that stand in their lanes. Assumes nothing.
+use mathlib.Core.List.{List, [], _∷_, map}
+use Prim.Native.Nat.{ℕ, zero, suc}
+use Rattle.hash.specs.declared.compress.State.{State}
+use Rattle.lanes.specs.declared.compress.Four.{Four}
+use Rattle.lanes.specs.declared.compress.State4.{State4}
+use Rattle.lanes.specs.declared.Nodes.{Nodes}
+
+-- What stands in lane i, which is 0, 1, 2 or 3; a number above is taken for 3. So the node in a lane, which public contracts cite.
+unfoldable pub pick : {A : Type 0} → ℕ → A → A → A → A → A
+pick zero a b c d = a
+pick (suc zero) a b c d = b
+pick (suc (suc zero)) a b c d = c
+pick (suc (suc (suc i))) a b c d = d
+
+unfoldable pub node : ℕ → Nodes → List ℕ
+node i n = pick i (n .a) (n .b) (n .c) (n .d)
+
+-- The word, the block and the hash value in lane i.
+unfoldable pub at : ℕ → Four → ℕ
+at i x = pick i (x .a) (x .b) (x .c) (x .d)
+
+unfoldable pub lanes : ℕ → List Four → List ℕ
+lanes i m = map (at i) m
+
+unfoldable pub value : ℕ → ℕ → ℕ → ℕ → ℕ → ℕ → ℕ → ℕ → State
+value a b c d e f g h = record { a = a; b = b; c = c; d = d; e = e; f = f; g = g; h = h }
+
+unfoldable pub lane : ℕ → State4 → State
+lane i s = value (at i (s .a)) (at i (s .b)) (at i (s .c)) (at i (s .d)) (at i (s .e)) (at i (s .f)) (at i (s .g)) (at i (s .h))
+
+-- A word in all lanes, an operation in each lane, and four nodes in their lanes.
+unfoldable pub all : ℕ → Four
+all k = record { a = k; b = k; c = k; d = k }
+
+unfoldable pub each : (ℕ → ℕ) → Four → Four
+each f x = record { a = f (x .a); b = f (x .b); c = f (x .c); d = f (x .d) }
+
+unfoldable pub each2 : (ℕ → ℕ → ℕ) → Four → Four → Four
+each2 f x y = record { a = f (x .a) (y .a); b = f (x .b) (y .b); c = f (x .c) (y .c); d = f (x .d) (y .d) }
+
+unfoldable pub each3 : (ℕ → ℕ → ℕ → ℕ) → Four → Four → Four → Four
+each3 f x y z = record { a = f (x .a) (y .a) (z .a); b = f (x .b) (y .b) (z .b); c = f (x .c) (y .c) (z .c); d = f (x .d) (y .d) (z .d) }
+
+unfoldable pub nodes : List ℕ → List ℕ → List ℕ → List ℕ → Nodes
+nodes a b c d = record { a = a; b = b; c = c; d = d }
+
+-- The words of the one block of a padded digest.
+unfoldable pub digestWords : State → List ℕ
+digestWords s = s .a ∷ s .b ∷ s .c ∷ s .d ∷ s .e ∷ s .f ∷ s .g ∷ s .h ∷ 0x8000_0000 ∷ 0 ∷ 0 ∷ 0 ∷ 0 ∷ 0 ∷ 0 ∷ 256 ∷ []
