@@ -1,11 +1,13 @@
 -- The tree as the code keeps it: level 0 is the lent list, the node at position j of a level of `width` places above stands at index width + j.
 use mathlib.Core.Path.{_≡_}
 use mathlib.Core.Bool.{Bool, false}
-use mathlib.Core.List.{List, []}
+use mathlib.Core.List.{List, [], _++_}
 use Prim.Native.Nat.{ℕ, _+_, _-_, _*_, _/_, _%_, _^_, _≤_, _<_}
 use lib.ListN.{length, getD}
 use lib.Dec.{ltb, eqb}
-use Rattle.format.specs.Bytes.{same}
+use Rattle.hash.specs.Sha256.{sha256d}
+use Rattle.lanes.specs.declared.Nodes.{Nodes}
+use Rattle.format.specs.Bytes.{same, setHash}
 use Rattle.format.specs.Parse.{pick}
 use Rattle.format.specs.Search.{hashAt}
 use Rattle.spv.specs.Bundle.{hashesOf}
@@ -21,6 +23,14 @@ nodeIn list heap base width j = pick base (hashAt list (32 * j)) (hashAt heap (3
 -- the right-hand one of a pair: the next of `count` nodes, or a copy
 unfoldable pub rightIn : List ℕ → List ℕ → Bool → ℕ → ℕ → ℕ → List ℕ
 rightIn list heap base width count j = pick (ltb (j + 1) count) (nodeIn list heap base width (j + 1)) (nodeIn list heap base width j)
+
+-- the node that is made of pair j
+unfoldable pub pairIn : List ℕ → List ℕ → Bool → ℕ → ℕ → ℕ → List ℕ
+pairIn list heap base width count j = sha256d (nodeIn list heap base width (2 * j) ++ rightIn list heap base width count (2 * j))
+
+-- four hashes stored from index i on
+unfoldable pub setFour : List ℕ → ℕ → Nodes → List ℕ
+setFour l i n = setHash (setHash (setHash (setHash l i (n .a)) (i + 1) (n .b)) (i + 2) (n .c)) (i + 3) (n .d)
 
 -- a layer's nodes stand in their places
 abbrev pub Stored : List ℕ → List ℕ → Bool → ℕ → List (List ℕ) → Type 0

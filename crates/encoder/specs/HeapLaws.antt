@@ -14,7 +14,10 @@ use borrow.Author.Tests.{lt-ltb, le-ltb, ltb-true, ltb-false, leb-true, leb-fals
 use Rattle.hash.specs.Sha256.{sha256d}
 use Rattle.hash.specs.Sha256Laws.{sha256d-length}
 use borrow.Author.Count.{below-more}
-use Rattle.format.specs.Bytes.{same}
+use Rattle.lanes.specs.declared.Nodes.{Nodes}
+use Rattle.lanes.specs.Lanes as L
+use Rattle.format.specs.Bytes.{same, setHash}
+use Rattle.format.specs.BytesLaws.{set-inside}
 use Rattle.format.specs.Parse.{pick}
 use Rattle.format.specs.Refusals.{TWIN}
 use Rattle.format.specs.Search.{hashAt}
@@ -27,7 +30,7 @@ use Rattle.encoder.specs.TreeLaws.{above-length, above-pair, above-last,
 use Rattle.spv.specs.BundleHashes.{hashes-length, hashes-at}
 use Rattle.encoder.specs.TreeClimb.{twinAt, endFrom, from-end, from-twin, from-on, from-all}
 use Rattle.encoder.specs.declared.tree.Climb.the-variants.{Free, Twin}
-use Rattle.encoder.specs.Heap.{nodeIn, rightIn, Stored, Heap, Level, twinIn, Grown, climbOf}
+use Rattle.encoder.specs.Heap.{nodeIn, rightIn, pairIn, setFour, Stored, Heap, Level, twinIn, Grown, climbOf}
 
 -- ---- a level and its places
 
@@ -114,10 +117,6 @@ module _ (heap hash : List ℕ) (q : ℕ) (long : length hash ≡ 32) (inside : 
 
 -- ---- a level raised: j of its nodes stand
 
--- the node that is made of a pair
-unfoldable pub pairIn : List ℕ → List ℕ → Bool → ℕ → ℕ → ℕ → List ℕ
-pairIn list heap base width count j = sha256d (nodeIn list heap base width (2 * j) ++ rightIn list heap base width count (2 * j))
-
 module _ (list heap : List ℕ) (base : Bool) (width : ℕ) (l : List (List ℕ)) (h : Stored list heap base width l) where
   pub pair-above : (j : ℕ) → j < length (above l) → pairIn list heap base width (length l) j ≡ getD (above l) j []
   unfolding pairIn rightIn
@@ -169,6 +168,22 @@ module _ (n h w : ℕ) (e : w ≡ 2 ^ h) (f : (g : ℕ) → g < h → 2 ^ g < n)
   pub shape-end : n ≤ w → (h ≡ heightFor n) × (w ≡ 2 ^ heightFor n)
   shape-end l = let is = height-is n h (rw (← e) l) f in (is, e ∙ ap (λ (k : ℕ). 2 ^ k) is)
 
+-- what four lanes hold, in each of them
+pub four-in : (f : ℕ → List ℕ) (j : ℕ) (n : Nodes) → n .a ≡ f j → n .b ≡ f (j + 1) → n .c ≡ f (j + 2) → n .d ≡ f (j + 3) → (i : ℕ) → i < 4 → L.node i n ≡ f (j + i)
+unfolding L.node L.pick
+four-in f j n ea eb ec ed zero h = let z : j ≡ j + 0 = omega arith in ea ∙ ap f z
+four-in f j n ea eb ec ed (suc zero) h = eb
+four-in f j n ea eb ec ed (suc (suc zero)) h = ec
+four-in f j n ea eb ec ed (suc (suc (suc zero))) h = ed
+four-in f j n ea eb ec ed (suc (suc (suc (suc i)))) h = absurd (omega arith)
+
+-- four pairs joined
+pub four-pairs : (list heap : List ℕ) (base : Bool) (width count j : ℕ) (left right n : Nodes) → ((i : ℕ) → i < 4 → L.node i left ≡ nodeIn list heap base width (2 * (j + i)))
+    → ((i : ℕ) → i < 4 → L.node i right ≡ rightIn list heap base width count (2 * (j + i))) → ((i : ℕ) → L.node i n ≡ sha256d (L.node i left ++ L.node i right))
+    → (i : ℕ) → i < 4 → L.node i n ≡ pairIn list heap base width count (j + i)
+unfolding pairIn
+four-pairs list heap base width count j left right n el er e i h = e i ∙ ap₂ (λ (x y : List ℕ). sha256d (x ++ y)) (el i h) (er i h)
+
 -- ---- a loop that raises a level: j of its nodes are made of the level as it was, and nothing from the level on is touched
 
 pub record Raising (list heap₀ : List ℕ) (base : Bool) (width count : ℕ) (heap : List ℕ) (j : ℕ) : Type 0 where
@@ -192,25 +207,55 @@ pair-kept list heap heap₀ base width count j k =
     ap₂ (λ (x y : List ℕ). sha256d (x ++ y)) (node-kept list heap heap₀ base width (2 * j) k)
     (ap₂ (pick (ltb (2 * j + 1) count)) (node-kept list heap heap₀ base width (2 * j + 1) k) (node-kept list heap heap₀ base width (2 * j) k))
 
+-- one node more, made of the level as it was at the start
+one-more : (list heap₀ : List ℕ) (base : Bool) (width count : ℕ) (heap : List ℕ) (j : ℕ) → Raising list heap₀ base width count heap j
+    → width % 2 ≡ 0 → width ≤ 1024 → count ≤ width → length heap₀ ≡ 32768 → j < (count + 1) / 2 → (hash : List ℕ) (i : ℕ) → i ≡ width / 2 + j
+    → hash ≡ pairIn list heap₀ base width count j → Raising list heap₀ base width count (setHash heap i hash) (j + 1)
+unfolding pairIn
+one-more list heap₀ base width count heap j r even low inside room more hash i ei eh =
+    let q : ℕ = width / 2 + j in
+    let lh : length hash ≡ 32 = ap length eh ∙ sha256d-length _ in
+    let at : 32 * q + 32 ≤ length heap = let l = r .long in omega arith in
+    let is : setHash heap i hash ≡ paste heap (32 * q) hash 32 = ap (λ (x : ℕ). setHash heap x hash) ei ∙ set-inside heap q hash (omega arith) in
+    rw is
+    (record {
+      few = omega arith;
+      long = length-paste heap (32 * q) hash 32 at (omega arith) ∙ r .long;
+      kept = λ p h. stored-other heap hash q lh at p (λ d. omega arith) ∙ r .kept p h;
+      made = below-more (λ (x : ℕ). hashAt (paste heap (32 * q) hash 32) (32 * (width / 2 + x)) ≡ pairIn list heap₀ base width count x) j
+          (λ x h. stored-other heap hash q lh at (width / 2 + x) (λ d. omega arith) ∙ r .made x h)
+          (stored-here heap hash q lh at ∙ eh);
+    })
+
 module _ (list heap₀ : List ℕ) (base : Bool) (width count : ℕ) (heap : List ℕ) (j : ℕ) (r : Raising list heap₀ base width count heap j) where
   pub raising-on : (even : width % 2 ≡ 0) (low : width ≤ 1024) (inside : count ≤ width) (room : length heap₀ ≡ 32768) (more : j < (count + 1) / 2)
       (left right hash heap′ : List ℕ) → left ≡ nodeIn list heap base width (2 * j) → right ≡ rightIn list heap base width count (2 * j) → hash ≡ sha256d (left ++ right)
-      → heap′ ≡ paste heap (32 * (width / 2 + j)) hash 32 → Raising list heap₀ base width count heap′ (j + 1)
+      → heap′ ≡ setHash heap (width / 2 + j) hash → Raising list heap₀ base width count heap′ (j + 1)
   unfolding pairIn
   raising-on even low inside room more left right hash heap′ el er eh e =
-      let q : ℕ = width / 2 + j in
       let is : hash ≡ pairIn list heap base width count j = eh ∙ ap₂ (λ (x y : List ℕ). sha256d (x ++ y)) el er in
-      let lh : length hash ≡ 32 = ap length eh ∙ sha256d-length (left ++ right) in
-      let at : 32 * q + 32 ≤ length heap = let l = r .long in omega arith in
       rw e
-      (record {
-        few = omega arith;
-        long = length-paste heap (32 * q) hash 32 at (omega arith) ∙ r .long;
-        kept = λ p h. stored-other heap hash q lh at p (λ d. omega arith) ∙ r .kept p h;
-        made = below-more (λ (i : ℕ). hashAt (paste heap (32 * q) hash 32) (32 * (width / 2 + i)) ≡ pairIn list heap₀ base width count i) j
-            (λ i h. stored-other heap hash q lh at (width / 2 + i) (λ d. omega arith) ∙ r .made i h)
-            (stored-here heap hash q lh at ∙ is ∙ pair-kept list heap heap₀ base width count j (r .kept));
-      })
+      (one-more list heap₀ base width count heap j r even low inside room more hash (width / 2 + j) refl (is ∙ pair-kept list heap heap₀ base width count j (r .kept)))
+
+  pub raising-four : (even : width % 2 ≡ 0) (low : width ≤ 1024) (inside : count ≤ width) (room : length heap₀ ≡ 32768) (more : j + 4 ≤ (count + 1) / 2)
+      (four : Nodes) (heap′ : List ℕ) → ((i : ℕ) → i < 4 → L.node i four ≡ pairIn list heap base width count (j + i))
+      → heap′ ≡ setFour heap (width / 2 + j) four → Raising list heap₀ base width count heap′ (j + 4)
+  unfolding setFour L.node L.pick
+  raising-four even low inside room more four heap′ e eh =
+      let is : (i : ℕ) → i < 4 → L.node i four ≡ pairIn list heap₀ base width count (j + i) = λ i h. e i h ∙ pair-kept list heap heap₀ base width count (j + i) (r .kept) in
+      let h1 : List ℕ = setHash heap (width / 2 + j) (four .a) in
+      let h2 : List ℕ = setHash h1 (width / 2 + j + 1) (four .b) in
+      let h3 : List ℕ = setHash h2 (width / 2 + j + 2) (four .c) in
+      let z : j + 0 ≡ j = omega arith in
+      let i0 = is 0 (omega arith) in
+      let r1 = one-more list heap₀ base width count heap j r even low inside room (omega arith) (four .a) (width / 2 + j) refl (rw z at i0) in
+      let r2 = one-more list heap₀ base width count h1 (j + 1) r1 even low inside room (omega arith) (four .b) (width / 2 + j + 1) (omega arith) (is 1 (omega arith)) in
+      let s2 : j + 1 + 1 ≡ j + 2 = omega arith in
+      let r3 = one-more list heap₀ base width count h2 (j + 2) (rw s2 at r2) even low inside room (omega arith) (four .c) (width / 2 + j + 2) (omega arith) (is 2 (omega arith)) in
+      let s3 : j + 2 + 1 ≡ j + 3 = omega arith in
+      let r4 = one-more list heap₀ base width count h3 (j + 3) (rw s3 at r3) even low inside room (omega arith) (four .d) (width / 2 + j + 3) (omega arith) (is 3 (omega arith)) in
+      let s4 : j + 3 + 1 ≡ j + 4 = omega arith in
+      rw eh (rw s4 at r4)
 
   pub raising-end : (count + 1) / 2 ≤ j → (l : List (List ℕ)) → length l ≡ count → Stored list heap₀ base width l → Stored list heap false (width / 2) (above l)
   unfolding nodeIn

@@ -2,17 +2,19 @@
 // index; level 0 is the lent list itself.
 use super::marks::is_marked;
 use format::refusal::TWIN;
+use lanes::Nodes;
 use spv::Rejection;
 ghost use mathlib.Core.Path.{_≡_};
 ghost use mathlib.Core.Bool.{false};
 ghost use mathlib.Core.List.{List};
-ghost use Prim.Native.Nat.{ℕ, _*_, _/_, _%_, _^_, _<_, _≤_};
+ghost use Prim.Native.Nat.{ℕ, _+_, _*_, _/_, _%_, _^_, _<_, _≤_};
 ghost use lib.ListN.{length};
+ghost use Rattle.lanes.specs.Lanes as L;
 ghost use Rattle.format.specs.Search.{hashAt};
 ghost use Rattle.spv.specs.Bundle.{hashesOf};
 ghost use Rattle.encoder.specs.Tree.{above, heightFor, treeClimb};
 ghost use Rattle.encoder.specs.BlockBump.{climbsFrom};
-ghost use Rattle.encoder.specs.Heap.{nodeIn, rightIn, Stored, Heap, Grown, twinIn, climbOf};
+ghost use Rattle.encoder.specs.Heap.{nodeIn, rightIn, pairIn, setFour, Stored, Heap, Grown, twinIn, climbOf};
 ghost use Rattle.encoder.specs.Marks.{Marked};
 
 // The least height of a tree that holds a list, and the places of its level 0.
@@ -56,6 +58,56 @@ fn right_of(ids: &[u8], heap: &[u8], base: bool, width: usize, count: usize, j: 
     node_at(ids, heap, base, width, j)
 }
 
+// Four left-hand nodes, of the pairs j to j + 3.
+fn lefts(ids: &[u8], heap: &[u8], base: bool, width: usize, j: usize) -> Nodes
+    requires { ⌜ (width ≤ 2048) × (j + 4 ≤ 1024) ⌝ }
+    ensures { λ r. ⌜ ((i : ℕ) → i < 4 → L.node i r ≡ nodeIn (now (ids .entry)) (now (heap .entry)) base width (2 * (j + i))) ⌝ }
+{
+    let a = node_at(ids, heap, base, width, 2 * j);
+    let b = node_at(ids, heap, base, width, 2 * (j + 1));
+    let c = node_at(ids, heap, base, width, 2 * (j + 2));
+    let d = node_at(ids, heap, base, width, 2 * (j + 3));
+    Nodes { a, b, c, d }
+}
+
+// The right-hand ones.
+fn rights(ids: &[u8], heap: &[u8], base: bool, width: usize, count: usize, j: usize) -> Nodes
+    requires { ⌜ (width ≤ 2048) × (j + 4 ≤ 1024) ⌝ }
+    ensures { λ r. ⌜ ((i : ℕ) → i < 4 → L.node i r ≡ rightIn (now (ids .entry)) (now (heap .entry)) base width count (2 * (j + i))) ⌝ }
+{
+    let a = right_of(ids, heap, base, width, count, 2 * j);
+    let b = right_of(ids, heap, base, width, count, 2 * (j + 1));
+    let c = right_of(ids, heap, base, width, count, 2 * (j + 2));
+    let d = right_of(ids, heap, base, width, count, 2 * (j + 3));
+    Nodes { a, b, c, d }
+}
+
+// Four nodes of the level above, from j on: no pair waits for another.
+fn parents(ids: &[u8], heap: &[u8], base: bool, width: usize, count: usize, j: usize) -> Nodes
+    requires { ⌜ (width ≤ 2048) × (j + 4 ≤ 1024) ⌝ }
+    ensures { λ r. ⌜ ((i : ℕ) → i < 4 → L.node i r ≡ pairIn (now (ids .entry)) (now (heap .entry)) base width count (j + i)) ⌝ }
+{
+    lanes::join4(
+        lefts(ids, heap, base, width, j),
+        rights(ids, heap, base, width, count, j),
+    )
+}
+
+// Four hashes stored, one after the other.
+fn set_four(heap: &mut [u8], i: usize, four: Nodes)
+    requires { ⌜ i ≤ 2048 ⌝ }
+    ensures { λ _. ⌜ now (heap .exit) ≡ setFour (now (heap .entry)) i four ⌝ }
+{
+    let a = four.a;
+    let b = four.b;
+    let c = four.c;
+    let d = four.d;
+    format::set_hash(heap, i, a);
+    format::set_hash(heap, i + 1, b);
+    format::set_hash(heap, i + 2, c);
+    format::set_hash(heap, i + 3, d);
+}
+
 // The level above one of `width` places and `count` nodes.
 fn raise(ids: &[u8], heap: &mut [u8], base: bool, width: usize, count: usize)
     requires { ⌜ (width % 2 ≡ 0) × (width ≤ 1024) × (count ≤ width) × (length (now heap) ≡ 32768) ⌝ }
@@ -65,6 +117,11 @@ fn raise(ids: &[u8], heap: &mut [u8], base: bool, width: usize, count: usize)
     let half = width / 2;
     let above = (count + 1) / 2;
     let mut j: usize = 0;
+    while j + 4 <= above {
+        let four = parents(ids, heap, base, width, count, j);
+        set_four(heap, half + j, four);
+        j += 4;
+    }
     while j < above {
         let left = node_at(ids, heap, base, width, 2 * j);
         let right = right_of(ids, heap, base, width, count, 2 * j);

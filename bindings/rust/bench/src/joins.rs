@@ -1,32 +1,47 @@
-//! Tables of calls whose work is known in joins: beside the reference and beside the joins alone.
+//! Tables of calls whose work is known in joins: beside the reference, beside the joins alone, and
+//! beside as many by OpenSSL.
 
 use barrowtide::join;
 
 use crate::measure::{seconds, subject, time, Subject};
 use crate::read::seconds_of;
+use crate::yardstick::OpenSsl;
 
 /// Prints the heading of such a table.
 pub fn heading(name: &str) {
-    heading_beside(name, "joins alone");
+    heading_of(name, &["reference", "joins alone", "OpenSSL"]);
 }
 
 /// The same beside something else.
 pub fn heading_beside(name: &str, other: &str) {
-    println!("\n{name}");
-    println!(
-        "{:<42} {:>12} {:>12} {:>6} {other:>12} {:>6}",
-        "", "library", "reference", "ratio", "ratio"
-    );
+    heading_of(name, &["reference", other]);
+}
+
+fn heading_of(name: &str, others: &[&str]) {
+    let others: String =
+        others.iter().map(|other| format!(" {other:>12} {:>6}", "ratio")).collect();
+    println!("\n{name}\n{:<42} {:>12}{others}", "", "library");
 }
 
 /// Prints a row of it; `joins` is how many the call makes.
 pub fn row(name: &str, joins: usize, library: Subject, reference: Subject) {
-    print(name, &seconds(vec![library, reference, alone(joins)]));
+    print(name, &seconds(beside_joins(joins, library, reference)));
 }
 
 /// The same for calls that take long.
 pub fn long_row(name: &str, joins: usize, library: Subject, reference: Subject) {
-    print(name, &[library, reference, alone(joins)].map(seconds_of));
+    let subjects = beside_joins(joins, library, reference);
+    print(name, &subjects.into_iter().map(seconds_of).collect::<Vec<_>>());
+}
+
+fn beside_joins<'a>(
+    joins: usize,
+    library: Subject<'a>,
+    reference: Subject<'a>,
+) -> Vec<Subject<'a>> {
+    let mut subjects = vec![library, reference, alone(joins)];
+    subjects.extend(OpenSsl::find().map(|openssl| by_openssl(openssl, joins)));
+    subjects
 }
 
 /// So many joins, one after the other.
@@ -35,14 +50,24 @@ fn alone(joins: usize) -> Subject<'static> {
     subject(move || (0..joins).fold(node, |last, _| join(&last, &node)))
 }
 
-/// Prints a row of the times of the library, the reference and what they stand beside.
+/// The same by OpenSSL.
+fn by_openssl(openssl: OpenSsl, joins: usize) -> Subject<'static> {
+    let mut pair = [7; 64];
+    subject(move || {
+        for _ in 0..joins {
+            let parent = openssl.sha256d(&pair);
+            pair[..32].copy_from_slice(&parent);
+        }
+        pair
+    })
+}
+
+/// Prints a row of the times of the library and of what it stands beside.
 pub fn print(name: &str, times: &[f64]) {
-    println!(
-        "{name:<42} {:>12} {:>12} {:>6.2} {:>12} {:>6.2}",
-        time(times[0]),
-        time(times[1]),
-        times[0] / times[1],
-        time(times[2]),
-        times[0] / times[2]
-    );
+    let library = times[0];
+    let others: String = times[1..]
+        .iter()
+        .map(|other| format!(" {:>12} {:>6.2}", time(*other), library / other))
+        .collect();
+    println!("{name:<42} {:>12}{others}", time(library));
 }
