@@ -50,12 +50,13 @@
  * sibling recurses, once a level, and is counted here.
  *
  * Cost. Working out a sibling takes fewer joins than leaves lie under it, so one climb makes fewer
- * joins than its path has layers and leaves: fewer than 32 + n / 2 by a path of n bytes, and fewer
- * than 24,606 by any. Each node that is asked for is searched for among the leaves of its level;
+ * joins than its path has layers and leaves: fewer than 64 + n / 2 by a path of n bytes, and fewer
+ * than 57,406 by any. Each node that is asked for is searched for among the leaves of its level;
  * where offsets rise this takes about as long as the joins, and else up to seven times as long.
  * Nothing is kept from one climb to the next: a page climbs once for each id, all clients once for
  * each client leaf, and a bundle once for each transaction that names a BUMP. Turning a proof into
- * the other form climbs once, and takes hardly longer than proving by it. The worst inputs known, offsets in no order, on a machine where a join takes a microsecond:
+ * the other form climbs once, and takes hardly longer than proving by it. The worst inputs known,
+ * offsets in no order, on a machine where a join takes a microsecond:
  *   - one climb, by a BUMP of 150 KB that is mostly copies: 21,484 joins, 0.1 s;
  *   - a page of 256 ids by such a BUMP, or a bundle of 170 KB with 256 transactions in it: 5.5
  *     million joins, 25 s;
@@ -70,13 +71,13 @@
 #include <stdint.h>
 
 #define BARROWTIDE_VERSION_MAJOR 0
-#define BARROWTIDE_VERSION_MINOR 3
+#define BARROWTIDE_VERSION_MINOR 4
 #define BARROWTIDE_VERSION_PATCH 0
 
 /* ---- Sizes ---- */
 
 #define BARROWTIDE_MAX_INPUT 16777216          /* bytes of an input */
-#define BARROWTIDE_MAX_LAYERS 32               /* layers of a BUMP, a CMP or a TSC proof */
+#define BARROWTIDE_MAX_LAYERS 64               /* layers of a BUMP, a CMP or a TSC proof */
 #define BARROWTIDE_MAX_LEAVES 1024             /* leaves of a level */
 #define BARROWTIDE_MAX_BLOCK_HEIGHT 4294967295 /* a BUMP's block height */
 #define BARROWTIDE_MAX_BUMPS 64                /* BUMPs of a bundle */
@@ -84,9 +85,9 @@
 #define BARROWTIDE_MAX_PAGE 256                /* ids of a page */
 #define BARROWTIDE_MAX_IDS 1024                /* ids of the list that a BUMP is written of */
 #define BARROWTIDE_WRITE_ROOM 36864            /* bytes that are enough for any BUMP written */
-#define BARROWTIDE_TSC_TO_BUMP_ROOM 1246       /* bytes that are enough for any TSC proof's BUMP */
-#define BARROWTIDE_BUMP_TO_TSC_ROOM 1127       /* bytes that are enough for any TSC proof made */
-#define BARROWTIDE_MAX_DIFFERENCES 47104       /* differences that two BUMPs have at most */
+#define BARROWTIDE_TSC_TO_BUMP_ROOM 2626       /* bytes that are enough for any TSC proof's BUMP */
+#define BARROWTIDE_BUMP_TO_TSC_ROOM 2187       /* bytes that are enough for any TSC proof made */
+#define BARROWTIDE_MAX_DIFFERENCES 112640      /* differences that two BUMPs have at most */
 
 #ifdef __cplusplus
 extern "C" {
@@ -99,8 +100,8 @@ enum barrowtide_refusal {
     BARROWTIDE_TOO_LONG = 1,      /* the input is over 16,777,216 bytes | 0 */
     BARROWTIDE_SHORT = 2,         /* the bytes end inside a field | field start */
     BARROWTIDE_LONG_VARINT = 3,   /* a VarInt is not in its shortest form | field start */
-    BARROWTIDE_BAD_HEIGHT = 4,    /* a tree height is outside (BUMP 1 to 32, a CMP's first byte
-                                     0 to 31), or a TSC proof that is to become a BUMP has no
+    BARROWTIDE_BAD_HEIGHT = 4,    /* a tree height is outside (BUMP 1 to 64, a CMP's first byte
+                                     0 to 63), or a TSC proof that is to become a BUMP has no
                                      nodes | field start */
     BARROWTIDE_OVER_LIMIT = 5,    /* a count or a block height is over its limit | field start
                                      a list or page has too few ids, too many or a part of one |
@@ -299,14 +300,16 @@ uint32_t barrowtide_shorter(const uint8_t *first, size_t first_len, const uint8_
 
 /* ---- Judging ---- */
 
-/* What an accepted bundle says of one transaction. */
+/* What an accepted bundle says of one transaction. Up to version 0.3 the last three fields were 64,
+   32 and 32 bits wide: a table that was saved then must not be read as one of these, but its bundle
+   judged anew. */
 typedef struct {
     uint64_t start;    /* the place of its first byte in the bundle */
     uint64_t length;   /* how many bytes it takes */
     uint8_t id[32];    /* its id */
-    uint64_t bump;     /* the number of the BUMP that anchors it; 0 if not anchored */
+    uint32_t bump;     /* the number of the BUMP that anchors it; 0 if not anchored */
     uint32_t anchored; /* 1 if a BUMP of the bundle anchors it in a trusted root, and else 0 */
-    uint32_t position; /* its position in the block; 0 if not anchored */
+    uint64_t position; /* its position in the block; 0 if not anchored */
 } barrowtide_record;
 
 /* Blames, records and answers have no padding. */
@@ -360,10 +363,10 @@ uint32_t barrowtide_write_bump(uint64_t block_height, const uint8_t *ids, size_t
    02 and its sibling, offsets rising, at each other level the sibling and nothing else. A node of
    type 1 becomes a copy (flags 01), any other is written with flags 00. The room out has out_len
    bytes; BARROWTIDE_TSC_TO_BUMP_ROOM are always enough: at most 5 for the block height, 1 for the
-   tree height and 38 for the client's leaf, and for each of 32 levels 1 for its count, 33 for the
-   sibling's flags and hash, and 5 (16 levels), 3 (9 levels) or 1 (7 levels) for its offset. On
-   acceptance *written is the number of bytes, which are the first ones of out; the room past them
-   stays as it was, and all of out on a refusal.
+   tree height and 42 for the client's leaf, and for each of 64 levels 1 for its count, 33 for the
+   sibling's flags and hash, and 9 (32 levels), 5 (16 levels), 3 (9 levels) or 1 (7 levels) for its
+   offset. On acceptance *written is the number of bytes, which are the first ones of out; the room
+   past them stays as it was, and all of out on a refusal.
    Refused: as barrowtide_prove_tsc; 4 at the node count if it is 0, as a BUMP has one level at
    least; 22 if the bytes needed are more than out_len. */
 uint32_t barrowtide_tsc_to_bump(const uint8_t *data, size_t len, uint32_t block_height,
@@ -375,8 +378,8 @@ uint32_t barrowtide_tsc_to_bump(const uint8_t *data, size_t len, uint32_t block_
    type 1; any other sibling, written with whatever flags or worked out, one of type 0 with its
    hash. Other clients and surplus leaves are left out. A TSC proof with id and root that
    barrowtide_tsc_to_bump turned into a BUMP comes back byte for byte. The room out has out_len
-   bytes; BARROWTIDE_BUMP_TO_TSC_ROOM are always enough: at most 1 for the flags, 5 for the index,
-   64 for id and root, 1 for the node count and 33 for each of 32 nodes. *written and out are as
+   bytes; BARROWTIDE_BUMP_TO_TSC_ROOM are always enough: at most 1 for the flags, 9 for the index,
+   64 for id and root, 1 for the node count and 33 for each of 64 nodes. *written and out are as
    with barrowtide_tsc_to_bump.
    Refused: as barrowtide_prove_bump; 22 if the bytes needed are more than out_len. */
 uint32_t barrowtide_bump_to_tsc(const uint8_t *data, size_t len, const uint8_t id[32],

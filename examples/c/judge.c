@@ -68,8 +68,8 @@ static void print_record(uint64_t number, const barrowtide_record *record)
     for (int i = 31; i >= 0; i--)
         printf("%02x", record->id[i]);
     if (record->anchored)
-        printf("  anchored by BUMP %llu at position %u", (unsigned long long)record->bump,
-               (unsigned)record->position);
+        printf("  anchored by BUMP %u at position %llu", (unsigned)record->bump,
+               (unsigned long long)record->position);
     printf("\n");
 }
 

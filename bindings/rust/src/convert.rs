@@ -6,16 +6,17 @@ use crate::Hash;
 
 /// Room in bytes that is enough for any BUMP made of a TSC proof.
 ///
-/// So many are needed for 32 nodes that are hashes, at the last position: five for the block height
-/// and one for the tree height, 38 for the client's leaf, and for each level one for its count, 33
-/// for the sibling's flags and hash, and five, three or one for its offset, at 16, 9 and 7 levels.
-pub const TSC_TO_BUMP_ROOM: usize = 1_246;
+/// So many are needed for 64 nodes that are hashes, at the last position: five for the block height
+/// and one for the tree height, 42 for the client's leaf, and for each level one for its count, 33
+/// for the sibling's flags and hash, and nine, five, three or one for its offset, at 32, 16, 9 and 7
+/// levels.
+pub const TSC_TO_BUMP_ROOM: usize = 2_626;
 
 /// Room in bytes that is enough for any TSC proof made of a BUMP.
 ///
-/// So many are needed for 32 nodes that are hashes: one for the flags, five for the index, 64 for id
+/// So many are needed for 64 nodes that are hashes: one for the flags, nine for the index, 64 for id
 /// and root, one for the node count, and 33 for each node.
-pub const BUMP_TO_TSC_ROOM: usize = 1_127;
+pub const BUMP_TO_TSC_ROOM: usize = 2_187;
 
 /// Turns a TSC proof into a BUMP in lent room, and gives the number of bytes written.
 ///

@@ -10,7 +10,8 @@ pub const MAX_TRANSACTIONS: usize = 256;
 /// What an accepted bundle says of one of its transactions.
 ///
 /// The layout is C's and has no padding: any 64 bytes are a record, and a zeroed one is zero byte for
-/// byte.
+/// byte. Before version 0.4 the BUMP's number took 64 bits and the position 32: a table that was
+/// saved then is not read as one of these, its bundle is judged anew.
 #[derive(Debug, Clone, Copy, Default, PartialEq, Eq)]
 #[repr(C)]
 pub struct Record {
@@ -21,11 +22,11 @@ pub struct Record {
     /// Its id.
     pub id: Hash,
     /// The number of the BUMP that anchors it, counted from 0; 0 if it is not anchored.
-    pub bump: u64,
+    pub bump: u32,
     /// 1 if a BUMP of the bundle anchors it in a trusted root, else 0.
     pub anchored: u32,
     /// Its position in the block; 0 if it is not anchored.
-    pub position: u32,
+    pub position: u64,
 }
 
 impl Record {
