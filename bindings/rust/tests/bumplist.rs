@@ -51,7 +51,9 @@ fn examples() {
     assert_eq!(check(&expand("00 01 00")), "block 0\nheight 1\nlevel 0 leaves 0\nok\n");
     assert_eq!(check(&[]), "refused 2 at 0\n");
     check(&expand("05 01 02 01 01 00 02 01{31} 02"));
-    check(&expand("fe ff ff ff ff 20 00{32}"));
+    check(&expand("fe ff ff ff ff 40 00{64}"));
+    let last = check(&expand("00 40 01 ff{9} 01 00{63}"));
+    assert!(last.contains("\nleaf 18446744073709551615 copy\n"), "{last}");
     assert!(check(&decode(include_str!("data/004-bump.hex"))).starts_with("block 814435\n"));
 }
 

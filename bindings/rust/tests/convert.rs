@@ -370,8 +370,8 @@ fn block_heights() {
 fn tall_proofs() {
     let mut random = Random::of("tall_proofs");
     let (mut longest_bump, mut longest_tsc) = (0, 0);
-    for height in 1..=32 {
-        let last = (1 << height) - 1;
+    for height in 1..=64 {
+        let last = u64::MAX >> (64 - height);
         for position in [0, 1, last / 2, last / 2 + 1, last - 1, last, random.within(0..=last)] {
             let mut proof = tsc::Plan::of(&Tree::random(&mut random, 1), 0);
             proof.index = position;
@@ -392,7 +392,7 @@ fn tall_proofs() {
 #[test]
 fn there_and_back() {
     let mut random = Random::of("there_and_back");
-    let (mut copies, mut hashes) = ([0; 32], [0; 32]);
+    let (mut copies, mut hashes) = ([0; 64], [0; 64]);
     for _ in 0..rounds() {
         let proof = tsc::Plan::grown(&mut random);
         let height = random.number() as u32;
@@ -505,23 +505,23 @@ fn surplus_is_left_out() {
     }
 }
 
-/// The top sibling of a tree of 32 layers is worked out over 31 levels of copies, and becomes a
+/// The top sibling of a tree of 64 layers is worked out over 63 levels of copies, and becomes a
 /// hash; the climb's own copies stay copies.
 #[test]
 fn copies_of_copies() {
     let id = [0xaa; 32];
-    let position = 1 << 31;
+    let position = 1 << 63;
     let leaf = |offset, flags| Leaf { offset, flags, hash: [0xbb; 32] };
-    let mut plan = Plan { block_height: 0, levels: vec![Vec::new(); 32] };
+    let mut plan = Plan { block_height: 0, levels: vec![Vec::new(); 64] };
     plan.levels[0] = vec![leaf(0, 0), Leaf { hash: id, ..leaf(position, 2) }];
-    for layer in 0..31 {
+    for layer in 0..63 {
         plan.levels[layer].extend([leaf(1, 1), leaf((position >> layer) + 1, 1)]);
     }
-    let copied = |hash| (0..31).fold(hash, |hash, _| join(&hash, &hash));
+    let copied = |hash| (0..63).fold(hash, |hash, _| join(&hash, &hash));
     let made = to_tsc(&plan.bump().bytes, &id).expect("a sound path");
     let top = copied([0xbb; 32]);
     let root = parent(&top, &copied(id));
-    let proof = format!("04 fe 00 00 00 80 [aa] {root} 20 01{{31}} 00 {}", encode(&top));
+    let proof = format!("04 ff 00{{7}} 80 [aa] {root} 40 01{{63}} 00 {}", encode(&top));
     assert_eq!(Ok(made), bytes(&proof));
 }
 

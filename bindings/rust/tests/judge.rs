@@ -23,9 +23,9 @@ const FILLED: Record = Record {
     start: FILL,
     length: FILL,
     id: [PRESET; 32],
-    bump: FILL,
+    bump: 0xa5a5_a5a5,
     anchored: 0xa5a5_a5a5,
-    position: 0xa5a5_a5a5,
+    position: FILL,
 };
 
 /// The bytes of a table, as a C caller sees them.
@@ -56,6 +56,7 @@ fn check(data: &[u8], roots: &[u8], room: usize) -> Result<Vec<Record>, Refusal>
 
 fn record(told: judge::Record) -> Record {
     let judge::Record { start, length, id, anchored, bump, position } = told;
+    let bump = bump.try_into().expect("at most 64 BUMPs");
     Record { start, length, id, bump, anchored: anchored.into(), position }
 }
 
@@ -143,7 +144,7 @@ fn sound_bundles() {
         let records = check_plan(&plan).expect("a sound bundle");
         for (record, (transaction, anchor)) in records.iter().zip(&plan.entries) {
             assert_eq!(record.id, transaction.id());
-            assert_eq!(record.is_anchored().then_some(record.bump), *anchor);
+            assert_eq!(record.is_anchored().then_some(record.bump.into()), *anchor);
         }
         let verdict = barrowtide::judge(&plan.draft().bytes, &plan.roots).unwrap();
         assert_eq!(verdict.records, records);
@@ -173,6 +174,26 @@ fn tables_and_lists() {
         assert!(check(&bytes, &many, count as usize).is_ok());
         assert!(check(&bytes, &many[32..], count as usize).is_ok());
         assert_eq!(check(&bytes, &many[1..], count as usize), refused(21, 0));
+    }
+}
+
+/// BUMPs of 64 layers: a record holds every position.
+#[test]
+fn tall_paths() {
+    let mut random = Random::of("tall_paths");
+    for position in [0, u32::MAX.into(), 1 << 32, 1 << 63, u64::MAX, random.bits()] {
+        let own = transaction::Plan::random(&mut random);
+        let (id, mut root) = (own.id(), own.id());
+        let mut levels = Vec::new();
+        for layer in 0..64 {
+            let (at, hash) = (position >> layer, random.hash());
+            levels.push(vec![path::Leaf { offset: at ^ 1, flags: 0, hash }]);
+            root = if at % 2 == 0 { join(&root, &hash) } else { join(&hash, &root) };
+        }
+        levels[0].push(path::Leaf { offset: position, flags: 2, hash: id });
+        let bumps = vec![path::Plan { block_height: 0, levels }];
+        let plan = Plan { bumps, entries: vec![(own, Some(0))], roots: vec![root] };
+        assert_eq!(check_plan(&plan).expect("a sound bundle")[0].position, position);
     }
 }
 

@@ -323,26 +323,26 @@ fn other_leaves_are_ignored() {
     }
 }
 
-/// Trees of 32 layers that no one could work out twice: copies of copies, and paths that end in
+/// Trees of 64 layers that no one could work out twice: copies of copies, and paths that end in
 /// nothing.
 #[test]
 fn tall_paths() {
     let id = [0xaa; 32];
-    let position = 1 << 31;
+    let position = 1 << 63;
     let leaf = |offset, flags| Leaf { offset, flags, hash: [0xbb; 32] };
-    let mut plan = Plan { block_height: 0, levels: vec![Vec::new(); 32] };
+    let mut plan = Plan { block_height: 0, levels: vec![Vec::new(); 64] };
     plan.levels[0] = vec![leaf(0, 0), Leaf { hash: id, ..leaf(position, 2) }];
-    for layer in 0..31 {
+    for layer in 0..63 {
         plan.levels[layer].extend([leaf(1, 1), leaf((position >> layer) + 1, 1)]);
     }
-    let copied = |hash| (0..31).fold(hash, |hash, _| join(&hash, &hash));
+    let copied = |hash| (0..63).fold(hash, |hash, _| join(&hash, &hash));
     let proof = check_bump(&plan.bump().bytes, &id).expect("a sound path");
     assert_eq!(proof.root, join(&copied([0xbb; 32]), &copied(id)));
     assert_eq!(check_cmp(&plan.cmp().bytes, &id).map(|proof| proof.position), Ok(position));
     plan.levels[0].remove(0);
     let missing = |layer, sibling| Err(Refusal::of_sibling(14, layer, sibling));
-    assert_eq!(check_bump(&plan.bump().bytes, &id), missing(31, 0));
-    assert_eq!(check_cmp(&plan.cmp().bytes, &id), missing(31, 0));
+    assert_eq!(check_bump(&plan.bump().bytes, &id), missing(63, 0));
+    assert_eq!(check_cmp(&plan.cmp().bytes, &id), missing(63, 0));
     // Every sibling but the lowest is far above what is written.
     plan.levels[1..].iter_mut().for_each(Vec::clear);
     assert_eq!(check_bump(&plan.bump().bytes, &id), missing(1, (position >> 1) + 1));

@@ -184,13 +184,13 @@ fn large_trees() {
     }
 }
 
-/// The tallest paths: one id, 32 layers, and positions up to the last.
+/// The tallest paths: one id, up to 64 layers, and positions up to the last.
 #[test]
 fn tall_paths() {
     let mut random = Random::of("tall_paths");
-    for height in 1..=32usize {
-        for position in [0, 1, (1 << height) - 2, (1 << height) - 1, random.bits() >> (64 - height)]
-        {
+    for height in 1..=64usize {
+        let last = u64::MAX >> (64 - height);
+        for position in [0, 1, last - 1, last, random.within(0..=last)] {
             let beside = |layer| (position >> layer) ^ 1;
             let id = random.hash();
             let mut levels: Vec<Vec<Leaf>> = (0..height)

@@ -91,7 +91,9 @@ fn bump_examples() {
     for (example, answer) in [
         ("00 01 00", ok(0, 1, 0)),
         ("00 00", refused(4, 1)),
-        ("00 21", refused(4, 1)),
+        ("00 21", refused(2, 2)),
+        ("00 40", refused(2, 2)),
+        ("00 41", refused(4, 1)),
         ("00 01 01 00 01", refused(7, 4)),
         ("00 01 01 02", refused(6, 3)),
         ("00 01 02 01 01 01", refused(8, 5)),
@@ -113,6 +115,12 @@ fn bump_examples() {
         ("00 02 01 02 01", refused(7, 4)),
         ("00 01 02 01 01 01 09", refused(8, 5)),
         ("00 01 00 00", refused(9, 3)),
+        ("00 40 01 ff{9} 01 00{63}", ok(0, 64, 1)),
+        ("00 40 00 01 ff{9} 01", refused(6, 4)),
+        ("00 40 00 01 ff{8} 7f 01 00{62}", ok(0, 64, 1)),
+        ("00 40 02 ff{9} 01 ff{9} 01", refused(8, 13)),
+        ("00 40 02 ff{9} 01 01 01 00{63}", ok(0, 64, 2)),
+        ("00 40 02 ff 01 00{3} 01 00{3} 01 01 01 00{63}", ok(0, 64, 2)),
     ] {
         assert_eq!(check_bump(&expand(example)), answer, "{example}");
     }
@@ -124,8 +132,11 @@ fn cmp_examples() {
     for (example, answer) in [
         ("00 00", ok(1, 0)),
         ("0b fd 01 04", refused(5, 1)),
-        ("20", refused(4, 0)),
-        ("1f", refused(2, 1)),
+        ("20", refused(2, 1)),
+        ("3f", refused(2, 1)),
+        ("40", refused(4, 0)),
+        ("3f 00{63} 01 ff{9} [aa]", ok(64, 1)),
+        ("3f 00{62} 01 ff{9} [aa] 00", refused(6, 64)),
         ("01 01 02", refused(6, 2)),
         ("01 00 01 03 [aa]", ok(2, 1)),
         ("01 02 01 [aa] 01", refused(8, 35)),
@@ -187,7 +198,7 @@ fn varints_of_random_bytes() {
 /// All short inputs of telling bytes.
 #[test]
 fn short_inputs() {
-    let alphabet = [0x00, 0x01, 0x02, 0x03, 0x20, 0x21, 0xfc, 0xfd, 0xfe, 0xff];
+    let alphabet = [0x00, 0x01, 0x02, 0x03, 0x40, 0x41, 0xfc, 0xfd, 0xfe, 0xff];
     for data in all_strings(&alphabet, 5) {
         let _ = check_varint(&data);
         let _ = check_bump(&data);
@@ -249,14 +260,14 @@ fn random_damage() {
 /// At each level of trees of every height: the last offset that fits, and the first that does not.
 #[test]
 fn offsets_at_the_bounds() {
-    for height in 1..=33usize {
+    for height in 1..=65usize {
         for level in 0..height {
-            for beyond in [0, 1] {
-                let offset = (1 << (height - level)) - 1 + beyond;
+            let last = u64::MAX >> 64usize.saturating_sub(height - level);
+            for offset in [Some(last), last.checked_add(1)].into_iter().flatten() {
                 let mut levels = vec![Vec::new(); height];
                 levels[level].push(Leaf { offset, flags: 1, hash: [0xaa; 32] });
                 let plan = Plan { block_height: 0, levels };
-                let fits = beyond == 0 && height <= 32;
+                let fits = offset == last && height <= 64;
                 assert_eq!(check_bump(&plan.bump().bytes).is_ok(), fits);
                 assert_eq!(check_cmp(&plan.cmp().bytes).is_ok(), fits);
             }
@@ -264,12 +275,14 @@ fn offsets_at_the_bounds() {
     }
 }
 
-/// 1,024 leaves in a level, and one more; rising, falling, in no order, and with the last repeated.
+/// 1,024 leaves in a level, and one more; rising, falling, in no order, and with the last repeated;
+/// side by side, and so far apart that their low bits are the same.
 #[test]
 fn full_levels() {
     let mut random = Random::of("full_levels");
-    for count in [1_024, 1_025] {
-        let rising: Vec<u64> = (0..count).map(|n| 2 * n + 1).collect();
+    let steps = [2, 1 << 13, 1 << 32, 1 << 52];
+    for (count, step) in [1_024, 1_025].into_iter().flat_map(|n| steps.map(|step| (n, step))) {
+        let rising: Vec<u64> = (0..count).map(|n| step * n + 1).collect();
         let falling = rising.iter().rev().copied().collect();
         let mut mixed = rising.clone();
         random.shuffle(&mut mixed);
@@ -282,7 +295,7 @@ fn full_levels() {
             let full: Vec<Leaf> = offsets.iter().map(leaf).collect();
             let plan = Plan { block_height: 1, levels: vec![full.clone(), full, Vec::new()] };
             let taller =
-                Plan { levels: [plan.levels.clone(), vec![Vec::new(); 11]].concat(), ..plan };
+                Plan { levels: [plan.levels.clone(), vec![Vec::new(); 61]].concat(), ..plan };
             let number = if count > 1_024 { 5 } else { 8 };
             let sound = distinct && count == 1_024;
             let answer = check_bump(&taller.bump().bytes);

@@ -30,7 +30,7 @@ pub fn read_at(cursor: &mut Cursor) -> Result<Bump, Refusal> {
     }
     let height_place = cursor.place();
     let height = u32::from(cursor.byte()?);
-    if !(1..=32).contains(&height) {
+    if !(1..=64).contains(&height) {
         return refuse(BAD_HEIGHT, height_place);
     }
     let levels = (0..height)

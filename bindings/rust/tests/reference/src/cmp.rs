@@ -8,7 +8,7 @@ use crate::refusal::{refuse, Refusal, BAD_HEIGHT};
 pub fn read(data: &[u8]) -> Result<Path, Refusal> {
     let mut cursor = Cursor::new(data)?;
     let top = u32::from(cursor.byte()?);
-    if top > 31 {
+    if top > 63 {
         return refuse(BAD_HEIGHT, 0);
     }
     let mut levels = (0..=top)

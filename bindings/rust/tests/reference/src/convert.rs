@@ -273,17 +273,17 @@ mod tests {
         }
     }
 
-    /// The most bytes that each can need: 32 nodes that are hashes, at the last position.
+    /// The most bytes that each can need: 64 nodes that are hashes, at the last position.
     #[test]
     fn longest() {
         let mut proof = Proof::of(&Tree::new(vec![[0xaa; 32]]), 0);
-        proof.index = u64::from(u32::MAX);
-        proof.nodes = vec![(0, [0xbb; 32]); 32];
+        proof.index = u64::MAX;
+        proof.nodes = vec![(0, [0xbb; 32]); 64];
         proof.aim(0, &mut Random::of("longest"));
         let bump = tsc_to_bump(&proof.draft().bytes, u32::MAX, usize::MAX).expect("a sound proof");
-        // Offsets of the siblings take five bytes at 16 levels, three at 9 and one at 7.
-        assert_eq!(bump.len(), 5 + 1 + 38 + 32 * 34 + 16 * 5 + 9 * 3 + 7);
+        // Offsets of the siblings take nine bytes at 32 levels, five at 16, three at 9, one at 7.
+        assert_eq!(bump.len(), 5 + 1 + 42 + 64 * 34 + 32 * 9 + 16 * 5 + 9 * 3 + 7);
         let back = bump_to_tsc(&bump, &[0xaa; 32], usize::MAX).expect("a sound path");
-        assert_eq!(back.len(), 1 + 5 + 2 * 32 + 1 + 32 * 33);
+        assert_eq!(back.len(), 1 + 9 + 2 * 32 + 1 + 64 * 33);
     }
 }

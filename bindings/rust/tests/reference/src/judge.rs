@@ -20,7 +20,7 @@ pub struct Record {
     /// The number of its BUMP, 0 if not anchored.
     pub bump: u64,
     /// Its position in the block, 0 if not anchored.
-    pub position: u32,
+    pub position: u64,
 }
 
 /// Judges a bundle against a list of roots: the number of transactions, and the table of `room`
@@ -74,8 +74,7 @@ fn judge_one(
         if !roots.chunks_exact(32).any(|root| root == climb.root()) {
             return refuse(UNTRUSTED, 0);
         }
-        let position = u32::try_from(climb.position).expect("a tree of 32 layers");
-        record = Record { anchored: true, bump, position, ..record };
+        record = Record { anchored: true, bump, position: climb.position, ..record };
     } else if !transaction.inputs.iter().all(|input| known(&input.parent)) {
         return refuse(NO_PARENT, 0);
     }

@@ -63,6 +63,11 @@ impl Path {
     }
 }
 
+/// Whether a position lies below 2 to the number of layers, of which there may be 64.
+pub fn fits(position: u64, layers: u32) -> bool {
+    position.checked_shr(layers).unwrap_or(0) == 0
+}
+
 /// Reads level `level` of a tree of the given height; `node` reads what stands behind an offset.
 pub fn read_level<'a>(
     cursor: &mut Cursor<'a>,
@@ -80,7 +85,7 @@ pub fn read_level<'a>(
     for _ in 0..count {
         let offset_place = cursor.place();
         let offset = cursor.varint()?;
-        if offset >= 1 << (height - level) {
+        if !fits(offset, height - level) {
             return refuse(BAD_OFFSET, offset_place);
         }
         if !met.insert(offset) {

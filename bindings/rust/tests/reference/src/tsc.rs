@@ -1,6 +1,7 @@
 //! TSC binary proof (000).
 
 use crate::fields::Cursor;
+use crate::path::fits;
 use crate::refusal::{refuse, Refusal, BAD_FLAG, BAD_OFFSET, BAD_TX, OVER_LIMIT};
 use crate::transaction::{self, Transaction};
 use crate::Hash;
@@ -70,10 +71,10 @@ pub fn read(data: &[u8]) -> Result<Tsc, Refusal> {
     };
     let count_place = cursor.place();
     let count = cursor.varint()?;
-    if count > 32 {
+    if count > 64 {
         return refuse(OVER_LIMIT, count_place);
     }
-    if index >= 1 << count {
+    if !fits(index, count as u32) {
         return refuse(BAD_OFFSET, index_place);
     }
     let nodes = (0..count).map(|_| node(&mut cursor)).collect::<Result<_, _>>()?;

@@ -89,7 +89,8 @@ impl Plan {
     /// A path of no block that proves a client's id: each sibling is written, a copy, or to be
     /// worked out from nodes that are so in turn. Leaves may stand on the climb's own way.
     pub fn grown(random: &mut Random, id: Hash) -> Self {
-        let height = if random.one_in(50) { 32 } else { random.within(1..=7) as usize };
+        let tall = random.pick(&[32, 33, 63, 64]);
+        let height = if random.one_in(50) { tall } else { random.within(1..=7) as usize };
         let position = random.bits() >> (64 - height);
         let mut plan = Self { block_height: 0, levels: vec![Vec::new(); height] };
         plan.levels[0].push(Leaf { offset: position, flags: 2, hash: id });

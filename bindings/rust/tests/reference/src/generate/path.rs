@@ -138,7 +138,10 @@ impl Plan {
             4 => changed.flags = random.pick(&[0, 1, 2, 3, 0xff]),
             5 => changed.hash = other.hash,
             6 => changed.hash = random.hash(),
-            7 => changed.offset = leaf.offset.wrapping_add(1 << (height - level)),
+            7 => {
+                let end = 1u64.checked_shl((height - level) as u32).unwrap_or(0);
+                changed.offset = leaf.offset.wrapping_add(end);
+            }
             _ => {
                 let upper = random.index(height);
                 self.levels[upper].push(leaf);

@@ -71,7 +71,7 @@ impl Plan {
     /// A proof of no block with id and root, of any number of layers: each sibling is a hash or, on
     /// the right, a copy.
     pub fn grown(random: &mut Random) -> Self {
-        let height = if random.one_in(8) { 32 } else { random.within(1..=31) };
+        let height = if random.one_in(8) { 64 } else { random.within(1..=63) };
         let mut plan = Self::of(&Tree::random(random, 1), 0);
         let bits = random.bits();
         plan.index = random.pick(&[0, u64::MAX, bits]) >> (64 - height);
