@@ -30,9 +30,15 @@ pub fn run() {
     compare("256 transactions, some anchored", &forest.draft().bytes, &forest.root_list());
 
     heading("Worst cases of judging");
-    worst("256 transactions in one BUMP of 32 full levels", &anchored_in_one(&mut random));
+    for height in [32, 64] {
+        let name = format!("256 transactions in one BUMP of {height} full levels");
+        worst(&name, &anchored_in_one(&mut random, height));
+    }
     worst("400,000 inputs, parent the last of 255", &many_inputs(&mut random));
-    worst("64 BUMPs of 1,024 falling leaves a level", &many_bumps(&mut random));
+    for (count, height) in [(64, 32), (26, 64)] {
+        let name = format!("{count} BUMPs of {height} levels of 1,024 falling leaves");
+        worst(&name, &many_bumps(&mut random, count, height));
+    }
 }
 
 fn compare(name: &str, bundle: &[u8], roots: &[u8]) {
@@ -93,12 +99,12 @@ fn chain(random: &mut Random, count: usize) -> Plan {
     Plan { bumps: vec![path::Plan::of(&tree, &[500])], entries, roots: vec![tree.root()] }
 }
 
-/// 256 transactions anchored in one BUMP of 32 full levels.
-fn anchored_in_one(random: &mut Random) -> Plan {
+/// 256 transactions anchored in one BUMP of so many full levels.
+fn anchored_in_one(random: &mut Random, height: u32) -> Plan {
     let entries: Vec<_> = (0..256).map(|_| (transaction::Plan::random(random), Some(0))).collect();
     let tree = Tree::new(entries.iter().map(|entry| entry.0.id()).collect());
     let positions: Vec<u64> = (0..256).collect();
-    let (bump, root) = buried(&tree, &positions);
+    let (bump, root) = buried(&tree, &positions, height);
     Plan { bumps: vec![bump], entries, roots: vec![root] }
 }
 
@@ -112,9 +118,9 @@ fn many_inputs(random: &mut Random) -> Plan {
     plan
 }
 
-/// A small sound bundle with 63 more BUMPs that no transaction names.
-fn many_bumps(random: &mut Random) -> Plan {
+/// A small sound bundle with more BUMPs that no transaction names, as many as an input holds.
+fn many_bumps(random: &mut Random, count: usize, height: u32) -> Plan {
     let mut plan = chain(random, 2);
-    plan.bumps.resize(64, falling(true));
+    plan.bumps.resize(count, falling(height, true));
     plan
 }

@@ -18,13 +18,18 @@ pub fn run() {
     for shuffled in [false, true] {
         let order = if shuffled { "shuffled" } else { "rising" };
         clients_alone(&mut random, order);
-        for (name, copies) in [("32 full levels", false), ("32 levels of copies", true)] {
-            let (mut path, joins) = halving(copies);
-            arrange(&mut random, &mut path, order);
-            one_id(&format!("{name}, {order}"), &path, 0, joins);
+        for height in [32, 64] {
+            for (name, copies) in [("full levels", false), ("levels of copies", true)] {
+                let (mut path, joins) = halving(height, copies);
+                arrange(&mut random, &mut path, order);
+                one_id(&format!("{height} {name}, {order}"), &path, 0, joins);
+            }
         }
     }
-    one_id("copies at offset 1 of 31 levels", &copied([8; 32]), 1 << 31, 63);
+    for height in [32, 64] {
+        let name = format!("copies at offset 1 of {} levels", height - 1);
+        one_id(&name, &copied(height, [8; 32]), 1 << (height - 1), 2 * height - 1);
+    }
 }
 
 /// A block of 1,024 ids of which 256 are a bundle's transactions, as client leaves and nothing else.
@@ -86,17 +91,17 @@ fn arrange(random: &mut Random, path: &mut Plan, order: &str) {
 /// makes. Under the top sibling each level has as many worked-out nodes as its leaves below allow:
 /// of two children the left one is worked out, too, or written, and the right one is written or a
 /// copy. Where they are written the levels are filled up with surplus leaves.
-fn halving(copies: bool) -> (Plan, usize) {
+fn halving(height: usize, copies: bool) -> (Plan, usize) {
     let leaf = |offset| Leaf { offset, flags: u8::from(copies && offset % 2 == 1), hash: [7; 32] };
-    let mut levels = vec![Vec::new(); 32];
+    let mut levels = vec![Vec::new(); height];
     let mut worked_out = vec![0];
-    for level in 1..=21 {
+    for level in 1..=height - 11 {
         worked_out.push((worked_out[level - 1] + 1_022) / 2);
     }
-    let joins = 32 + 1_023 + worked_out.iter().sum::<usize>();
-    // The node at offset 1 of level 31 stands over 1,024 of level 21.
+    let joins = height + 1_023 + worked_out.iter().sum::<usize>();
+    // The node at offset 1 of the top level stands over 1,024 nodes ten levels lower.
     let mut nodes: Vec<u64> = (1_024..2_048).collect();
-    for level in (0..=21).rev() {
+    for level in (0..=height - 11).rev() {
         let written = nodes.split_off(worked_out[level]);
         levels[level].extend(written.into_iter().map(leaf));
         if level > 0 {
@@ -105,9 +110,9 @@ fn halving(copies: bool) -> (Plan, usize) {
         }
     }
     levels[0].push(Leaf { hash: [8; 32], ..leaf(0) });
-    for (level, leaves) in levels[..31].iter_mut().enumerate() {
+    for (level, leaves) in levels[..height - 1].iter_mut().enumerate() {
         leaves.push(leaf(1));
-        let surplus = (2..1 << (31 - level)).take(1_024 - leaves.len());
+        let surplus = (2..1 << (height - 1 - level)).take(1_024 - leaves.len());
         if level > 0 && !copies {
             leaves.extend(surplus.map(leaf));
         }
@@ -117,12 +122,12 @@ fn halving(copies: bool) -> (Plan, usize) {
 
 /// A path of copies at offset 1 of every level below the last; of the left half only the first
 /// leaf is written besides, and the client is the first of the right half, beside copies, too. So
-/// the top sibling is worked out over 31 levels.
-pub fn copied(id: Hash) -> Plan {
-    let position = 1u64 << 31;
+/// the top sibling is worked out over all levels below it.
+pub fn copied(height: usize, id: Hash) -> Plan {
+    let position = 1u64 << (height - 1);
     let leaf = |offset, flags| Leaf { offset, flags, hash: [7; 32] };
-    let mut levels = vec![Vec::new(); 32];
-    for (level, leaves) in levels[..31].iter_mut().enumerate() {
+    let mut levels = vec![Vec::new(); height];
+    for (level, leaves) in levels[..height - 1].iter_mut().enumerate() {
         leaves.extend([leaf(1, 1), leaf((position >> level) + 1, 1)]);
     }
     levels[0].extend([leaf(0, 0), Leaf { hash: id, ..leaf(position, 2) }]);

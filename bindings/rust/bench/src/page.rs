@@ -25,8 +25,10 @@ pub fn run() {
         &ids,
         tree.root(),
     );
-    let (path, root) = buried(&tree, &positions);
-    compare("BUMP, 32 levels of 1,024 falling leaves", &path, &ids, root);
+    for height in [32, 64] {
+        let (path, root) = buried(&tree, &positions, height);
+        compare(&format!("BUMP, {height} levels of 1,024 falling leaves"), &path, &ids, root);
+    }
 }
 
 fn compare(name: &str, path: &Plan, ids: &[Hash], root: Hash) {

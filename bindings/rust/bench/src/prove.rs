@@ -52,29 +52,32 @@ pub fn run() {
 fn worst_cases(tree: &Tree) {
     heading("Worst cases of proving");
     let id = tree.ids()[0];
-    let (path, root) = buried(tree, &[0]);
-    let bytes = path.bump().bytes;
-    row(
-        "prove_bump, 32 levels of 1,024 falling leaves",
-        bytes.len(),
-        seconds_of(|| assert_eq!(barrowtide::prove_bump(&bytes, &id).map(|p| p.root), Ok(root))),
-        seconds_of(|| prove::by_bump(&bytes, &id).expect("a sound proof")),
-    );
     let all: Vec<u64> = (0..tree.ids().len() as u64).collect();
-    let (path, root) = buried(tree, &all);
-    let bytes = path.bump().bytes;
-    row(
-        "check_clients, the same with 1,024 clients",
-        bytes.len(),
-        seconds_of(|| assert_eq!(barrowtide::check_clients(&bytes), Ok(root))),
-        seconds_of(|| prove::all_clients(&bytes).expect("sound proofs")),
-    );
+    for height in [32, 64] {
+        let (path, root) = buried(tree, &[0], height);
+        let bytes = path.bump().bytes;
+        let prove = || barrowtide::prove_bump(&bytes, &id).map(|proof| proof.root);
+        row(
+            &format!("prove_bump, {height} levels of 1,024 falling leaves"),
+            bytes.len(),
+            seconds_of(|| assert_eq!(prove(), Ok(root))),
+            seconds_of(|| prove::by_bump(&bytes, &id).expect("a sound proof")),
+        );
+        let (path, root) = buried(tree, &all, height);
+        let bytes = path.bump().bytes;
+        row(
+            "check_clients, the same with 1,024 clients",
+            bytes.len(),
+            seconds_of(|| assert_eq!(barrowtide::check_clients(&bytes), Ok(root))),
+            seconds_of(|| prove::all_clients(&bytes).expect("sound proofs")),
+        );
+    }
 }
 
-/// A path of 32 levels full of falling leaves; those that the climbs of a small tree's ids ask for
-/// are written last. And its root.
-pub fn buried(tree: &Tree, positions: &[u64]) -> (Plan, Hash) {
-    let mut path = falling(false);
+/// A path of so many levels full of falling leaves; those that the climbs of a small tree's ids ask
+/// for are written last. And its root.
+pub fn buried(tree: &Tree, positions: &[u64], height: u32) -> (Plan, Hash) {
+    let mut path = falling(height, false);
     let asked = Plan::of(tree, positions);
     let mut root = tree.root();
     for (level, leaves) in path.levels.iter_mut().enumerate() {

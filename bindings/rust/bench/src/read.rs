@@ -9,42 +9,62 @@ use reference::{bump, generate, tsc};
 
 use crate::measure::{seconds, subject, time, time_of};
 
-/// A path of the tallest tree with as many leaves on each level as fit, up to 1,024, their offsets
-/// falling. Copies stand on odd offsets and take six bytes at most.
-pub fn falling(copies: bool) -> Plan {
+/// A path of so many levels with as many leaves on each as fit, up to 1,024, their offsets falling.
+/// Copies stand on odd offsets and take ten bytes at most.
+pub fn falling(height: u32, copies: bool) -> Plan {
     let step = if copies { 2 } else { 1 };
     let level = |level: u32| {
-        let end = 1u64 << (32 - level);
-        let leaf =
-            |n| Leaf { offset: end - 1 - step * n, flags: u8::from(copies), hash: [0xaa; 32] };
-        (0..(end / step).min(1_024)).map(leaf).collect()
+        let last = u64::MAX >> (64 - (height - level));
+        let leaf = |n| Leaf { offset: last - step * n, flags: u8::from(copies), hash: [0xaa; 32] };
+        (0..(last / step).min(1_023) + 1).map(leaf).collect()
     };
-    Plan { block_height: 1, levels: (0..32).map(level).collect() }
+    Plan { block_height: 1, levels: (0..height).map(level).collect() }
 }
 
 /// Prints the tables of reading a path and of searching in it.
 pub fn run() {
     heading("Reading small paths");
-    let levels =
-        quick_row("BUMP, 32 levels of one leaf", &small_bump(), barrowtide::read_bump, bump::read);
-    let nodes = quick_row("TSC proof of 32 nodes", &small_tsc(), barrowtide::read_tsc, tsc::read);
-    println!(
-        "{:<85} {:>6.2}",
-        "the library's time for the BUMP over that for the TSC proof",
-        levels / nodes
-    );
+    for height in [32, 64] {
+        let path = small_bump(height);
+        let name = format!("BUMP, {height} levels of one leaf");
+        let levels = quick_row(&name, &path, barrowtide::read_bump, bump::read);
+        let proof = small_tsc(height);
+        let name = format!("TSC proof of {height} nodes");
+        let nodes = quick_row(&name, &proof, barrowtide::read_tsc, tsc::read);
+        println!(
+            "{:<85} {:>6.2}",
+            "the library's time for the BUMP over that for the TSC proof",
+            levels / nodes
+        );
+    }
 
     heading("Worst cases of reading");
     let mut random = Random::of("read");
-    for (name, copies) in [("hashes", false), ("copies", true)] {
-        let mut path = falling(copies);
-        large_row(&format!("BUMP, 32 levels of 1,024 falling {name}"), &path);
-        path.levels.iter_mut().for_each(|leaves| leaves.reverse());
-        large_row(&format!("BUMP, 32 levels of 1,024 rising {name}"), &path);
-        path.levels.iter_mut().for_each(|leaves| random.shuffle(leaves));
-        large_row(&format!("BUMP, 32 levels of 1,024 shuffled {name}"), &path);
+    for height in [32, 64] {
+        for (name, copies) in [("hashes", false), ("copies", true)] {
+            let mut path = falling(height, copies);
+            large_row(&format!("BUMP, {height} levels of 1,024 falling {name}"), &path);
+            path.levels.iter_mut().for_each(|leaves| leaves.reverse());
+            large_row(&format!("BUMP, {height} levels of 1,024 rising {name}"), &path);
+            path.levels.iter_mut().for_each(|leaves| random.shuffle(leaves));
+            large_row(&format!("BUMP, {height} levels of 1,024 shuffled {name}"), &path);
+        }
+        let mut path = falling(height, true);
+        apart(&mut path);
+        large_row(&format!("BUMP, {height} levels of falling copies 4,096 apart"), &path);
     }
     searches(&mut random);
+}
+
+/// Puts the leaves of each level 4,096 or the greatest power of two apart that it has room for: then
+/// all of them share a slot of the reader's, and each is looked for among all before it.
+fn apart(path: &mut Plan) {
+    let height = path.levels.len();
+    for (level, leaves) in path.levels.iter_mut().enumerate() {
+        let step = 1 << (height - level).saturating_sub(10).clamp(1, 12);
+        let count = leaves.len() as u64;
+        (0..count).rev().zip(leaves).for_each(|(n, leaf)| leaf.offset = step * n + 1);
+    }
 }
 
 fn large_row(name: &str, path: &Plan) {
@@ -57,16 +77,16 @@ fn large_row(name: &str, path: &Plan) {
     );
 }
 
-/// A path of 32 levels with one leaf each.
-fn small_bump() -> Vec<u8> {
+/// A path of so many levels with one leaf each.
+fn small_bump(height: u8) -> Vec<u8> {
     let level = |level| vec![Leaf { offset: 1, flags: 0, hash: [level; 32] }];
-    Plan { block_height: 1, levels: (0..32).map(level).collect() }.bump().bytes
+    Plan { block_height: 1, levels: (0..height).map(level).collect() }.bump().bytes
 }
 
-/// A TSC proof of 32 nodes.
-fn small_tsc() -> Vec<u8> {
+/// A TSC proof of so many nodes.
+fn small_tsc(count: u8) -> Vec<u8> {
     let mut proof = generate::tsc::Plan::of(&Tree::new(vec![[7; 32], [8; 32]]), 0);
-    proof.nodes.resize(32, (0, [9; 32]));
+    proof.nodes.resize(count.into(), (0, [9; 32]));
     proof.draft().bytes
 }
 

@@ -27,7 +27,7 @@ pub fn run() {
     let mut ids = vec![[7; 32]; 1_000];
     ids[777] = id;
     let tree = Tree::new(ids);
-    let path = copied(id);
+    let path = copied(64, id);
     let (bump, cmp) = (path.bump().bytes, path.cmp().bytes);
     let mut proof = tsc::Plan::of(&tree, 777);
     proof.stated = Some(raw.bytes.len() as u64);
