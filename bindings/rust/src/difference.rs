@@ -5,7 +5,7 @@ use crate::refusal::{answer, Refusal};
 use crate::Hash;
 
 /// The greatest number of differences that two BUMPs have.
-pub const MAX_DIFFERENCES: usize = 47_104;
+pub const MAX_DIFFERENCES: usize = 112_640;
 
 /// Where a leaf that differs stands.
 #[derive(Debug, Clone, Copy, PartialEq, Eq)]

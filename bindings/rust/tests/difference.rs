@@ -234,13 +234,13 @@ fn random_pairs() {
 fn large_levels() {
     let mut random = Random::of("large_levels");
     for round in 0..(20 + rounds() / 100) {
-        let height = random.within(1..=32) as usize;
+        let height = random.within(1..=64) as usize;
         let offsets = |random: &mut Random, level: usize| -> Vec<u64> {
-            let end = 1u64 << (height - level);
-            let wide = if random.one_in(2) { end } else { end.min(4_096) };
+            let last = u64::MAX >> (64 - (height - level));
+            let wide = if random.one_in(2) { last } else { last.min(4_095) };
             let count = if random.one_in(4) { 1_024 } else { 40 };
             let mut offsets: Vec<u64> =
-                (0..random.within(0..=count)).map(|_| random.within(0..=wide - 1)).collect();
+                (0..random.within(0..=count)).map(|_| random.within(0..=wide)).collect();
             offsets.sort();
             offsets.dedup();
             match random.within(0..=2) {
@@ -277,16 +277,16 @@ fn large_levels() {
 fn most_differences() {
     let plan = |block_height, height: u32, upper: u64| {
         let level = |level: u32| {
-            let end = 1u64 << (height - level);
-            let count = end.min(1_024);
-            let first = if upper == 1 { end - count } else { 0 };
-            (first..first + count)
+            let last = u64::MAX >> (64 - (height - level));
+            let rest = last.min(1_023);
+            let first = if upper == 1 { last - rest } else { 0 };
+            (first..=first + rest)
                 .rev()
                 .map(|offset| Leaf { offset, flags: 0, hash: [upper as u8; 32] })
                 .collect()
         };
         Plan { block_height, levels: (0..height).map(level).collect() }.bump().bytes
     };
-    let list = check(&plan(0, 32, 1), &plan(1, 31, 0)).expect("two sound paths");
+    let list = check(&plan(0, 64, 1), &plan(1, 63, 0)).expect("two sound paths");
     assert_eq!(list.len(), MAX_DIFFERENCES);
 }

@@ -15,30 +15,32 @@ pub fn run() {
     let tree = Tree::random(&mut random, 1_024);
     let small = Plan::of(&tree, &[777]);
     compare("10 layers, one client, no difference", &small, &small);
-    for (name, apart) in [("same offsets", false), ("other offsets", true)] {
-        let (mut first, mut second) = (falling(false), beside(apart));
-        compare(&format!("32 levels of 1,024 falling, {name}"), &first, &second);
+    for (name, height, apart) in
+        [("same offsets", 32, false), ("other offsets", 32, true), ("other offsets", 64, true)]
+    {
+        let (mut first, mut second) = (falling(height, false), beside(height, apart));
+        compare(&format!("{height} levels of 1,024 falling, {name}"), &first, &second);
         for path in [&mut first, &mut second] {
             path.levels.iter_mut().for_each(|leaves| leaves.reverse());
         }
-        compare(&format!("32 levels of 1,024 rising, {name}"), &first, &second);
+        compare(&format!("{height} levels of 1,024 rising, {name}"), &first, &second);
         for path in [&mut first, &mut second] {
             path.levels.iter_mut().for_each(|leaves| random.shuffle(leaves));
         }
-        compare(&format!("32 levels of 1,024 shuffled, {name}"), &first, &second);
+        compare(&format!("{height} levels of 1,024 shuffled, {name}"), &first, &second);
     }
 }
 
 /// A path of falling leaves at the offsets of [`falling`], or at others where there are any.
-fn beside(apart: bool) -> Plan {
-    let mut path = falling(false);
+fn beside(height: u32, apart: bool) -> Plan {
+    let mut path = falling(height, false);
     for leaf in path.levels.iter_mut().flatten() {
         leaf.hash = [0xbb; 32];
     }
     if apart {
-        for (level, leaves) in path.levels.iter_mut().enumerate().take(22) {
-            let end = 1u64 << (32 - level);
-            leaves.iter_mut().for_each(|leaf| leaf.offset -= end - 1_024);
+        for leaves in path.levels.iter_mut().filter(|leaves| leaves.len() == 1_024) {
+            let least = leaves[1_023].offset;
+            leaves.iter_mut().for_each(|leaf| leaf.offset -= least);
         }
     }
     path
