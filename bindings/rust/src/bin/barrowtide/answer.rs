@@ -1,0 +1,155 @@
+//! What a command answers, and how it is printed.
+
+use std::io::{self, Write};
+use std::process::ExitCode;
+
+use crate::json::{Fields, Json};
+use crate::words::Refused;
+
+/// What a command prints.
+pub enum Output {
+    /// Lines to read.
+    Text(String),
+    /// A proof: hex on one line, or as it stands with `--binary`.
+    Bytes(Vec<u8>),
+    /// A picture.
+    Svg(String),
+}
+
+/// What a command has found.
+pub struct Told {
+    /// Whether all of it was accepted.
+    pub accepted: bool,
+    /// What goes to standard output.
+    pub output: Output,
+    /// What goes to standard error, to be read beside bytes or a picture.
+    pub note: String,
+    /// The same for scripts, without bytes and picture.
+    pub fields: Fields,
+}
+
+impl Told {
+    /// An acceptance in lines.
+    pub fn text(text: String, fields: Fields) -> Self {
+        Self { accepted: true, output: Output::Text(text), note: String::new(), fields }
+    }
+
+    /// An acceptance by a proof.
+    pub fn bytes(bytes: Vec<u8>, note: String, fields: Fields) -> Self {
+        Self { accepted: true, output: Output::Bytes(bytes), note, fields }
+    }
+}
+
+/// Why a command has found nothing.
+pub enum Failure {
+    /// The input was refused. The words go to standard error if bytes or a picture were asked for,
+    /// so that no file is made of them.
+    Refused(Refused),
+    /// What was given can't be used.
+    Unusable(String),
+    /// The command is not used like that.
+    Misused,
+}
+
+impl Failure {
+    /// A message for who called.
+    pub fn unusable(message: impl Into<String>) -> Self {
+        Failure::Unusable(message.into())
+    }
+}
+
+/// What a command answers.
+pub type Answer = Result<Told, Failure>;
+
+/// How to print.
+#[derive(Clone, Copy, Default)]
+pub struct Style {
+    /// How the command is used.
+    pub usage: &'static str,
+    /// For scripts.
+    pub json: bool,
+    /// Bytes as they stand.
+    pub binary: bool,
+    /// Whether the command gives bytes or a picture.
+    pub for_file: bool,
+}
+
+const REFUSED: u8 = 1;
+const UNUSABLE: u8 = 2;
+
+/// Prints an answer; the exit status is 0 if all was accepted, 1 if something was refused, and 2 if
+/// nothing could be asked.
+pub fn print(answer: Answer, style: Style) -> ExitCode {
+    let (status, out, err) = match answer {
+        Ok(told) => {
+            let status = if told.accepted { 0 } else { REFUSED };
+            if style.json {
+                (status, json(told), String::new())
+            } else {
+                let out = match told.output {
+                    Output::Text(text) | Output::Svg(text) => text.into_bytes(),
+                    Output::Bytes(bytes) if style.binary => bytes,
+                    Output::Bytes(bytes) => format!("{}\n", hex_of(&bytes)).into_bytes(),
+                };
+                (status, out, told.note)
+            }
+        }
+        Err(Failure::Refused(refused)) if style.json => {
+            let fields = vec![("accepted", false.into()), ("refusal", refused.json())];
+            (REFUSED, line(Json::Object(fields)), String::new())
+        }
+        Err(Failure::Refused(refused)) if style.for_file => {
+            (REFUSED, Vec::new(), format!("{refused}\n"))
+        }
+        Err(Failure::Refused(refused)) => {
+            (REFUSED, format!("{refused}\n").into_bytes(), String::new())
+        }
+        Err(Failure::Unusable(message)) => unusable(message, style),
+        Err(Failure::Misused) => unusable(format!("usage: barrowtide {}", style.usage), style),
+    };
+    // A message that nobody reads is no fault.
+    let _ = io::stderr().write_all(err.as_bytes());
+    let mut stdout = io::stdout().lock();
+    match stdout.write_all(&out).and_then(|()| stdout.flush()) {
+        // A reader that has seen enough, as `head`, is none either.
+        Err(error) if error.kind() != io::ErrorKind::BrokenPipe => {
+            let _ = writeln!(io::stderr(), "standard output: {error}");
+            ExitCode::from(UNUSABLE)
+        }
+        _ => ExitCode::from(status),
+    }
+}
+
+fn unusable(message: String, style: Style) -> (u8, Vec<u8>, String) {
+    if style.json {
+        (UNUSABLE, line(Json::Object(vec![("unusable", message.into())])), String::new())
+    } else {
+        (UNUSABLE, Vec::new(), format!("{message}\n"))
+    }
+}
+
+fn json(told: Told) -> Vec<u8> {
+    let mut fields: Fields = vec![("accepted", told.accepted.into())];
+    fields.extend(told.fields);
+    match told.output {
+        Output::Text(_) => {}
+        Output::Bytes(bytes) => fields.push(("hex", hex_of(&bytes).into())),
+        Output::Svg(svg) => fields.push(("svg", svg.into())),
+    }
+    line(Json::Object(fields))
+}
+
+fn line(value: Json) -> Vec<u8> {
+    format!("{value}\n").into_bytes()
+}
+
+/// Bytes in hex, as they stand.
+pub fn hex_of(bytes: &[u8]) -> String {
+    use std::fmt::Write;
+    let mut text = String::with_capacity(2 * bytes.len());
+    for byte in bytes {
+        // Writing to a string doesn't fail.
+        let _ = write!(text, "{byte:02x}");
+    }
+    text
+}

@@ -1,0 +1,456 @@
+//! The commands: each makes one call of the library and says what it answered.
+
+use std::ffi::{OsStr, OsString};
+
+use barrowtide::{hex, Claim, Difference, Hash, Proof, Reason, Record, Refusal, Side, MAX_PAGE};
+
+use crate::answer::{hex_of, Answer, Failure, Output, Told};
+use crate::draw;
+use crate::input;
+use crate::json::{Fields, Json};
+use crate::leaves::{Kind, Leaf, Levels};
+use crate::words::{Asked, Form, Refused};
+
+fn refused(asked: Asked) -> impl Fn(Refusal) -> Failure {
+    move |refusal| Failure::Refused(Refused::new(refusal, asked))
+}
+
+/// "1 leaf", "2 leaves".
+fn counted(count: u64, one: &str, many: &str) -> String {
+    format!("{count} {}", if count == 1 { one } else { many })
+}
+
+/// What the library has read and the walk for showing it can't take apart: it never happens.
+fn unreadable() -> Failure {
+    Failure::unusable("this program and its library are not of one version")
+}
+
+pub fn judge(words: &[OsString]) -> Answer {
+    let [beef, roots] = words else { return Err(Failure::Misused) };
+    let (bundle, roots) = (input::bytes(beef)?, input::hashes(roots)?);
+    let verdict = barrowtide::judge(&bundle, &roots).map_err(refused(Asked::Judge))?;
+    let count = counted(verdict.records.len() as u64, "transaction", "transactions");
+    let mut text = format!("accepted: every payment rests on a trusted root; {count}\n");
+    text += "  no     start    length  anchored  bump    position  id\n";
+    for (number, record) in verdict.records.iter().enumerate() {
+        text += &row(number, record);
+    }
+    let records = verdict.records.iter().map(record_json).collect();
+    Ok(Told::text(text, vec![("transactions", Json::List(records))]))
+}
+
+fn row(number: usize, record: &Record) -> String {
+    let (anchored, bump, position) = if record.is_anchored() {
+        ("yes", record.bump.to_string(), record.position.to_string())
+    } else {
+        ("no", "-".to_string(), "-".to_string())
+    };
+    let Record { start, length, id, .. } = record;
+    let id = hex::printed(id);
+    format!("{number:4}  {start:8}  {length:8}  {anchored:8}  {bump:>4}  {position:>10}  {id}\n")
+}
+
+fn record_json(record: &Record) -> Json {
+    let anchored = record.is_anchored();
+    Json::Object(vec![
+        ("start", record.start.into()),
+        ("length", record.length.into()),
+        ("id", hex::printed(&record.id).into()),
+        ("anchored", anchored.into()),
+        ("bump", anchored.then_some(record.bump).into()),
+        ("position", anchored.then_some(u64::from(record.position)).into()),
+    ])
+}
+
+/// A proof given on the command line: its form, its bytes, and the id that it is to prove.
+struct Given {
+    form: Form,
+    data: Vec<u8>,
+    id: Hash,
+}
+
+impl Given {
+    /// Takes `bump FILE ID`, `cmp FILE ID` or `tsc FILE` from the front.
+    fn take(words: &[OsString]) -> Result<(Self, &[OsString]), Failure> {
+        let [form, path, rest @ ..] = words else { return Err(Failure::Misused) };
+        let form = match form.to_str() {
+            Some("bump") => Form::Bump,
+            Some("cmp") => Form::Cmp,
+            Some("tsc") => Form::Tsc,
+            _ => return Err(Failure::Misused),
+        };
+        if form == Form::Tsc {
+            return Ok((Self { form, data: input::bytes(path)?, id: [0; 32] }, rest));
+        }
+        let [id, rest @ ..] = rest else { return Err(Failure::Misused) };
+        let id = input::id(id)?;
+        Ok((Self { form, data: input::bytes(path)?, id }, rest))
+    }
+
+    fn prove(&self) -> Result<Proof, Refusal> {
+        match self.form {
+            Form::Bump => barrowtide::prove_bump(&self.data, &self.id),
+            Form::Cmp => barrowtide::prove_cmp(&self.data, &self.id),
+            _ => barrowtide::prove_tsc(&self.data),
+        }
+    }
+
+    fn claim(&self) -> Claim<'_> {
+        match self.form {
+            Form::Bump => Claim::Bump { data: &self.data, id: &self.id },
+            Form::Cmp => Claim::Cmp { data: &self.data, id: &self.id },
+            _ => Claim::Tsc { data: &self.data },
+        }
+    }
+}
+
+pub fn prove(words: &[OsString]) -> Answer {
+    let (given, []) = Given::take(words)? else { return Err(Failure::Misused) };
+    let proof = given.prove().map_err(refused(Asked::Prove(given.form)))?;
+    let Proof { id, position, layers, root } = proof;
+    let text = format!(
+        "accepted: the id is under this root, and worth as much as the root is trusted\n\
+         id        {}\nposition  {position}\nlayers    {layers}\nroot      {}\n",
+        hex::printed(&id),
+        hex::printed(&root)
+    );
+    Ok(Told::text(text, proof_fields(&proof)))
+}
+
+/// The fields of a proof.
+pub fn proof_fields(proof: &Proof) -> Fields {
+    vec![
+        ("id", hex::printed(&proof.id).into()),
+        ("position", proof.position.into()),
+        ("layers", proof.layers.into()),
+        ("root", hex::printed(&proof.root).into()),
+    ]
+}
+
+pub fn clients(words: &[OsString]) -> Answer {
+    let [path] = words else { return Err(Failure::Misused) };
+    let data = input::bytes(path)?;
+    let root = barrowtide::check_clients(&data).map_err(refused(Asked::Clients))?;
+    let clients = Levels::of_bump(&data).ok_or_else(unreadable)?.clients() as u64;
+    let (count, root) = (counted(clients, "client", "clients"), hex::printed(&root));
+    let text = format!("accepted: all clients lead to this root; {count}\nroot      {root}\n");
+    Ok(Told::text(text, vec![("clients", clients.into()), ("root", root.into())]))
+}
+
+pub fn list(words: &[OsString]) -> Answer {
+    let [form, path] = words else { return Err(Failure::Misused) };
+    match form.to_str() {
+        Some("bump") => list_bump(&input::bytes(path)?),
+        Some("cmp") => list_cmp(&input::bytes(path)?),
+        Some("tsc") => list_tsc(&input::bytes(path)?),
+        Some("transaction") => list_transaction(&input::bytes(path)?),
+        Some("beef") => list_beef(&input::bytes(path)?),
+        _ => Err(Failure::Misused),
+    }
+}
+
+fn list_bump(data: &[u8]) -> Answer {
+    let bump = barrowtide::read_bump(data).map_err(refused(Asked::Read(Form::Bump)))?;
+    let levels = Levels::of_bump(data).ok_or_else(unreadable)?;
+    let (height, leaves) = (bump.tree_height, bump.leaves);
+    let mut text = format!("accepted: a BUMP\nblock height  {}\n", bump.block_height);
+    text += &format!("tree height   {height}\nleaves        {leaves}\n");
+    text += &levels_text(&levels);
+    let fields = vec![
+        ("block_height", bump.block_height.into()),
+        ("tree_height", height.into()),
+        ("leaves", leaves.into()),
+        ("levels", levels_json(&levels)),
+    ];
+    Ok(Told::text(text, fields))
+}
+
+fn list_cmp(data: &[u8]) -> Answer {
+    let path = barrowtide::read_cmp(data).map_err(refused(Asked::Read(Form::Cmp)))?;
+    let levels = Levels::of_cmp(data).ok_or_else(unreadable)?;
+    let (height, leaves) = (path.tree_height, path.leaves);
+    let head =
+        format!("accepted: a compound path\ntree height   {height}\nleaves        {leaves}\n");
+    let fields = vec![
+        ("tree_height", height.into()),
+        ("leaves", leaves.into()),
+        ("levels", levels_json(&levels)),
+    ];
+    Ok(Told::text(head + &levels_text(&levels), fields))
+}
+
+fn levels_text(levels: &Levels) -> String {
+    let mut text = String::new();
+    for (level, leaves) in levels.0.iter().enumerate() {
+        text += &format!("level {level}, {}\n", counted(leaves.len() as u64, "leaf", "leaves"));
+        for Leaf { offset, kind } in leaves {
+            text += &format!("{offset:10}  {}\n", kind.text());
+        }
+    }
+    text
+}
+
+fn levels_json(levels: &Levels) -> Json {
+    let leaf = |leaf: &Leaf| {
+        Json::Object(vec![("offset", leaf.offset.into()), ("leaf", kind_json(leaf.kind))])
+    };
+    let level = |leaves: &Vec<Leaf>| Json::List(leaves.iter().map(leaf).collect());
+    Json::List(levels.0.iter().map(level).collect())
+}
+
+fn kind_json(kind: Kind) -> Json {
+    let hash = kind.hash().map(|hash| hex::printed(&hash));
+    Json::Object(vec![("kind", kind.word().into()), ("hash", hash.into())])
+}
+
+fn list_tsc(data: &[u8]) -> Answer {
+    let proof = barrowtide::read_tsc(data).map_err(refused(Asked::Read(Form::Tsc)))?;
+    let holds = if proof.flags & 1 == 1 { "transaction" } else { "id" };
+    let target = match proof.flags & 6 {
+        0 => "block hash",
+        2 => "header",
+        _ => "root",
+    };
+    let (index, nodes) = (proof.index, proof.nodes);
+    let text = format!(
+        "accepted: a TSC proof\nholds   {holds}\ntarget  {target}\nindex   {index}\n\
+         nodes   {nodes}\n"
+    );
+    let fields = vec![
+        ("holds", holds.into()),
+        ("target", target.into()),
+        ("index", index.into()),
+        ("nodes", nodes.into()),
+    ];
+    Ok(Told::text(text, fields))
+}
+
+fn list_transaction(data: &[u8]) -> Answer {
+    let read = barrowtide::read_transaction(data);
+    let transaction = read.map_err(refused(Asked::Read(Form::Transaction)))?;
+    let (inputs, outputs) = (transaction.inputs, transaction.outputs);
+    let id = hex::printed(&transaction.id);
+    let text =
+        format!("accepted: a transaction\nid       {id}\ninputs   {inputs}\noutputs  {outputs}\n");
+    let fields = vec![("id", id.into()), ("inputs", inputs.into()), ("outputs", outputs.into())];
+    Ok(Told::text(text, fields))
+}
+
+fn list_beef(data: &[u8]) -> Answer {
+    let beef = barrowtide::read_beef(data).map_err(refused(Asked::Read(Form::Beef)))?;
+    let (bumps, transactions) = (beef.bumps, beef.transactions);
+    let text = format!(
+        "accepted: a BEEF bundle, well formed; judge says whether it can be trusted\n\
+         bumps         {bumps}\ntransactions  {transactions}\n"
+    );
+    let fields = vec![("bumps", bumps.into()), ("transactions", transactions.into())];
+    Ok(Told::text(text, fields))
+}
+
+pub fn compare(words: &[OsString]) -> Answer {
+    let (first, rest) = Given::take(words)?;
+    let (second, []) = Given::take(rest)? else { return Err(Failure::Misused) };
+    let strings = barrowtide::compare(first.claim(), second.claim()).map_err(|refusal| {
+        let of = |which, form| Refused { refusal, asked: Asked::Prove(form), which: Some(which) };
+        Failure::Refused(match refusal.reason {
+            Reason::Unlike | Reason::SameId => Refused::new(refusal, Asked::Compare),
+            _ if first.prove().is_err() => of("first", first.form),
+            _ => of("second", second.form),
+        })
+    })?;
+    let (first, second) = (hex_of(&strings.first), hex_of(&strings.second));
+    let text = format!(
+        "accepted: the two proofs contradict each other, and here is how: two strings of 64 bytes \
+         with one double SHA-256\nfirst   {first}\nsecond  {second}\n"
+    );
+    Ok(Told::text(text, vec![("first", first.into()), ("second", second.into())]))
+}
+
+pub fn write(words: &[OsString]) -> Answer {
+    let [height, ids, positions @ ..] = words else { return Err(Failure::Misused) };
+    let height = input::number("block height", height)?;
+    let positions = positions
+        .iter()
+        .map(|word| input::number("position", word))
+        .collect::<Result<Vec<_>, _>>()?;
+    let ids = input::hashes(ids)?;
+    let written = barrowtide::write_bump(height, ids.as_flattened(), &positions);
+    bytes(written.map_err(refused(Asked::Write))?)
+}
+
+/// A proof that was made.
+fn bytes(made: Vec<u8>) -> Answer {
+    let length = made.len();
+    Ok(Told::bytes(made, String::new(), vec![("bytes", length.into())]))
+}
+
+pub fn page(words: &[OsString]) -> Answer {
+    let [path, ids] = words else { return Err(Failure::Misused) };
+    let (data, ids) = (input::bytes(path)?, input::hashes(ids)?);
+    let by_bump = Asked::Prove(Form::Bump);
+    let whole = if ids.len() > MAX_PAGE { Asked::Page } else { by_bump };
+    let answers = barrowtide::prove_page(&data, &ids).map_err(refused(whole))?;
+    let proved = answers.iter().filter(|answer| answer.is_ok()).count();
+    let mut text = format!("proved: {proved} of {}\n", counted(ids.len() as u64, "id", "ids"));
+    let mut rows = Vec::new();
+    for (answer, id) in answers.iter().zip(&ids) {
+        let id = hex::printed(id);
+        let (said, row) = match answer {
+            Ok(proof) => {
+                let Proof { position, layers, root, .. } = proof;
+                let root = hex::printed(root);
+                let said = format!("proved at position {position}, {layers} layers, root {root}");
+                let mut row: Fields = vec![("proved", true.into())];
+                row.extend(proof_fields(proof));
+                (said, row)
+            }
+            Err(refusal) => {
+                let refused = Refused::new(*refusal, by_bump);
+                let row = vec![
+                    ("proved", false.into()),
+                    ("id", id.clone().into()),
+                    ("refusal", refused.json()),
+                ];
+                (refused.to_string(), row)
+            }
+        };
+        text += &format!("{id}  {said}\n");
+        rows.push(Json::Object(row));
+    }
+    let fields = vec![("proved", proved.into()), ("ids", Json::List(rows))];
+    Ok(Told { accepted: proved == ids.len(), ..Told::text(text, fields) })
+}
+
+pub fn convert(words: &[OsString]) -> Answer {
+    let [to, path, word] = words else { return Err(Failure::Misused) };
+    match to.to_str() {
+        Some("to-bump") => to_bump(path, word),
+        Some("to-tsc") => {
+            let id = input::id(word)?;
+            let made = barrowtide::bump_to_tsc(&input::bytes(path)?, &id);
+            bytes(made.map_err(refused(Asked::Prove(Form::Bump)))?)
+        }
+        _ => Err(Failure::Misused),
+    }
+}
+
+fn to_bump(path: &OsStr, height: &OsStr) -> Answer {
+    let wide = input::number("block height", height)?;
+    let Ok(height) = u32::try_from(wide) else {
+        return Err(Failure::unusable(format!("a block height is at most {}: {wide}", u32::MAX)));
+    };
+    let made = barrowtide::tsc_to_bump(&input::bytes(path)?, height);
+    bytes(made.map_err(refused(Asked::ToBump))?)
+}
+
+pub fn diff(words: &[OsString]) -> Answer {
+    let [first, second] = words else { return Err(Failure::Misused) };
+    let (first, second) = (input::bytes(first)?, input::bytes(second)?);
+    let differences = barrowtide::differences(&first, &second).map_err(|refusal| {
+        let which = if barrowtide::read_bump(&first).is_err() { "first" } else { "second" };
+        Failure::Refused(Refused { refusal, asked: Asked::Read(Form::Bump), which: Some(which) })
+    })?;
+    let heads = (barrowtide::read_bump(&first), barrowtide::read_bump(&second));
+    let levels = (Levels::of_bump(&first), Levels::of_bump(&second));
+    let ((Ok(first), Ok(second)), (Some(in_first), Some(in_second))) = (heads, levels) else {
+        return Err(unreadable());
+    };
+    let mut text = if differences.is_empty() {
+        "no difference: both hold the same, but perhaps in another order\n".to_string()
+    } else {
+        counted(differences.len() as u64, "difference\n", "differences\n")
+    };
+    let mut entries = Vec::new();
+    for difference in differences {
+        let (line, entry) = match difference {
+            Difference::BlockHeight => {
+                height_differs("block height", first.block_height, second.block_height)
+            }
+            Difference::TreeHeight => {
+                height_differs("tree height", first.tree_height, second.tree_height)
+            }
+            Difference::Leaf { level, offset, side } => {
+                let at = level as usize;
+                let (one, other) = (in_first.at(at, offset), in_second.at(at, offset));
+                leaf_differs(level, offset, side, one, other)
+            }
+        };
+        text += &line;
+        entries.push(Json::Object(entry));
+    }
+    Ok(Told::text(text, vec![("differences", Json::List(entries))]))
+}
+
+fn height_differs(what: &str, first: u64, second: u64) -> (String, Fields) {
+    let line = format!("{what}: {first} in the first, {second} in the second\n");
+    (line, vec![("what", what.into()), ("first", first.into()), ("second", second.into())])
+}
+
+fn leaf_differs(
+    level: u64,
+    offset: u64,
+    side: Side,
+    first: Option<Kind>,
+    second: Option<Kind>,
+) -> (String, Fields) {
+    let said = |kind: Option<Kind>| kind.map_or_else(String::new, Kind::text);
+    let (one, other) = (said(first), said(second));
+    let differs = match side {
+        Side::First => format!("only in the first: {one}"),
+        Side::Second => format!("only in the second: {other}"),
+        Side::Both => format!("{one} in the first, {other} in the second"),
+    };
+    let fields = vec![
+        ("what", "leaf".into()),
+        ("level", level.into()),
+        ("offset", offset.into()),
+        ("first", first.map_or(Json::Null, kind_json)),
+        ("second", second.map_or(Json::Null, kind_json)),
+    ];
+    (format!("level {level}, offset {offset}: {differs}\n"), fields)
+}
+
+pub fn shorter(words: &[OsString]) -> Answer {
+    let [first, second, id] = words else { return Err(Failure::Misused) };
+    let id = input::id(id)?;
+    let (first, second) = (input::bytes(first)?, input::bytes(second)?);
+    let by_bump = Asked::Prove(Form::Bump);
+    let part = barrowtide::shorter(&first, &second, &id).map_err(|refusal| {
+        let of = |which| Refused { refusal, asked: by_bump, which: Some(which) };
+        Failure::Refused(match refusal.reason {
+            Reason::Unlike => Refused::new(refusal, Asked::Shorter),
+            _ if barrowtide::prove_bump(&first, &id).is_err() => of("first"),
+            _ => of("second"),
+        })
+    })?;
+    // On a tie it is the first.
+    let which = if first.len() <= second.len() { "first" } else { "second" };
+    let (one, other) = (first.len(), second.len());
+    let note =
+        format!("the {which}: {} bytes; the first has {one}, the second {other}\n", part.len());
+    let fields = vec![("which", which.into()), ("bytes", part.len().into())];
+    Ok(Told::bytes(part.to_vec(), note, fields))
+}
+
+pub fn draw(words: &[OsString]) -> Answer {
+    let (path, id) = match words {
+        [path] => (path, None),
+        [path, id] => (path, Some(input::id(id)?)),
+        _ => return Err(Failure::Misused),
+    };
+    let data = input::bytes(path)?;
+    let head = barrowtide::read_bump(&data).map_err(refused(Asked::Read(Form::Bump)))?;
+    let levels = Levels::of_bump(&data).ok_or_else(unreadable)?;
+    let Some(id) = id else {
+        let svg = draw::picture(&head, &levels, None).ok_or_else(unreadable)?;
+        return Ok(Told { output: Output::Svg(svg), ..Told::text(String::new(), Vec::new()) });
+    };
+    let answer = barrowtide::prove_bump(&data, &id);
+    let said = answer.map_err(|refusal| Refused::new(refusal, Asked::Prove(Form::Bump)));
+    let svg = draw::picture(&head, &levels, Some((&id, &said))).ok_or_else(unreadable)?;
+    let (note, fields) = match &said {
+        Ok(proof) => (String::new(), proof_fields(proof)),
+        Err(refused) => (format!("{refused}\n"), vec![("refusal", refused.json())]),
+    };
+    Ok(Told { accepted: said.is_ok(), output: Output::Svg(svg), note, fields })
+}

@@ -1,0 +1,220 @@
+//! The commands by name, with their help.
+
+use std::ffi::OsString;
+
+use crate::answer::Answer;
+use crate::commands;
+
+/// A command.
+pub struct Command {
+    /// Its name.
+    pub name: &'static str,
+    /// How it is used.
+    pub usage: &'static str,
+    /// What it does, in a line.
+    pub brief: &'static str,
+    /// What else there is to know.
+    pub about: &'static str,
+    /// An example, to be run at the top of the repository.
+    pub example: &'static str,
+    /// Whether it gives bytes.
+    pub gives_bytes: bool,
+    /// Whether it gives a picture.
+    pub gives_picture: bool,
+    /// What it does.
+    pub run: fn(&[OsString]) -> Answer,
+}
+
+const PLAIN: Command = Command {
+    name: "",
+    usage: "",
+    brief: "",
+    about: "",
+    example: "",
+    gives_bytes: false,
+    gives_picture: false,
+    run: commands::judge,
+};
+
+/// All commands, in the order of the help.
+pub const COMMANDS: [Command; 11] = [
+    Command {
+        name: "judge",
+        usage: "judge BEEF ROOTS",
+        brief: "judge a BEEF bundle against trusted roots",
+        about: "\
+BEEF is a file with the bundle. ROOTS is a file with a trusted Merkle root on each
+line. If every transaction is mined under one of them, or spends only earlier ones
+of the bundle, the table of transactions is printed: where each starts, how long
+it is, and the BUMP and position in the block that anchor it.",
+        example: "    ./barrowtide judge bindings/rust/tests/data/004-bundle.hex bindings/rust/tests/data/004-roots.txt",
+        run: commands::judge,
+        ..PLAIN
+    },
+    Command {
+        name: "prove",
+        usage: "prove bump FILE ID | prove cmp FILE ID | prove tsc FILE",
+        brief: "the root that a proof leads to",
+        about: "\
+FILE holds a BUMP, a compound path or a TSC proof, which has its id in it. Position
+in the block, number of layers and the Merkle root are printed. Compare the root
+with the block's header: the proof is worth as much as its root is trusted.",
+        example: "    ./barrowtide prove bump bindings/rust/tests/data/004-bump.hex \\
+      3ecead27a44d013ad1aae40038acbb1883ac9242406808bb4667c15b4f164eac
+    ./barrowtide prove tsc bindings/rust/tests/data/000-proof.hex",
+        run: commands::prove,
+        ..PLAIN
+    },
+    Command {
+        name: "clients",
+        usage: "clients BUMP",
+        brief: "the one root that all clients of a BUMP lead to",
+        about: "\
+Climbs from every leaf of the BUMP that is marked as a client's.",
+        example: "    ./barrowtide clients bindings/rust/tests/data/004-bump.hex",
+        run: commands::clients,
+        ..PLAIN
+    },
+    Command {
+        name: "list",
+        usage: "list bump|cmp|tsc|transaction|beef FILE",
+        brief: "what a file holds",
+        about: "\
+Reads the file and says what it holds: of a BUMP or a compound path every leaf, by
+level and offset, in the order in which they are written. Nothing is proved.",
+        example: "    ./barrowtide list bump bindings/rust/tests/data/004-bump.hex
+    ./barrowtide list beef bindings/rust/tests/data/004-bundle.hex",
+        run: commands::list,
+        ..PLAIN
+    },
+    Command {
+        name: "compare",
+        usage: "compare PROOF PROOF, each: bump FILE ID, cmp FILE ID or tsc FILE",
+        brief: "whether two proofs contradict each other",
+        about: "\
+Accepted are two proofs of different ids at one position under one root. Then one
+of them is false, and double SHA-256 is broken: the two strings of 64 bytes that
+show it are printed. Proofs that agree are refused with 24, unlike ones with 23.",
+        example: "    ./barrowtide compare tsc bindings/rust/tests/data/000-proof.hex tsc bindings/rust/tests/data/000-proof.hex",
+        run: commands::compare,
+        ..PLAIN
+    },
+    Command {
+        name: "write",
+        usage: "write HEIGHT IDS POSITION..",
+        brief: "the BUMP of chosen ids of a block",
+        about: "\
+HEIGHT is the block's height, IDS a file with all ids of the block in their order,
+one on a line. Positions count from 0. The shortest BUMP that proves the ids at
+these positions is printed.",
+        example: "    ./barrowtide write 814435 bindings/rust/tests/data/ids.txt 1 4
+    ./barrowtide write 814435 bindings/rust/tests/data/ids.txt 1 4 | ./barrowtide clients -",
+        gives_bytes: true,
+        run: commands::write,
+        ..PLAIN
+    },
+    Command {
+        name: "page",
+        usage: "page BUMP IDS",
+        brief: "prove many ids by one BUMP",
+        about: "\
+IDS is a file with an id on each line. Each gets its own answer, in order. The exit
+status is 0 only if all of them are proved.",
+        example: "    ./barrowtide write 814435 bindings/rust/tests/data/ids.txt 0 1 2 3 4 |
+      ./barrowtide page - bindings/rust/tests/data/ids.txt",
+        run: commands::page,
+        ..PLAIN
+    },
+    Command {
+        name: "convert",
+        usage: "convert to-bump TSC HEIGHT | convert to-tsc BUMP ID",
+        brief: "a TSC proof as a BUMP, or the other way round",
+        about: "\
+The proof made proves the same. HEIGHT is the block's height, which a TSC proof
+does not say. A TSC proof is of one id: other clients of the BUMP are left out.",
+        example: "    ./barrowtide convert to-bump bindings/rust/tests/data/000-proof.hex 575191
+    ./barrowtide convert to-tsc bindings/rust/tests/data/004-bump.hex \\
+      3ecead27a44d013ad1aae40038acbb1883ac9242406808bb4667c15b4f164eac |
+      ./barrowtide prove tsc -",
+        gives_bytes: true,
+        run: commands::convert,
+        ..PLAIN
+    },
+    Command {
+        name: "diff",
+        usage: "diff BUMP BUMP",
+        brief: "every difference of two BUMPs",
+        about: "\
+Heights first, then the leaves that stand in one only, or in both with other flags
+or another hash. The order of leaves is no difference. The exit status is 0 whether
+there are differences or not.",
+        example: "    ./barrowtide diff bindings/rust/tests/data/004-bump.hex bindings/rust/tests/data/004-bump-gap.hex",
+        run: commands::diff,
+        ..PLAIN
+    },
+    Command {
+        name: "shorter",
+        usage: "shorter BUMP BUMP ID",
+        brief: "the shorter of two BUMPs that prove an id",
+        about: "\
+Both must prove the id to one root. The shorter is printed, the first if they are
+equally long; standard error says which it is.",
+        example: "    ./barrowtide shorter bindings/rust/tests/data/004-bump-surplus.hex bindings/rust/tests/data/004-bump.hex \\
+      3ecead27a44d013ad1aae40038acbb1883ac9242406808bb4667c15b4f164eac",
+        gives_bytes: true,
+        run: commands::shorter,
+        ..PLAIN
+    },
+    Command {
+        name: "draw",
+        usage: "draw BUMP [ID]",
+        brief: "a BUMP as a picture (SVG)",
+        about: "\
+Draws the tree with what is written. With an id its climb is drawn too: what was
+hashed at each layer, and if it stops, the sibling that is missing or a twin. What
+is not on the climb is small, and folded where there is much of it; the picture
+is made even if the climb is refused.",
+        example: "    ./barrowtide draw bindings/rust/tests/data/004-bump.hex \\
+      3ecead27a44d013ad1aae40038acbb1883ac9242406808bb4667c15b4f164eac > target/climb.svg",
+        gives_picture: true,
+        run: commands::draw,
+        ..PLAIN
+    },
+];
+
+/// What holds for all commands.
+const COMMON: &str = "\
+A file is in hex or binary; - is standard input. Ids and roots are 64 hex digits
+in printed order, as block explorers show them; files of them have one on a line,
+and lines that start with # are passed over.
+
+--json prints the answer as one line of JSON.
+--binary prints a proof that is made as it stands, not in hex.
+
+The exit status is 0 if the input is accepted, 1 if it is refused, 2 if it can't be
+used. A refusal has a number; docs/REFUSALS.md says what each means, who is to blame
+and what to ask the sender for. Where a proof or a picture is made, the refusal goes
+to standard error.
+";
+
+/// The help of one command.
+pub fn of_command(command: &Command) -> String {
+    let Command { usage, about, example, .. } = command;
+    format!(
+        "usage: barrowtide {usage}\n\n{about}\n\n\
+         For example, at the top of the repository:\n\n{example}\n\n{COMMON}"
+    )
+}
+
+/// The help of the program.
+pub fn of_program() -> String {
+    let mut text = String::from(
+        "usage: barrowtide COMMAND ..\n\n\
+         Reads Merkle proofs of Bitcoin SV payments and judges BEEF bundles, by a proved library.\n\n",
+    );
+    for Command { name, brief, .. } in &COMMANDS {
+        text += &format!("  {name:8}  {brief}\n");
+    }
+    text += "\nbarrowtide COMMAND --help says more, with an example.\n\n";
+    text + COMMON
+}

@@ -1,0 +1,163 @@
+//! The leaves of a path, for showing them. Whether a path is accepted is the library's word alone;
+//! here one that it has read is only walked.
+
+use std::collections::BTreeMap;
+
+use barrowtide::{hex, join, read_varint, Hash};
+
+/// What a leaf holds.
+#[derive(Clone, Copy, PartialEq, Eq)]
+pub enum Kind {
+    Node(Hash),
+    Copy,
+    Client(Hash),
+}
+
+impl Kind {
+    /// The word for it.
+    pub fn word(self) -> &'static str {
+        match self {
+            Kind::Node(_) => "node",
+            Kind::Copy => "copy",
+            Kind::Client(_) => "client",
+        }
+    }
+
+    /// Its hash; a copy has none.
+    pub fn hash(self) -> Option<Hash> {
+        match self {
+            Kind::Node(hash) | Kind::Client(hash) => Some(hash),
+            Kind::Copy => None,
+        }
+    }
+
+    /// The word, and the hash in printed order.
+    pub fn text(self) -> String {
+        match self.hash() {
+            Some(hash) => format!("{} {}", self.word(), hex::printed(&hash)),
+            None => self.word().to_string(),
+        }
+    }
+}
+
+/// A leaf as written.
+#[derive(Clone, Copy)]
+pub struct Leaf {
+    pub offset: u64,
+    pub kind: Kind,
+}
+
+/// The leaves of each level, from level 0 up, in the order in which they are written.
+pub struct Levels(pub Vec<Vec<Leaf>>);
+
+struct Cursor<'a>(&'a [u8]);
+
+impl Cursor<'_> {
+    fn byte(&mut self) -> Option<u8> {
+        let (first, rest) = self.0.split_first()?;
+        self.0 = rest;
+        Some(*first)
+    }
+
+    fn number(&mut self) -> Option<u64> {
+        let number = read_varint(self.0).ok()?;
+        self.0 = self.0.get(number.width as usize..)?;
+        Some(number.value)
+    }
+
+    fn hash(&mut self) -> Option<Hash> {
+        let (first, rest) = self.0.split_first_chunk()?;
+        self.0 = rest;
+        Some(*first)
+    }
+
+    fn level(&mut self, leaf: fn(&mut Self) -> Option<Leaf>) -> Option<Vec<Leaf>> {
+        let count = self.number()?;
+        (0..count).map(|_| leaf(self)).collect()
+    }
+
+    fn bump_leaf(&mut self) -> Option<Leaf> {
+        let offset = self.number()?;
+        let kind = match self.byte()? {
+            0 => Kind::Node(self.hash()?),
+            1 => Kind::Copy,
+            _ => Kind::Client(self.hash()?),
+        };
+        Some(Leaf { offset, kind })
+    }
+
+    fn cmp_leaf(&mut self) -> Option<Leaf> {
+        Some(Leaf { offset: self.number()?, kind: Kind::Node(self.hash()?) })
+    }
+}
+
+impl Levels {
+    /// Those of a BUMP that the library has read.
+    pub fn of_bump(data: &[u8]) -> Option<Self> {
+        let mut cursor = Cursor(data);
+        cursor.number()?;
+        let height = cursor.byte()?;
+        (0..height).map(|_| cursor.level(Cursor::bump_leaf)).collect::<Option<_>>().map(Self)
+    }
+
+    /// Those of a compound path that the library has read.
+    pub fn of_cmp(data: &[u8]) -> Option<Self> {
+        let mut cursor = Cursor(data);
+        let height = u32::from(cursor.byte()?) + 1;
+        let levels: Option<Vec<_>> = (0..height).map(|_| cursor.level(Cursor::cmp_leaf)).collect();
+        levels.map(|mut levels| {
+            levels.reverse();
+            Self(levels)
+        })
+    }
+
+    /// What is written at an offset of a level.
+    pub fn at(&self, level: usize, offset: u64) -> Option<Kind> {
+        let leaf = self.0.get(level)?.iter().find(|leaf| leaf.offset == offset)?;
+        Some(leaf.kind)
+    }
+
+    /// Where a climb from an id starts: the least offset of level 0 that carries it.
+    pub fn start(&self, id: &Hash) -> Option<u64> {
+        let carries = |leaf: &&Leaf| leaf.kind.hash().as_ref() == Some(id);
+        self.0.first()?.iter().filter(carries).map(|leaf| leaf.offset).min()
+    }
+
+    /// The number of client leaves.
+    pub fn clients(&self) -> usize {
+        let client = |leaf: &&Leaf| matches!(leaf.kind, Kind::Client(_));
+        self.0.iter().flatten().filter(client).count()
+    }
+}
+
+/// The values of nodes, written or worked out, each found once.
+pub struct Values<'a> {
+    levels: &'a Levels,
+    found: BTreeMap<(usize, u64), Option<Hash>>,
+}
+
+impl<'a> Values<'a> {
+    pub fn of(levels: &'a Levels) -> Self {
+        Self { levels, found: BTreeMap::new() }
+    }
+
+    /// The value of a node: the hash written there, a copy's left neighbour's, or if nothing is
+    /// written the join of its two children.
+    pub fn of_node(&mut self, level: usize, offset: u64) -> Option<Hash> {
+        if let Some(value) = self.found.get(&(level, offset)) {
+            return *value;
+        }
+        let value = match self.levels.at(level, offset) {
+            Some(Kind::Copy) => offset.checked_sub(1).and_then(|left| self.of_node(level, left)),
+            Some(kind) => kind.hash(),
+            None => self.join_of(level, offset),
+        };
+        self.found.insert((level, offset), value);
+        value
+    }
+
+    fn join_of(&mut self, level: usize, offset: u64) -> Option<Hash> {
+        let (below, left) = (level.checked_sub(1)?, offset.checked_mul(2)?);
+        Some(join(&self.of_node(below, left)?, &self.of_node(below, left + 1)?))
+    }
+}

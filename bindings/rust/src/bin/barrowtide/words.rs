@@ -1,0 +1,276 @@
+//! Refusals in words that support staff can act on.
+
+use std::fmt;
+
+use barrowtide::{Reason, Refusal, MAX_IDS, MAX_INPUT, MAX_PAGE};
+
+use crate::json::Json;
+
+/// A published form.
+#[derive(Clone, Copy, PartialEq, Eq)]
+pub enum Form {
+    Bump,
+    Cmp,
+    Tsc,
+    Transaction,
+    Beef,
+}
+
+impl Form {
+    fn noun(self) -> &'static str {
+        match self {
+            Form::Bump => "BUMP",
+            Form::Cmp => "compound path",
+            Form::Tsc => "TSC proof",
+            Form::Transaction => "transaction",
+            Form::Beef => "bundle",
+        }
+    }
+}
+
+/// What was asked when a refusal came.
+#[derive(Clone, Copy, PartialEq, Eq)]
+pub enum Asked {
+    /// To read a form.
+    Read(Form),
+    /// To prove an id by a form.
+    Prove(Form),
+    /// To climb from all clients.
+    Clients,
+    /// To judge a bundle.
+    Judge,
+    /// To compare two proofs that were accepted.
+    Compare,
+    /// Which of two BUMPs that prove an id is the shorter.
+    Shorter,
+    /// To write a BUMP.
+    Write,
+    /// To take a page of so many ids.
+    Page,
+    /// To turn a TSC proof into a BUMP.
+    ToBump,
+}
+
+impl Asked {
+    fn noun(self) -> &'static str {
+        match self {
+            Asked::Read(form) | Asked::Prove(form) => form.noun(),
+            Asked::Clients | Asked::Shorter => Form::Bump.noun(),
+            Asked::Judge => Form::Beef.noun(),
+            Asked::ToBump => Form::Tsc.noun(),
+            Asked::Compare => "proof",
+            Asked::Write | Asked::Page => "list",
+        }
+    }
+
+    /// Whether the caller's own numbers and lists are to blame, not bytes that were read.
+    fn blames_caller(self) -> bool {
+        matches!(self, Asked::Write | Asked::Page)
+    }
+}
+
+/// A refusal with what it takes to tell about it.
+#[derive(Clone, Copy)]
+pub struct Refused {
+    /// What the library said.
+    pub refusal: Refusal,
+    /// What was asked.
+    pub asked: Asked,
+    /// Which of two inputs it is about.
+    pub which: Option<&'static str>,
+}
+
+impl Refused {
+    /// A refusal about the only input.
+    pub fn new(refusal: Refusal, asked: Asked) -> Self {
+        Self { refusal, asked, which: None }
+    }
+
+    fn place(&self) -> Option<u64> {
+        let Refusal { reason, carried, .. } = self.refusal;
+        (reason.blames_place() && !self.asked.blames_caller()).then_some(carried)
+    }
+
+    fn transaction(&self) -> Option<u64> {
+        let Refusal { reason, carried, .. } = self.refusal;
+        (reason.blames_transaction() && self.asked == Asked::Judge).then_some(carried)
+    }
+
+    /// Layer and position of the sibling that is to blame.
+    fn sibling(&self) -> Option<(u64, u64)> {
+        let Refusal { reason, layer, sibling, .. } = self.refusal;
+        matches!(reason, Reason::Missing | Reason::Twin).then_some((layer, sibling))
+    }
+
+    /// What is wrong and who has to do what.
+    pub fn words(&self) -> String {
+        let noun = self.asked.noun();
+        let Refusal { layer, sibling, .. } = self.refusal;
+        let node = format!("the node at layer {layer}, position {sibling}");
+        let software = format!("The software that wrote the {noun} is at fault");
+        match (self.refusal.reason, self.asked) {
+            (Reason::TooLong, _) => format!(
+                "it is over {MAX_INPUT} bytes, the most that is taken. Ask the sender for a smaller \
+                 {noun}."
+            ),
+            (Reason::Short, _) => format!(
+                "the bytes end inside the field that starts here. Ask the sender for the whole \
+                 {noun}, and check that this is one."
+            ),
+            (Reason::LongVarint, _) => {
+                format!("the number here is not in its shortest form. {software}.")
+            }
+            (Reason::BadHeight, Asked::ToBump) => {
+                "the proof has no nodes: its transaction is alone in the block, and no BUMP can say \
+                 so. Keep the TSC proof."
+                    .to_string()
+            }
+            (Reason::BadHeight, _) => {
+                format!("a tree of the height written here is not allowed. {software}.")
+            }
+            (Reason::OverLimit, Asked::Write) => format!(
+                "you must give 2 to {MAX_IDS} ids, and a block height of at most {}.",
+                u32::MAX
+            ),
+            (Reason::OverLimit, Asked::Page) => {
+                format!("you may ask about {MAX_PAGE} ids at once, not more.")
+            }
+            (Reason::OverLimit, _) => {
+                format!("the count or block height here is over its limit. {software}.")
+            }
+            (Reason::BadOffset, Asked::Write) => {
+                "you chose a position outside the list; the first id has position 0.".to_string()
+            }
+            (Reason::BadOffset, _) => {
+                format!("the position written here lies outside its layer. {software}.")
+            }
+            (Reason::BadFlag, _) => format!(
+                "the byte here says what follows, and has none of the values allowed. {software}."
+            ),
+            (Reason::Repeated, _) => {
+                format!("the position here stands in its level already. {software}.")
+            }
+            (Reason::Extra, _) => format!(
+                "the {noun} ends before this byte, and more bytes follow. Ask the sender for the \
+                 {noun} alone."
+            ),
+            (Reason::BadVersion, _) => "the first four bytes are not 0100beef, so this is no BEEF \
+                 of that version. Ask the sender for one."
+                .to_string(),
+            (Reason::BadTx, Asked::Prove(_) | Asked::Read(Form::Tsc) | Asked::ToBump) => format!(
+                "the transaction that starts here is not sound, or not as long as the proof says. \
+                 {software}."
+            ),
+            (Reason::BadTx, _) => format!(
+                "the count here is 0, but a transaction has an input and an output at least. \
+                 {software}."
+            ),
+            (Reason::Empty, _) => {
+                "the bundle has no transaction. Ask the sender for one with the payment in it."
+                    .to_string()
+            }
+            (Reason::NotListed, Asked::Judge) => {
+                "the BUMP that this transaction names does not list it. The sender must add the \
+                 BUMP of the block that it is in."
+                    .to_string()
+            }
+            (Reason::NotListed, Asked::Clients) => {
+                "no leaf is marked as a client's, so there is nothing to check. Ask about an id \
+                 with prove."
+                    .to_string()
+            }
+            (Reason::NotListed, Asked::Write) => "you chose no position.".to_string(),
+            (Reason::NotListed, _) => format!(
+                "the {noun} does not list this id. Check the id; if it is right, ask the sender for \
+                 the proof of this transaction."
+            ),
+            (Reason::Missing, _) => format!("the sender must add {node}."),
+            (Reason::Twin, Asked::Write) => {
+                format!("{node}, equals its neighbour. No block has this list of ids.")
+            }
+            (Reason::Twin, _) => format!(
+                "{node}, equals the hash that it is paired with on its right, which no sound block \
+                 shows. Don't accept it; ask the sender for a proof from another source."
+            ),
+            (Reason::RootsDiffer, Asked::Clients) => {
+                "the client leaves lead to different roots, so they are not all in one block. Ask \
+                 the sender for a BUMP of one block."
+                    .to_string()
+            }
+            (Reason::RootsDiffer, _) => {
+                "the proof leads to another root than the one that it names. Ask the sender for the \
+                 proof of this transaction in this block."
+                    .to_string()
+            }
+            (Reason::Untrusted, _) => {
+                "its proof leads to a root that is not in your list. Bring the list up to date; if \
+                 the root is still not in it, don't accept the payment."
+                    .to_string()
+            }
+            (Reason::BadIndex, _) => {
+                format!("the bundle has no BUMP of the number written here. {software}.")
+            }
+            (Reason::SameTx, Asked::Write) => "two ids of your list are equal.".to_string(),
+            (Reason::SameTx, _) => {
+                "it stands in the bundle already. The sender must leave it out.".to_string()
+            }
+            (Reason::NoParent, _) => {
+                "it spends a transaction that is not in the bundle before it. The sender must add \
+                 that parent before it, or the BUMP of the block that this transaction is in."
+                    .to_string()
+            }
+            (Reason::BadRoots, _) => "the list is not whole roots of 32 bytes.".to_string(),
+            (Reason::NoRoom, _) => "the room for the answer is too small.".to_string(),
+            (Reason::Unlike, Asked::Shorter) => {
+                "the two lead to different roots, so one of them is not of this block. Compare both \
+                 roots with the block's header."
+                    .to_string()
+            }
+            (Reason::Unlike, _) => {
+                "the two proofs differ in root, position or number of layers, so they do not \
+                 contradict each other."
+                    .to_string()
+            }
+            (Reason::SameId, _) => {
+                "the two proofs agree: one id, at one position, under one root.".to_string()
+            }
+        }
+    }
+
+    /// The same for scripts; a field that does not apply is null.
+    pub fn json(&self) -> Json {
+        let reason = self.refusal.reason;
+        Json::Object(vec![
+            ("number", u64::from(reason.number()).into()),
+            ("name", reason.name().into()),
+            ("input", self.which.into()),
+            ("place", self.place().into()),
+            ("transaction", self.transaction().into()),
+            ("layer", self.sibling().map(|(layer, _)| layer).into()),
+            ("sibling", self.sibling().map(|(_, sibling)| sibling).into()),
+            ("words", self.words().into()),
+        ])
+    }
+
+    /// Number, name and words, without "refused".
+    pub fn short(&self) -> String {
+        let reason = self.refusal.reason;
+        let mut text = format!("{} {}", reason.number(), reason.name());
+        if let Some(which) = self.which {
+            text += &format!(" in the {which}");
+        }
+        if let Some(place) = self.place() {
+            text += &format!(" at byte {place}");
+        }
+        if let Some(transaction) = self.transaction() {
+            text += &format!(" at transaction {transaction}");
+        }
+        text + ": " + &self.words()
+    }
+}
+
+impl fmt::Display for Refused {
+    fn fmt(&self, f: &mut fmt::Formatter<'_>) -> fmt::Result {
+        write!(f, "refused {}", self.short())
+    }
+}

@@ -1,0 +1,615 @@
+//! The program `barrowtide` as a person runs it: every command accepted, refused and with input that
+//! it can't use.
+
+#[path = "common/published.rs"]
+mod published;
+
+use std::ffi::{OsStr, OsString};
+use std::fs::{self, File};
+use std::io::Write;
+use std::path::PathBuf;
+use std::process::{Command, Output, Stdio};
+
+use published::without_sibling;
+use reference::hex::{decode, encode};
+
+const PROGRAM: &str = env!("CARGO_BIN_EXE_barrowtide");
+const DATA: &str = concat!(env!("CARGO_MANIFEST_DIR"), "/tests/data");
+const ID: &str = "3ecead27a44d013ad1aae40038acbb1883ac9242406808bb4667c15b4f164eac";
+const ROOT: &str = "bb6f640cc4ee56bf38eb5a1969ac0c16caa2d3d202b22bf3735d10eec0ca6e00";
+const COMMANDS: [&str; 11] = [
+    "judge", "prove", "clients", "list", "compare", "write", "page", "convert", "diff", "shorter",
+    "draw",
+];
+
+/// Exit status, standard output and standard error.
+type Ran = (Option<i32>, String, String);
+
+fn ran(output: Output) -> Ran {
+    let text = |bytes| String::from_utf8(bytes).expect("text");
+    (output.status.code(), text(output.stdout), text(output.stderr))
+}
+
+fn command(arguments: &[&str]) -> Command {
+    let mut command = Command::new(PROGRAM);
+    command.args(arguments).current_dir(DATA);
+    command
+}
+
+/// Runs the program on files of the test data, or on given paths.
+fn run(arguments: &[&str]) -> Ran {
+    ran(command(arguments).output().expect("the program starts"))
+}
+
+/// Runs it with standard input.
+fn run_on(input: &[u8], arguments: &[&str]) -> Ran {
+    let mut command = command(arguments);
+    command.stdin(Stdio::piped()).stdout(Stdio::piped()).stderr(Stdio::piped());
+    let mut child = command.spawn().expect("the program starts");
+    child.stdin.take().expect("piped").write_all(input).expect("it reads");
+    ran(child.wait_with_output().expect("it ends"))
+}
+
+/// A file of its own for a test.
+fn file(name: &str, content: impl AsRef<[u8]>) -> String {
+    let path = PathBuf::from(env!("CARGO_TARGET_TMPDIR")).join(name);
+    fs::write(&path, content).expect("a file for the test");
+    path.to_str().expect("a plain path").to_string()
+}
+
+fn data(name: &str) -> Vec<u8> {
+    decode(&fs::read_to_string(format!("{DATA}/{name}")).expect("test data"))
+}
+
+#[track_caller]
+fn accepts(arguments: &[&str], text: &str) {
+    assert_eq!(run(arguments), (Some(0), text.to_string(), String::new()), "{arguments:?}");
+}
+
+#[track_caller]
+fn refuses(arguments: &[&str], text: &str) {
+    assert_eq!(run(arguments), (Some(1), format!("{text}\n"), String::new()), "{arguments:?}");
+}
+
+/// Refused where bytes or a picture were asked for: nothing goes to standard output.
+#[track_caller]
+fn refuses_beside(arguments: &[&str], text: &str) {
+    assert_eq!(run(arguments), (Some(1), String::new(), format!("{text}\n")), "{arguments:?}");
+}
+
+#[track_caller]
+fn cannot_use(arguments: &[&str], text: &str) {
+    let (status, out, error) = run(arguments);
+    assert_eq!((status, out.as_str()), (Some(2), ""), "{arguments:?}");
+    assert!(error.contains(text), "{arguments:?}: {error}");
+}
+
+const JUDGED: &str = "\
+accepted: every payment rests on a trusted root; 2 transactions
+  no     start    length  anchored  bump    position  id
+   0       291       192  yes          0          21  3ecead27a44d013ad1aae40038acbb1883ac9242406808bb4667c15b4f164eac
+   1       485       191  no           -           -  157428aee67d11123203735e4c540fa1bdab3b36d5882c6f8c5ff79f07d20d1c
+";
+
+#[test]
+fn judge() {
+    accepts(&["judge", "004-bundle.hex", "004-roots.txt"], JUDGED);
+    let binary = file("bundle.beef", data("004-bundle.hex"));
+    accepts(&["judge", &binary, "004-roots.txt"], JUDGED);
+    let judged = (Some(0), JUDGED.to_string(), String::new());
+    assert_eq!(run_on(&data("004-bundle.hex"), &["judge", "-", "004-roots.txt"]), judged);
+    assert_eq!(run_on(ROOT.as_bytes(), &["judge", "004-bundle.hex", "-"]), judged);
+
+    let none = file("none.txt", "# no roots\n\n");
+    refuses(
+        &["judge", "004-bundle.hex", &none],
+        "refused 17 UNTRUSTED at transaction 0: its proof leads to a root that is not in your list. \
+         Bring the list up to date; if the root is still not in it, don't accept the payment.",
+    );
+    let gap = file("gap.beef", without_sibling());
+    refuses(
+        &["judge", &gap, "004-roots.txt"],
+        "refused 14 MISSING at transaction 0: the sender must add the node at layer 0, position 20.",
+    );
+    let short = file("short.hex", "0100beef");
+    refuses(
+        &["judge", &short, "004-roots.txt"],
+        "refused 2 SHORT at byte 4: the bytes end inside the field that starts here. Ask the sender \
+         for the whole bundle, and check that this is one.",
+    );
+    refuses(
+        &["judge", "004-bump.hex", "004-roots.txt"],
+        "refused 10 BAD_VERSION: the first four bytes are not 0100beef, so this is no BEEF of that \
+         version. Ask the sender for one.",
+    );
+
+    cannot_use(&["judge"], "usage: barrowtide judge BEEF ROOTS");
+    cannot_use(&["judge", "no such file", "004-roots.txt"], "no such file: ");
+    cannot_use(&["judge", "004-bundle.hex", "004-bundle.hex"], "line 1: not 64 hex digits");
+    cannot_use(&["judge", "004-roots.txt", "004-roots.txt"], "text that is not hex: '#'");
+    cannot_use(&["judge", "-", "-"], "standard input can be read once");
+}
+
+#[test]
+fn judge_for_scripts() {
+    let (status, text, error) = run(&["judge", "--json", "004-bundle.hex", "004-roots.txt"]);
+    let expected = "{\"accepted\":true,\"transactions\":[\
+         {\"start\":291,\"length\":192,\
+         \"id\":\"3ecead27a44d013ad1aae40038acbb1883ac9242406808bb4667c15b4f164eac\",\
+         \"anchored\":true,\"bump\":0,\"position\":21},\
+         {\"start\":485,\"length\":191,\
+         \"id\":\"157428aee67d11123203735e4c540fa1bdab3b36d5882c6f8c5ff79f07d20d1c\",\
+         \"anchored\":false,\"bump\":null,\"position\":null}]}\n";
+    assert_eq!((status, text.as_str(), error.as_str()), (Some(0), expected, ""));
+    let gap = file("gap-json.beef", without_sibling());
+    let (status, text, _) = run(&["judge", &gap, "004-roots.txt", "--json"]);
+    let expected = "{\"accepted\":false,\"refusal\":{\"number\":14,\"name\":\"MISSING\",\
+         \"input\":null,\"place\":null,\"transaction\":0,\"layer\":0,\"sibling\":20,\
+         \"words\":\"the sender must add the node at layer 0, position 20.\"}}\n";
+    assert_eq!((status, text.as_str()), (Some(1), expected));
+    let (status, text, error) = run(&["--json", "judge", "\"no\"", "004-roots.txt"]);
+    assert!(text.starts_with("{\"unusable\":\"\\\"no\\\": "), "{text}");
+    assert_eq!((status, error.as_str()), (Some(2), ""));
+}
+
+#[test]
+fn prove() {
+    let text = format!(
+        "accepted: the id is under this root, and worth as much as the root is trusted\n\
+         id        {ID}\nposition  21\nlayers    7\nroot      {ROOT}\n"
+    );
+    accepts(&["prove", "bump", "004-bump.hex", ID], &text);
+    let made = run(&["convert", "to-tsc", "004-bump.hex", ID]).1;
+    accepts(&["prove", "tsc", &file("made.tsc", made)], &text);
+    let (status, text, _) = run(&["prove", "tsc", "000-proof.hex", "--json"]);
+    assert_eq!(status, Some(0));
+    assert!(text.contains("\"position\":12,\"layers\":"), "{text}");
+
+    // A tree of one layer, as a compound path.
+    let path = file("cmp.bin", [&[0, 2, 0][..], &[0xaa; 32], &[1], &[0xbb; 32]].concat());
+    let (status, text, _) = run(&["prove", "cmp", &path, &"bb".repeat(32)]);
+    assert_eq!(status, Some(0));
+    assert!(text.contains("position  1\nlayers    1\n"), "{text}");
+
+    refuses(
+        &["prove", "bump", "004-bump-gap.hex", ID],
+        "refused 14 MISSING: the sender must add the node at layer 0, position 20.",
+    );
+    // Printed and stored order are not to be mixed up.
+    let stored = encode(&decode(ID).into_iter().rev().collect::<Vec<u8>>());
+    refuses(
+        &["prove", "bump", "004-bump.hex", &stored],
+        "refused 13 NOT_LISTED: the BUMP does not list this id. Check the id; if it is right, ask \
+         the sender for the proof of this transaction.",
+    );
+    let twin = file("twin.bin", [&[0, 2, 0][..], &[0xaa; 32], &[1, 0], &[0; 32]].concat());
+    let (status, text, _) = run(&["prove", "cmp", &twin, &"bb".repeat(32)]);
+    assert_eq!(status, Some(1), "{text}");
+    let other = [&[4, 0][..], &[0xaa; 32], &[0xbb; 32], &[0]].concat();
+    let (status, text, _) = run(&["prove", "tsc", &file("other.tsc", other)]);
+    assert!(text.starts_with("refused 16 ROOTS_DIFFER: "), "{text}");
+    assert_eq!(status, Some(1));
+
+    cannot_use(&["prove", "bump", "004-bump.hex", "3ecead27"], "not an id");
+    cannot_use(&["prove", "bump", "004-bump.hex"], "usage: barrowtide prove");
+    cannot_use(&["prove", "pump", "004-bump.hex", ID], "usage: barrowtide prove");
+    cannot_use(&["prove", "tsc", "000-proof.hex", ID], "usage: barrowtide prove");
+    cannot_use(&["prove", "bump", &file("odd.hex", "abc"), ID], "an odd number of hex digits");
+}
+
+#[test]
+fn clients() {
+    let text = format!("accepted: all clients lead to this root; 1 client\nroot      {ROOT}\n");
+    accepts(&["clients", "004-bump.hex"], &text);
+    let (_, text, _) = run(&["clients", "004-bump.hex", "--json"]);
+    let expected = format!("{{\"accepted\":true,\"clients\":1,\"root\":\"{ROOT}\"}}\n");
+    assert_eq!(text, expected);
+    refuses(
+        &["clients", &file("none.bump", [0, 1, 0])],
+        "refused 13 NOT_LISTED: no leaf is marked as a client's, so there is nothing to check. Ask \
+         about an id with prove.",
+    );
+    cannot_use(&["clients"], "usage: barrowtide clients BUMP");
+    cannot_use(&["clients", DATA], "directory");
+}
+
+#[test]
+fn list() {
+    accepts(
+        &["list", "bump", &file("copy.bump", [7, 2, 1, 1, 1, 0])],
+        "accepted: a BUMP\nblock height  7\ntree height   2\nleaves        1\n\
+         level 0, 1 leaf\n         1  copy\nlevel 1, 0 leaves\n",
+    );
+    let (_, text, _) = run(&["list", "bump", "004-bump.hex"]);
+    assert!(text.contains("\nlevel 0, 2 leaves\n        20  node 0dc75b4e"), "{text}");
+    assert!(text.contains(&format!("\n        21  client {ID}\nlevel 1, 1 leaf\n")), "{text}");
+    let (_, text, _) = run(&["list", "bump", "--json", &file("json.bump", [7, 1, 1, 1, 1])]);
+    let expected = "{\"accepted\":true,\"block_height\":7,\"tree_height\":1,\"leaves\":1,\
+         \"levels\":[[{\"offset\":1,\"leaf\":{\"kind\":\"copy\",\"hash\":null}}]]}\n";
+    assert_eq!(text, expected);
+
+    // Levels of a compound path are written from the top down, and listed from the bottom up.
+    let (status, text, _) = run(&["list", "cmp", "001-path.hex"]);
+    assert_eq!(status, Some(0));
+    assert!(text.starts_with("accepted: a compound path\ntree height   3\n"), "{text}");
+    assert!(text.find("level 0, 4 leaves").expect("level 0") < text.find("level 2, 1").expect("2"));
+
+    let (_, text, _) = run(&["list", "tsc", "000-proof.hex"]);
+    assert!(text.contains("holds   id\ntarget  block hash\nindex   12\n"), "{text}");
+    let (_, text, _) = run(&["list", "beef", "004-bundle.hex"]);
+    assert!(text.ends_with("bumps         1\ntransactions  2\n"), "{text}");
+    let transaction = file("transaction.bin", &data("004-bundle.hex")[291..291 + 192]);
+    let (_, text, _) = run(&["list", "transaction", &transaction]);
+    assert!(text.starts_with(&format!("accepted: a transaction\nid       {ID}\n")), "{text}");
+
+    refuses(
+        &["list", "bump", &file("high.bump", [0, 0])],
+        "refused 4 BAD_HEIGHT at byte 1: a tree of the height written here is not allowed. The \
+         software that wrote the BUMP is at fault.",
+    );
+    for form in ["bump", "cmp", "tsc", "transaction", "beef"] {
+        let (status, text, _) = run_on(b"", &["list", form, "-"]);
+        assert!(text.starts_with("refused 2 SHORT at byte 0: "), "{text}");
+        assert_eq!(status, Some(1));
+    }
+    cannot_use(&["list", "004-bump.hex"], "usage: barrowtide list");
+    cannot_use(&["list", "text", "004-bump.hex"], "usage: barrowtide list");
+}
+
+/// An accepted comparison would be a collision of double SHA-256.
+#[test]
+fn compare() {
+    let tsc = ["tsc", "000-proof.hex"];
+    let bump = ["bump", "004-bump.hex", ID];
+    let gap = ["bump", "004-bump-gap.hex", ID];
+    let both = |first: &[&'static str], second: &[&'static str]| {
+        [&["compare"][..], first, second].concat()
+    };
+    refuses(
+        &both(&tsc, &tsc),
+        "refused 24 SAME_ID: the two proofs agree: one id, at one position, under one root.",
+    );
+    refuses(
+        &both(&bump, &tsc),
+        "refused 23 UNLIKE: the two proofs differ in root, position or number of layers, so they do \
+         not contradict each other.",
+    );
+    let missing = |which| {
+        format!("refused 14 MISSING in the {which}: the sender must add the node at layer 0, position 20.")
+    };
+    refuses(&both(&gap, &bump), &missing("first"));
+    refuses(&both(&bump, &gap), &missing("second"));
+    let (_, text, _) = run(&both(&["--json", "tsc", "000-proof.hex"], &gap));
+    assert!(text.contains("\"name\":\"MISSING\",\"input\":\"second\""), "{text}");
+    cannot_use(&both(&tsc, &[]), "usage: barrowtide compare");
+    cannot_use(&both(&tsc, &["tsc", "no such file"]), "no such file");
+}
+
+#[test]
+fn write_and_page() {
+    let (status, bump, error) = run(&["write", "814435", "ids.txt", "1", "4", "1"]);
+    assert_eq!((status, error.as_str()), (Some(0), ""));
+    let (_, binary, _) = {
+        let output = command(&["write", "814435", "ids.txt", "1", "4", "--binary"]).output();
+        let output = output.expect("the program starts");
+        (output.status, output.stdout, output.stderr)
+    };
+    assert_eq!(bump, encode(&binary) + "\n");
+    let (_, json, _) = run(&["write", "814435", "ids.txt", "4", "1", "--json"]);
+    let expected = format!(
+        "{{\"accepted\":true,\"bytes\":{},\"hex\":\"{}\"}}\n",
+        binary.len(),
+        bump.trim_end()
+    );
+    assert_eq!(json, expected);
+
+    let (status, text, _) = run_on(bump.as_bytes(), &["page", "-", "ids.txt"]);
+    let ids = fs::read_to_string(format!("{DATA}/ids.txt")).expect("test data");
+    let ids: Vec<&str> = ids.lines().skip(1).collect();
+    let lines: Vec<&str> = text.lines().collect();
+    assert_eq!((status, lines[0], lines.len()), (Some(1), "proved: 3 of 5 ids", 6));
+    assert!(lines[2].starts_with(&format!("{}  proved at position 1, 3 layers, root ", ids[1])));
+    assert!(lines[3].starts_with(&format!("{}  refused 13 NOT_LISTED: ", ids[2])));
+    let chosen = file("chosen.txt", format!("{}\n{}\n", ids[4], ids[1]));
+    let (status, text, _) = run_on(&binary, &["page", "-", &chosen, "--json"]);
+    assert_eq!(status, Some(0));
+    assert!(
+        text.starts_with("{\"accepted\":true,\"proved\":2,\"ids\":[{\"proved\":true,"),
+        "{text}"
+    );
+
+    let write = |words: &[&'static str]| [&["write"][..], words].concat();
+    refuses_beside(&write(&["7", "ids.txt"]), "refused 13 NOT_LISTED: you chose no position.");
+    refuses_beside(
+        &write(&["7", "ids.txt", "5"]),
+        "refused 6 BAD_OFFSET: you chose a position outside the list; the first id has position 0.",
+    );
+    refuses_beside(
+        &write(&["4294967296", "ids.txt", "0"]),
+        "refused 5 OVER_LIMIT: you must give 2 to 1024 ids, and a block height of at most 4294967295.",
+    );
+    let equal = file("equal.txt", format!("{ID}\n{ID}\n"));
+    refuses_beside(
+        &["write", "7", &equal, "0"],
+        "refused 19 SAME_TX: two ids of your list are equal.",
+    );
+    cannot_use(&write(&["7"]), "usage: barrowtide write");
+    cannot_use(&write(&["high", "ids.txt", "1"]), "not a block height: high");
+    cannot_use(&write(&["7", "ids.txt", "one"]), "not a position: one");
+    cannot_use(&write(&["7", "ids.txt", "-1"]), "no option -1");
+    cannot_use(&write(&["7", "004-bump.hex", "1"]), "not 64 hex digits");
+
+    let many = file("many.txt", format!("{ID}\n").repeat(257));
+    refuses(
+        &["page", "004-bump.hex", &many],
+        "refused 5 OVER_LIMIT: you may ask about 256 ids at once, not more.",
+    );
+    let (status, text, _) = run_on(&[0xff; 9], &["page", "-", &chosen]);
+    assert!(text.starts_with("refused 5 OVER_LIMIT at byte 0: the count or block"), "{text}");
+    assert_eq!(status, Some(1));
+    cannot_use(&["page", "004-bump.hex"], "usage: barrowtide page");
+    cannot_use(&["page", "004-bump.hex", "ids.txt", "--binary"], "--binary is for a proof");
+}
+
+#[test]
+fn convert() {
+    let (status, tsc, error) = run(&["convert", "to-tsc", "004-bump.hex", ID]);
+    assert_eq!((status, error.as_str()), (Some(0), ""));
+    let (status, bump, _) = run_on(tsc.as_bytes(), &["convert", "to-bump", "-", "814435"]);
+    assert_eq!((status, decode(&bump)), (Some(0), data("004-bump.hex")));
+    let (_, json, _) = run_on(tsc.as_bytes(), &["convert", "to-bump", "-", "814435", "--json"]);
+    assert!(json.starts_with("{\"accepted\":true,\"bytes\":285,\"hex\":\"fe636d0c00"), "{json}");
+
+    refuses_beside(
+        &["convert", "to-tsc", "004-bump-gap.hex", ID],
+        "refused 14 MISSING: the sender must add the node at layer 0, position 20.",
+    );
+    let alone = file("alone.tsc", [&[4, 0][..], &[0xaa; 32], &[0xaa; 32], &[0]].concat());
+    refuses_beside(
+        &["convert", "to-bump", &alone, "7"],
+        "refused 4 BAD_HEIGHT at byte 66: the proof has no nodes: its transaction is alone in the \
+         block, and no BUMP can say so. Keep the TSC proof.",
+    );
+    cannot_use(&["convert", "to-bump", "000-proof.hex", "4294967296"], "at most 4294967295");
+    cannot_use(&["convert", "to-bump", "000-proof.hex"], "usage: barrowtide convert");
+    cannot_use(&["convert", "to-cmp", "000-proof.hex", "7"], "usage: barrowtide convert");
+}
+
+#[test]
+fn diff() {
+    let node = "0dc75b4efeeddb95d8ee98ded75d781fcf95d35f9d88f7f1ce54a77a0c7c50fe";
+    accepts(
+        &["diff", "004-bump.hex", "004-bump-gap.hex"],
+        &format!("1 difference\nlevel 0, offset 20: only in the first: node {node}\n"),
+    );
+    accepts(
+        &["diff", "004-bump-gap.hex", "004-bump.hex"],
+        &format!("1 difference\nlevel 0, offset 20: only in the second: node {node}\n"),
+    );
+    accepts(
+        &["diff", "004-bump.hex", "004-bump.hex"],
+        "no difference: both hold the same, but perhaps in another order\n",
+    );
+    let hash = "aa".repeat(32);
+    let first = file("first.bump", [&[7, 1, 1, 1, 0][..], &[0xaa; 32]].concat());
+    let second = file("second.bump", [9, 2, 1, 1, 1, 0]);
+    accepts(
+        &["diff", &first, &second],
+        &format!(
+            "3 differences\nblock height: 7 in the first, 9 in the second\n\
+             tree height: 1 in the first, 2 in the second\n\
+             level 0, offset 1: node {hash} in the first, copy in the second\n"
+        ),
+    );
+    let (_, json, _) = run(&["diff", &first, &second, "--json"]);
+    let expected = format!(
+        "{{\"accepted\":true,\"differences\":[\
+         {{\"what\":\"block height\",\"first\":7,\"second\":9}},\
+         {{\"what\":\"tree height\",\"first\":1,\"second\":2}},\
+         {{\"what\":\"leaf\",\"level\":0,\"offset\":1,\
+         \"first\":{{\"kind\":\"node\",\"hash\":\"{hash}\"}},\
+         \"second\":{{\"kind\":\"copy\",\"hash\":null}}}}]}}\n"
+    );
+    assert_eq!(json, expected);
+    let (status, text, _) = run_on(b"\0", &["diff", "004-bump.hex", "-"]);
+    assert!(text.starts_with("refused 2 SHORT in the second at byte 1: "), "{text}");
+    assert_eq!(status, Some(1));
+    let (_, text, _) = run_on(b"\0", &["diff", "-", "004-bump.hex"]);
+    assert!(text.starts_with("refused 2 SHORT in the first at byte 1: "), "{text}");
+    cannot_use(&["diff", "004-bump.hex"], "usage: barrowtide diff");
+}
+
+#[test]
+fn shorter() {
+    let (status, text, note) = run(&["shorter", "004-bump-surplus.hex", "004-bump.hex", ID]);
+    assert_eq!((status, decode(&text)), (Some(0), data("004-bump.hex")));
+    assert_eq!(note, "the second: 285 bytes; the first has 319, the second 285\n");
+    let (_, json, note) = run(&["shorter", "--json", "004-bump.hex", "004-bump-surplus.hex", ID]);
+    assert!(json.starts_with("{\"accepted\":true,\"which\":\"first\",\"bytes\":285,"), "{json}");
+    assert_eq!(note, "");
+    let (_, _, note) = run(&["shorter", "004-bump.hex", "004-bump.hex", ID]);
+    assert!(note.starts_with("the first: "), "{note}");
+    refuses_beside(
+        &["shorter", "004-bump.hex", "004-bump-gap.hex", ID],
+        "refused 14 MISSING in the second: the sender must add the node at layer 0, position 20.",
+    );
+    let id = decode(ID).into_iter().rev().collect::<Vec<u8>>();
+    let other = file("other.bump", [&[7, 1, 2, 1, 1, 0, 2][..], &id].concat());
+    let (status, text, error) = run(&["shorter", "004-bump.hex", &other, ID]);
+    assert_eq!((status, text.as_str()), (Some(1), ""));
+    assert!(error.starts_with("refused 23 UNLIKE: the two lead to different roots"), "{error}");
+    cannot_use(&["shorter", "004-bump.hex", "004-bump.hex"], "usage: barrowtide shorter");
+}
+
+/// A picture of the documents.
+fn document(name: &str) -> String {
+    let path = format!("{}/../../docs/{name}", env!("CARGO_MANIFEST_DIR"));
+    fs::read_to_string(path).expect("a document")
+}
+
+/// Asks that every element of a picture is closed, in order.
+fn well_formed(svg: &str) {
+    let mut open = Vec::new();
+    for tag in svg.split('<').skip(1) {
+        let (tag, text) = tag.split_once('>').expect("a tag ends");
+        assert!(!text.contains(['>', '&']), "{text}");
+        if let Some(name) = tag.strip_prefix('/') {
+            assert_eq!(open.pop(), Some(name));
+        } else if !tag.ends_with('/') {
+            open.push(tag.split(' ').next().expect("a name"));
+        }
+    }
+    assert!(open.is_empty(), "{open:?}");
+}
+
+#[test]
+fn draw() {
+    let (status, svg, note) = run(&["draw", "004-bump.hex", ID]);
+    assert_eq!((status, note.as_str()), (Some(0), ""));
+    well_formed(&svg);
+    assert!(svg.contains(&format!("root {ROOT}")));
+    assert!(svg.contains("layer 0: 21 is odd, hash(0dc75b4e, 3ecead27) = "));
+    assert!(svg.contains("layer 6: 0 is even, "));
+    assert!(svg == document("climb.svg"), "README.md shows another: draw docs/climb.svg anew");
+
+    let (status, svg, note) = run(&["draw", "004-bump-gap.hex", ID]);
+    let missing = "refused 14 MISSING: the sender must add the node at layer 0, position 20.\n";
+    assert_eq!((status, note.as_str()), (Some(1), missing));
+    well_formed(&svg);
+    assert!(svg.contains(missing.trim_end()) && svg.contains("20 missing"));
+    assert!(svg.contains("layer 0: node 20 is missing"));
+    assert!(svg == document("missing.svg"), "docs/REFUSALS.md shows another: draw it anew");
+
+    // Position 3 of four, where the node beside its parent equals it.
+    let (id, sibling) = ([0xaa; 32], [0xbb; 32]);
+    let parent = reference::sha256::join(&sibling, &id);
+    let twin = [&[7, 2, 2, 2, 0][..], &sibling, &[3, 2], &id, &[1, 0, 0], &parent].concat();
+    let (status, svg, _) = run(&["draw", &file("twin.bump", twin), &"aa".repeat(32)]);
+    well_formed(&svg);
+    assert!(svg.contains("layer 1: node 0 equals the working hash"), "{svg}");
+    assert_eq!(status, Some(1));
+
+    let (status, svg, _) = run(&["draw", "004-bump.hex", ROOT]);
+    well_formed(&svg);
+    assert!(svg.contains("refused 13 NOT_LISTED"));
+    assert_eq!(status, Some(1));
+    let (status, svg, _) = run(&["draw", "004-bump-surplus.hex"]);
+    well_formed(&svg);
+    assert_eq!(status, Some(0));
+    let (_, json, _) = run(&["draw", "--json", "004-bump.hex", ID]);
+    assert!(json.contains("\"position\":21,") && json.contains("\"svg\":\"<svg "), "{json}");
+    refuses_beside(
+        &["draw", &file("extra.bump", [7, 1, 0, 0])],
+        "refused 9 EXTRA at byte 3: the BUMP ends before this byte, and more bytes follow. Ask the \
+         sender for the BUMP alone.",
+    );
+    cannot_use(&["draw"], "usage: barrowtide draw");
+    cannot_use(&["draw", "no such file"], "no such file");
+}
+
+/// A busy block: what is not on the climb is folded, so the picture stays small.
+#[test]
+fn draw_a_thousand_leaves() {
+    let ids: Vec<String> = (0..1_000).map(|at| format!("{:064x}", at + 1)).collect();
+    let list = file("thousand.txt", ids.join("\n"));
+    let positions: Vec<String> = (0..1_000).map(|at| at.to_string()).collect();
+    let mut words = vec!["write", "900000", &list];
+    words.extend(positions.iter().map(String::as_str));
+    let bump = file("thousand.bump", run(&words).1);
+    let (status, svg, _) = run(&["draw", &bump, &ids[650]]);
+    well_formed(&svg);
+    assert_eq!(status, Some(0));
+    assert!(svg.contains("512 leaves") && svg.len() < 30_000, "{} bytes", svg.len());
+    let (status, svg, _) = run(&["draw", &bump]);
+    well_formed(&svg);
+    assert_eq!(status, Some(0));
+    assert!(svg.len() < 30_000, "{} bytes", svg.len());
+}
+
+#[test]
+fn help() {
+    let (status, text, error) = run(&["--help"]);
+    assert_eq!((status, error.as_str()), (Some(0), ""));
+    for name in COMMANDS {
+        assert!(text.contains(&format!("\n  {name} ")), "{text}");
+    }
+    assert_eq!(run(&["help"]).1, text);
+    cannot_use(&[], "usage: barrowtide COMMAND");
+    cannot_use(&["frobnicate"], "no command frobnicate");
+    cannot_use(&["judge", "--frobnicate"], "no option --frobnicate");
+    let version = format!("barrowtide {}\n", env!("CARGO_PKG_VERSION"));
+    accepts(&["--version"], &version);
+}
+
+/// The examples of the help, as printed. Only comparing can't show an acceptance.
+#[test]
+fn examples() {
+    let top = concat!(env!("CARGO_MANIFEST_DIR"), "/../..");
+    for name in COMMANDS {
+        let (status, text, error) = run(&[name, "--help"]);
+        assert_eq!((status, error.as_str()), (Some(0), ""));
+        let indented: Vec<&str> = text.lines().filter(|line| line.starts_with("    ")).collect();
+        let script = indented.join("\n").replace("./barrowtide", "\"$PROGRAM\"");
+        assert!(script.contains("$PROGRAM"), "{name}: {script}");
+        // The picture of the example goes to the tests' own files.
+        let script = script.replace("target/climb.svg", &file("climb.svg", ""));
+        let mut shell = Command::new("sh");
+        shell.args(["-e", "-c", &script]).env("PROGRAM", PROGRAM).current_dir(top);
+        let (status, text, error) = ran(shell.output().expect("the shell starts"));
+        let expected = if name == "compare" { 1 } else { 0 };
+        assert_eq!(status, Some(expected), "{script}\n{text}{error}");
+    }
+}
+
+/// A reader that goes away is no fault; a full disk is.
+#[test]
+fn closed_output() {
+    for words in [&["list", "bump", "-"][..], &["draw", "-", ID], &["list", "beef", "-"]] {
+        let mut command = command(words);
+        command.stdin(Stdio::piped()).stdout(Stdio::piped()).stderr(Stdio::piped());
+        let mut child = command.spawn().expect("the program starts");
+        drop(child.stdout.take());
+        let mut stdin = child.stdin.take().expect("piped");
+        stdin.write_all(&data("004-bump.hex")).expect("it reads");
+        drop(stdin);
+        let output = child.wait_with_output().expect("it ends");
+        let expected = if words[1] == "beef" { 1 } else { 0 };
+        assert_eq!((output.status.code(), output.stderr.as_slice()), (Some(expected), &b""[..]));
+    }
+    let full = File::options().write(true).open("/dev/full").expect("a full device");
+    let output = command(&["clients", "004-bump.hex"]).stdout(full).output();
+    let (status, _, error) = ran(output.expect("the program starts"));
+    assert_eq!(status, Some(2));
+    assert!(error.starts_with("standard output: "), "{error}");
+}
+
+/// Whatever the bytes, a command ends with an answer.
+#[test]
+fn damaged_input() {
+    use std::os::unix::ffi::OsStringExt;
+    let whole = data("004-bump.hex");
+    for at in (0..whole.len()).step_by(7) {
+        let mut changed = whole.clone();
+        changed[at] ^= 0x81;
+        for (bytes, least) in [(&whole[..at], 1), (&changed[..], 0)] {
+            for words in [&["draw", "-", ID][..], &["list", "bump", "-"], &["list", "tsc", "-"]] {
+                let (status, _, error) = run_on(bytes, words);
+                let status = status.expect("it ends by itself");
+                assert!((least..=2).contains(&status), "{words:?}: {status}");
+                assert!(!error.contains("panicked"), "{error}");
+            }
+        }
+    }
+    let odd = OsString::from_vec(vec![0xff, 0xfe]);
+    for words in
+        [vec![OsStr::new("judge"), &odd, &odd], vec![&odd], vec![OsStr::new("clients"), &odd]]
+    {
+        let output = Command::new(PROGRAM).args(&words).output().expect("the program starts");
+        assert_eq!(output.status.code(), Some(2), "{words:?}");
+        assert!(!output.stdout.starts_with(b"accepted"));
+    }
+    // Longer than any input can be, in hex or not.
+    let (status, text, _) = run_on(&vec![0; (1 << 24) + 1], &["list", "beef", "-"]);
+    assert!(text.starts_with("refused 1 TOO_LONG: it is over 16777216 bytes"), "{text}");
+    assert_eq!(status, Some(1));
+}
