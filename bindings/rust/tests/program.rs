@@ -10,6 +10,7 @@ use std::io::Write;
 use std::path::PathBuf;
 use std::process::{Command, Output, Stdio};
 
+use barrowtide::Reason;
 use published::without_sibling;
 use reference::hex::{decode, encode};
 
@@ -559,6 +560,21 @@ fn examples() {
         let expected = if name == "compare" { 1 } else { 0 };
         assert_eq!(status, Some(expected), "{script}\n{text}{error}");
     }
+}
+
+/// Support staff find each refusal in the document, and no other.
+#[test]
+fn refusals_explained() {
+    let text = document("REFUSALS.md");
+    let row = |line: &str| {
+        let mut cells = line.split('|').map(str::trim).skip(1);
+        Some((cells.next()?.parse::<u32>().ok()?, cells.next()?.to_string()))
+    };
+    let named = |row: &(u32, String)| !row.1.contains(' ');
+    let rows: Vec<_> = text.lines().filter_map(row).filter(named).collect();
+    let reasons = (1..).map_while(Reason::from_number);
+    let expected: Vec<_> = reasons.map(|reason| (reason.number(), reason.name().into())).collect();
+    assert_eq!(rows, expected);
 }
 
 /// A reader that goes away is no fault; a full disk is.
