@@ -9,6 +9,10 @@
  *   gcc -std=c11 -O2 -Iinclude examples/c/judge.c target/staticlib/libbarrowtide.a -o target/judge
  *   target/judge bindings/rust/tests/data/004-bundle.hex \
  *     bb6f640cc4ee56bf38eb5a1969ac0c16caa2d3d202b22bf3735d10eec0ca6e00
+ *
+ * Or anywhere, once `./install PREFIX` was run:
+ *
+ *   gcc -std=c11 -O2 judge.c $(pkg-config --cflags --libs barrowtide) -o judge
  */
 #include <ctype.h>
 #include <stdbool.h>
