@@ -4,7 +4,6 @@ use mathlib.Core.Path.{_≡_, refl, sym, ap, _∙_}
 use Prim.Native.Nat.{ℕ, zero, suc, _+_, _*_, _/_, _%_, _^_, _≤_, _<_}
 use native.Mathlib.Omega.{arith}
 use lib.Bits.{bitAnd, bitOr, bitXor, and-comm, and-shifted, or-disjoint, xor-disjoint, xor-comm, xor-shr, xor-mod}
-use lib.Pow.{shr-lt}
 use Rattle.hash.specs.Sha256.{_⊕_, rotr, shl, shr, Σ0, Σ1}
 
 by-half : (m n : ℕ) → m / 2 ≡ n / 2 → m % 2 ≡ n % 2 → m ≡ n

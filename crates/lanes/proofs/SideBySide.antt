@@ -1,7 +1,7 @@
 -- Laws of the lanes: an operation in each lane, and the laws of one hash at what stands in a lane. Assumes nothing.
 use mathlib.Core.Path.{_≡_, refl, sym, ap, ap₂, _∙_}
-use mathlib.Core.List.{List, [], _∷_, _++_, map, append-assoc}
-use Prim.Native.Nat.{ℕ, zero, suc, _+_, _-_, _*_, _%_, _^_, _≤_, _<_}
+use mathlib.Core.List.{List, [], _∷_, _++_, append-assoc}
+use Prim.Native.Nat.{ℕ, zero, suc, _+_, _-_, _*_, _%_, _≤_, _<_}
 use native.Mathlib.Nat.{zero-add}
 use native.Mathlib.Numerals.{add-one}
 use native.Mathlib.Omega.{arith}
@@ -150,6 +150,12 @@ pub four-known : (s r0 r1 r2 r3 : State) (z : List ℕ) → z ≡ replicate 16 0
     → plus r3 s ≡ compress s (words (padding 64) 0 16)
 four-known s r0 r1 r2 r3 z e e0 e1 e2 e3 =
     padding-rounds s r0 r1 r2 r3 (e0 ∙ rw (e, with-none .0)) (e1 ∙ rw (e, with-none .1)) (e2 ∙ rw (e, with-none .2)) (e3 ∙ rw (e, with-none .3))
+
+-- Four nodes' words, side by side.
+pub at-words : (j i p q r s : ℕ) (n : Nodes) → p ≡ word (n .a) i → q ≡ word (n .b) i → r ≡ word (n .c) i → s ≡ word (n .d) i
+    → at j (record { a = p; b = q; c = r; d = s }) ≡ word (node j n) i
+unfolding at node
+at-words j i p q r s n ep eq er es = rw (ep, eq, er, es) (pick-map (λ (l : List ℕ). word l i) j (n .a) (n .b) (n .c) (n .d))
 
 -- The words of two nodes, one after the other.
 pub left-on : (i : ℕ) (p : List ℕ) (w : List Four) (t : ℕ) (x : Four) → t < length w → take t (lanes i w) ≡ words p 0 t → at i x ≡ word p (4 * t)

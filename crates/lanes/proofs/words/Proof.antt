@@ -1,10 +1,5 @@
-use mathlib.Core.List.{List}
-use Prim.Native.Nat.{ℕ}
-use native.Mathlib.Omega.{arith}
 use borrow.Author.Needs.{needs}
-use Rattle.hash.specs.Sha256.{word}
-use Rattle.lanes.specs.Lanes.{at, node}
-use Rattle.lanes.proofs.SideBySide.{pick-map}
+use Rattle.lanes.proofs.SideBySide.{at-words}
 use Rattle.lanes.proofs.words.Statement.{statement}
 use Rattle.lanes.proofs.words.Tie as tie
 
@@ -21,10 +16,10 @@ word-at-requires-4 : tie.Need-word-at-requires-4
 word-at-requires-4 c κs = search needs
 
 returns : tie.Need-returns
-unfolding at node
 returns c j =
     let a = c .before .before .before .before .before .before .before .before .args in
-    cc (pick-map (λ (l : List ℕ). word l (a .i)) j (a .n .a) (a .n .b) (a .n .c) (a .n .d))
+    at-words j (a .i) (c .before .before .before .word-at .result) (c .before .before .word-at2 .result) (c .before .word-at3 .result) (c .word-at4 .result) (a .n)
+    (c .before .before .before .word-at .ensures) (c .before .before .word-at2 .ensures) (c .before .word-at3 .ensures) (c .word-at4 .ensures)
 
 pub words-spec : {M : Type 1} → statement M
 words-spec =
