@@ -39,11 +39,12 @@
  * Stack. As built by the kit a call needs at most
  *   - 64 KiB  barrowtide_judge_beef
  *   - 48 KiB  barrowtide_write_bump
- *   - 32 KiB  barrowtide_compare, barrowtide_bump_to_tsc
- *   - 24 KiB  barrowtide_prove_bump, barrowtide_prove_cmp, barrowtide_prove_page,
- *             barrowtide_check_clients, barrowtide_differences, barrowtide_shorter
- *   -  8 KiB  barrowtide_read_bump, barrowtide_read_cmp, barrowtide_read_beef,
- *             barrowtide_prove_tsc, barrowtide_tsc_to_bump
+ *   - 40 KiB  barrowtide_prove_bump, barrowtide_prove_cmp, barrowtide_prove_page,
+ *             barrowtide_check_clients, barrowtide_compare, barrowtide_shorter,
+ *             barrowtide_bump_to_tsc
+ *   - 24 KiB  barrowtide_differences
+ *   - 16 KiB  barrowtide_read_bump, barrowtide_read_cmp, barrowtide_read_beef
+ *   -  8 KiB  barrowtide_prove_tsc, barrowtide_tsc_to_bump
  *   -  1 KiB  barrowtide_sha256d, barrowtide_join
  *   -  4 KiB  every other call
  * with the C library's memcpy and memset, which are all that it calls. Only the working out of a
@@ -56,11 +57,11 @@
  * Nothing is kept from one climb to the next: a page climbs once for each id, all clients once for
  * each client leaf, and a bundle once for each transaction that names a BUMP. Turning a proof into
  * the other form climbs once, and takes hardly longer than proving by it. The worst inputs known,
- * offsets in no order, on a machine where a join takes a microsecond:
- *   - one climb, by a BUMP of 150 KB that is mostly copies: 21,484 joins, 0.1 s;
- *   - a page of 256 ids by such a BUMP, or a bundle of 170 KB with 256 transactions in it: 5.5
- *     million joins, 25 s;
- *   - all clients of a BUMP of 880 KB: 22 million joins, 90 s; of one of 36 KB that has 1,024
+ * offsets in no order, on a machine where a join takes half a microsecond:
+ *   - one climb, by a BUMP of 480 KB that is mostly copies: 54,188 joins, 0.2 s;
+ *   - a page of 256 ids by such a BUMP, or a bundle of 500 KB with 256 transactions in it: 14
+ *     million joins, 45 s;
+ *   - all clients of a BUMP of 2.3 MB: 55 million joins, 190 s; of one of 36 KB that has 1,024
  *     clients and nothing else: 1 million joins, 2 s.
  * A caller who has less time bounds the bytes that it takes, or the transactions that name a BUMP.
  */

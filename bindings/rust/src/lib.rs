@@ -21,12 +21,12 @@
 //! # Cost
 //!
 //! Siblings that are not written are worked out from the nodes below them. One climb makes fewer
-//! joins than its path has layers and leaves: fewer than 32 + n / 2 by a path of n bytes, and fewer
-//! than 24,606 by any. Each node that is asked for is searched for among the leaves of its level,
+//! joins than its path has layers and leaves: fewer than 64 + n / 2 by a path of n bytes, and fewer
+//! than 57,406 by any. Each node that is asked for is searched for among the leaves of its level,
 //! which takes longer than the joins where offsets do not rise. Nothing is kept from one climb to
 //! the next: a page climbs once for each id, [`check_clients`] once for each client leaf, and a
-//! bundle once for each transaction that names a BUMP. Where a join takes a microsecond, the worst
-//! inputs known take 0.2 s for one climb, 40 s for a page or a bundle, and 3 minutes for all
+//! bundle once for each transaction that names a BUMP. Where a join takes half a microsecond, the
+//! worst inputs known take 0.2 s for one climb, 45 s for a page or a bundle, and 190 s for all
 //! clients. A caller who has less time bounds the bytes that it takes, or the transactions that
 //! name a BUMP.
 //!
