@@ -52,16 +52,18 @@ pub fn tsc_to_bump_into(data: &[u8], block_height: u32, out: &mut [u8]) -> Resul
 /// count, if the proof has no nodes, as a BUMP has one level at least.
 ///
 /// ```
-/// use barrowtide::{join, prove_bump, tsc_to_bump, Reason};
-/// let (id, sibling) = ([0xaa; 32], [0xbb; 32]);
+/// use barrowtide::{join, prove_bump, tsc_to_bump, Hash, Reason};
+/// let bytes = [[0xaa; 32], [0xbb; 32]];
+/// let [id, sibling] = bytes.map(Hash::from_stored);
 /// let root = join(&sibling, &id);
-/// let proof = [&[0x04, 0x01][..], &id, &root, &[0x01, 0x00], &sibling].concat();
+/// let proof =
+///     [&[0x04, 0x01][..], &bytes[0], root.stored(), &[0x01, 0x00], &bytes[1]].concat();
 ///
 /// let bump = tsc_to_bump(&proof, 814_435)?;
 /// assert_eq!(prove_bump(&bump, &id)?.root, root);
 ///
 /// // An id that is alone in its block has no BUMP: the node count at place 66 is to blame.
-/// let alone = [&[0x04, 0x00][..], &id, &id, &[0x00]].concat();
+/// let alone = [&[0x04, 0x00][..], &bytes[0], &bytes[0], &[0x00]].concat();
 /// let refusal = tsc_to_bump(&alone, 814_435).unwrap_err();
 /// assert_eq!((refusal.reason, refusal.carried), (Reason::BadHeight, 66));
 /// # Ok::<(), barrowtide::Refusal>(())
@@ -80,20 +82,21 @@ pub fn tsc_to_bump(data: &[u8], block_height: u32) -> Result<Vec<u8>, Refusal> {
 /// stays as it was, and all of `out` on a refusal.
 ///
 /// ```
-/// use barrowtide::{bump_to_tsc_into, Reason};
+/// use barrowtide::{bump_to_tsc_into, Hash, Reason};
+/// let id = Hash::from_stored([0xaa; 32]);
 /// let bump = [&[0x07, 0x01, 0x02, 0x00, 0x02][..], &[0xaa; 32], &[0x01, 0x01]].concat();
 /// let mut out = [0x77; 80];
-/// let refusal = bump_to_tsc_into(&bump, &[0xaa; 32], &mut out[..67]).unwrap_err();
+/// let refusal = bump_to_tsc_into(&bump, &id, &mut out[..67]).unwrap_err();
 /// assert_eq!((refusal.reason, out[0]), (Reason::NoRoom, 0x77));
 ///
 /// // Flags, index, id, root, and a node that is a copy.
-/// assert_eq!(bump_to_tsc_into(&bump, &[0xaa; 32], &mut out)?, 68);
+/// assert_eq!(bump_to_tsc_into(&bump, &id, &mut out)?, 68);
 /// assert_eq!((&out[..3], &out[66..69]), (&[0x04, 0x00, 0xaa][..], &[0x01, 0x01, 0x77][..]));
 /// # Ok::<(), barrowtide::Refusal>(())
 /// ```
 pub fn bump_to_tsc_into(data: &[u8], id: &Hash, out: &mut [u8]) -> Result<usize, Refusal> {
     let (mut blame, mut written) = (Blame::default(), 0);
-    let number = ffi::bump_to_tsc(data, id, out, &mut blame, &mut written);
+    let number = ffi::bump_to_tsc(data, id.stored(), out, &mut blame, &mut written);
     answer(number, blame, written as usize)
 }
 
@@ -108,16 +111,17 @@ pub fn bump_to_tsc_into(data: &[u8], id: &Hash, out: &mut [u8]) -> Result<usize,
 /// Refused as [`prove_bump`](crate::prove_bump).
 ///
 /// ```
-/// use barrowtide::{bump_to_tsc, join, prove_tsc, tsc_to_bump};
+/// use barrowtide::{bump_to_tsc, join, prove_tsc, tsc_to_bump, Hash};
 /// // Four clients and nothing above them: the sibling at level 1 is worked out.
-/// let ids = [0xa0, 0xa1, 0xa2, 0xa3].map(|byte| [byte; 32]);
-/// let leaf = |at: usize| [&[at as u8, 0x02][..], &ids[at]].concat();
+/// let ids = [0xa0, 0xa1, 0xa2, 0xa3].map(|byte| Hash::from_stored([byte; 32]));
+/// let leaf = |at: usize| [&[at as u8, 0x02][..], ids[at].stored()].concat();
 /// let merged = [vec![0x00, 0x02, 0x04], leaf(0), leaf(1), leaf(2), leaf(3), vec![0x00]].concat();
 ///
 /// let proof = bump_to_tsc(&merged, &ids[2])?;
 /// let (left, right) = (join(&ids[0], &ids[1]), join(&ids[2], &ids[3]));
-/// let nodes = [&[0x02, 0x00][..], &ids[3], &[0x00], &left].concat();
-/// assert_eq!(proof, [&[0x04, 0x02][..], &ids[2], &join(&left, &right), &nodes].concat());
+/// let nodes = [&[0x02, 0x00][..], ids[3].stored(), &[0x00], left.stored()].concat();
+/// let root = join(&left, &right);
+/// assert_eq!(proof, [&[0x04, 0x02][..], ids[2].stored(), root.stored(), &nodes].concat());
 /// assert_eq!(prove_tsc(&proof)?.position, 2);
 ///
 /// let single = tsc_to_bump(&proof, 0)?;

@@ -110,17 +110,18 @@ pub fn differences(first: &[u8], second: &[u8]) -> Result<Vec<Difference>, Refus
 /// roots. Positions, layers and block heights may differ.
 ///
 /// ```
-/// use barrowtide::{shorter, Reason};
-/// let (id, sibling) = ([0xaa; 32], [0xbb; 32]);
-/// let short = [&[0x00, 0x01, 0x02, 0x00, 0x02][..], &id, &[0x01, 0x00], &sibling].concat();
+/// use barrowtide::{shorter, Hash, Reason};
+/// let bytes = [[0xaa; 32], [0xbb; 32]];
+/// let short = [&[0x00, 0x01, 0x02, 0x00, 0x02][..], &bytes[0], &[0x01, 0x00], &bytes[1]].concat();
+/// let [id, _] = bytes.map(Hash::from_stored);
 /// let long = [&[0xfd, 0x00, 0x01][..], &short[1..]].concat();
 /// assert_eq!(shorter(&long, &short, &id)?, &short[..]);
-/// assert_eq!(shorter(&long, &short, &[0; 32]).unwrap_err().reason, Reason::NotListed);
+/// assert_eq!(shorter(&long, &short, &Hash::default()).unwrap_err().reason, Reason::NotListed);
 /// # Ok::<(), barrowtide::Refusal>(())
 /// ```
 pub fn shorter<'a>(first: &'a [u8], second: &'a [u8], id: &Hash) -> Result<&'a [u8], Refusal> {
     let (mut blame, mut which, mut length) = (Blame::default(), 0, 0);
-    let number = ffi::shorter(first, second, id, &mut blame, &mut which, &mut length);
+    let number = ffi::shorter(first, second, id.stored(), &mut blame, &mut which, &mut length);
     let part = [first, second][which as usize];
     answer(number, blame, &part[..length as usize])
 }

@@ -1,8 +1,5 @@
-//! Hex text: of bytes as they stand, and of hashes in printed order.
-//!
-//! Printed order is the reverse of the stored order that all calls take and give.
-
-use crate::Hash;
+//! Hex text of bytes as they stand. That of a hash is in printed order: see
+//! [`Hash`](struct@crate::Hash).
 
 /// The bytes that hex digits stand for, white space between them left out; `None` for other text.
 ///
@@ -21,27 +18,14 @@ pub fn decode(text: &str) -> Option<Vec<u8>> {
     Some(digits.chunks_exact(2).map(|pair| (pair[0] << 4 | pair[1]) as u8).collect())
 }
 
-/// A hash in printed order, lower case.
+/// The hex digits of bytes as they stand, lower case.
 ///
 /// ```
-/// let mut id = [0; 32];
-/// id[31] = 0xab;
-/// assert!(barrowtide::hex::printed(&id).starts_with("ab00"));
+/// assert_eq!(barrowtide::hex::encode(&[0x01, 0x00, 0xbe, 0xef]), "0100beef");
 /// ```
-pub fn printed(hash: &Hash) -> String {
-    hash.iter().rev().map(|byte| format!("{byte:02x}")).collect()
-}
-
-/// The hash of a text in printed order; `None` unless it is 64 hex digits.
-///
-/// ```
-/// use barrowtide::hex::{parse_printed, printed};
-/// let id = std::array::from_fn(|i| i as u8);
-/// assert_eq!(parse_printed(&printed(&id)), Some(id));
-/// assert_eq!(parse_printed("ab"), None);
-/// ```
-pub fn parse_printed(text: &str) -> Option<Hash> {
-    let mut hash: Hash = decode(text)?.try_into().ok()?;
-    hash.reverse();
-    Some(hash)
+pub fn encode(bytes: &[u8]) -> String {
+    const DIGITS: &[u8; 16] = b"0123456789abcdef";
+    let pair =
+        |byte: &u8| [byte >> 4, byte & 15].map(|digit| char::from(DIGITS[usize::from(digit)]));
+    bytes.iter().flat_map(pair).collect()
 }

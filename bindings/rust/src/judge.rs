@@ -38,7 +38,7 @@ impl Record {
 
 /// Judges a bundle against a list of trusted roots, and fills a lent table.
 ///
-/// The roots stand end to end, 32 bytes each. The table has room for the bundle's transactions or
+/// The roots stand end to end in stored order, 32 bytes each. The table has room for the bundle's transactions or
 /// more ([`MAX_TRANSACTIONS`] always do). The answer is their number n: the first n records are
 /// filled, the others are zero. A refusal zeroes the whole table.
 ///
@@ -65,12 +65,12 @@ pub struct Verdict {
 /// Judges a bundle against trusted roots, with a table of its own.
 ///
 /// ```
-/// use barrowtide::{hex, judge};
+/// use barrowtide::{hex, judge, Hash};
 ///
 /// // The example bundle of BRC-62, and the Merkle root of the block that its parent is in.
 /// let bundle = hex::decode(&std::fs::read_to_string("tests/data/004-bundle.hex")?).unwrap();
 /// let root = "bb6f640cc4ee56bf38eb5a1969ac0c16caa2d3d202b22bf3735d10eec0ca6e00";
-/// let root = hex::parse_printed(root).unwrap();
+/// let root: Hash = root.parse().unwrap();
 ///
 /// let verdict = judge(&bundle, &[root]).expect("a sound bundle");
 /// assert_eq!(verdict.records.len(), 2);
@@ -80,7 +80,7 @@ pub struct Verdict {
 /// ```
 pub fn judge(data: &[u8], roots: &[Hash]) -> Result<Verdict, Refusal> {
     let mut records = vec![Record::default(); MAX_TRANSACTIONS];
-    let count = judge_beef(data, roots.as_flattened(), &mut records)?;
+    let count = judge_beef(data, &Hash::end_to_end(roots), &mut records)?;
     records.truncate(count as usize);
     Ok(Verdict { records })
 }

@@ -32,8 +32,9 @@
 //!
 //! # Byte order
 //!
-//! Ids, nodes and roots are [hashes](type@Hash) in stored byte order. What block explorers print is the
-//! reverse; [`hex`] turns one into the other.
+//! Ids, nodes and roots are [hashes](struct@Hash). Their text is in printed order, as block explorers
+//! show them; stored bytes, the reverse, come in by [`Hash::from_stored`] and go out by
+//! [`Hash::stored`]. The calls that take several end to end in lent bytes take stored order.
 #![deny(missing_docs)]
 #![deny(unsafe_code)]
 
@@ -64,7 +65,7 @@ pub use convert::{
     TSC_TO_BUMP_ROOM,
 };
 pub use difference::{differences, differences_into, shorter, Difference, Side, MAX_DIFFERENCES};
-pub use hash::{join, sha256d, Hash, MAX_INPUT};
+pub use hash::{join, sha256d, Hash, ParseHashError, MAX_INPUT};
 pub use judge::{judge, judge_beef, Record, Verdict, MAX_TRANSACTIONS};
 pub use page::{prove_page, prove_page_into, Answer, MAX_PAGE};
 pub use prove::{check_clients, prove_bump, prove_cmp, prove_tsc, Proof};

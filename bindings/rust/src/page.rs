@@ -43,19 +43,20 @@ impl Answer {
 
 /// Asks one BUMP about a page of ids, and fills a lent row of answers.
 ///
-/// The ids, up to [`MAX_PAGE`], stand end to end, 32 bytes each. Every id gets the answer that it
+/// The ids, up to [`MAX_PAGE`], stand end to end in stored order, 32 bytes each. Every id gets the answer that it
 /// gets singly, in order; answers past the ids are zero.
 ///
 /// Refused: 5 for more ids or a part of one, 22 for a row shorter than the ids, then as
 /// [`read_bump`](crate::read_bump). A refusal zeroes the whole row.
 ///
 /// ```
-/// use barrowtide::{join, prove_page_into, Answer};
-/// let (id, sibling) = ([0xaa; 32], [0xbb; 32]);
-/// let bump = [&[0x00, 0x01, 0x02, 0x00, 0x02][..], &id, &[0x01, 0x00], &sibling].concat();
+/// use barrowtide::{join, prove_page_into, Answer, Hash};
+/// let bytes = [[0xaa; 32], [0xbb; 32]];
+/// let bump = [&[0x00, 0x01, 0x02, 0x00, 0x02][..], &bytes[0], &[0x01, 0x00], &bytes[1]].concat();
+/// let [id, sibling] = bytes.map(Hash::from_stored);
 ///
 /// let mut row = [Answer { position: 7, ..Answer::default() }; 3];
-/// prove_page_into(&bump, &[id, [0xcc; 32]].concat(), &mut row)?;
+/// prove_page_into(&bump, &[bytes[0], [0xcc; 32]].concat(), &mut row)?;
 /// assert_eq!((row[0].refusal, row[0].layers, row[0].root), (0, 1, join(&id, &sibling)));
 /// assert_eq!(row[1], Answer { refusal: 13, ..Answer::default() });
 /// assert_eq!(row[2], Answer::default());
@@ -71,11 +72,12 @@ pub fn prove_page_into(data: &[u8], ids: &[u8], row: &mut [Answer]) -> Result<()
 /// [`prove_bump`](crate::prove_bump) gives singly, in order.
 ///
 /// ```
-/// use barrowtide::{prove_bump, prove_page, Reason};
-/// let (id, sibling) = ([0xaa; 32], [0xbb; 32]);
-/// let bump = [&[0x00, 0x01, 0x02, 0x00, 0x02][..], &id, &[0x01, 0x00], &sibling].concat();
+/// use barrowtide::{prove_bump, prove_page, Hash, Reason};
+/// let bytes = [[0xaa; 32], [0xbb; 32]];
+/// let bump = [&[0x00, 0x01, 0x02, 0x00, 0x02][..], &bytes[0], &[0x01, 0x00], &bytes[1]].concat();
+/// let [id, sibling] = bytes.map(Hash::from_stored);
 ///
-/// let page = prove_page(&bump, &[id, sibling, [0xcc; 32]])?;
+/// let page = prove_page(&bump, &[id, sibling, Hash::default()])?;
 /// assert_eq!(page[0], prove_bump(&bump, &id));
 /// assert_eq!(page[1], prove_bump(&bump, &sibling));
 /// assert_eq!(page[2].unwrap_err().reason, Reason::NotListed);
@@ -85,6 +87,6 @@ pub fn prove_page_into(data: &[u8], ids: &[u8], row: &mut [Answer]) -> Result<()
 /// ```
 pub fn prove_page(data: &[u8], ids: &[Hash]) -> Result<Vec<Result<Proof, Refusal>>, Refusal> {
     let mut row = vec![Answer::default(); ids.len()];
-    prove_page_into(data, ids.as_flattened(), &mut row)?;
+    prove_page_into(data, &Hash::end_to_end(ids), &mut row)?;
     Ok(row.iter().zip(ids).map(|(answer, id)| answer.proof(id)).collect())
 }

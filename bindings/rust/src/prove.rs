@@ -1,6 +1,6 @@
 //! Proving that an id is in a block.
 
-use crate::ffi::{self, Blame};
+use crate::ffi::{self, Blame, Stored};
 use crate::refusal::{answer, Refusal};
 use crate::Hash;
 
@@ -24,17 +24,18 @@ pub struct Proof {
 /// it has the value of the node on its left. What this can [cost](crate#cost) is bounded.
 ///
 /// ```
-/// use barrowtide::{join, prove_bump, Reason};
-/// let (id, sibling) = ([0xaa; 32], [0xbb; 32]);
-/// let bump = [&[0x00, 0x01, 0x02, 0x00, 0x02][..], &id, &[0x01, 0x00], &sibling].concat();
+/// use barrowtide::{join, prove_bump, Hash, Reason};
+/// let bytes = [[0xaa; 32], [0xbb; 32]];
+/// let bump = [&[0x00, 0x01, 0x02, 0x00, 0x02][..], &bytes[0], &[0x01, 0x00], &bytes[1]].concat();
+/// let [id, sibling] = bytes.map(Hash::from_stored);
 ///
 /// let proof = prove_bump(&bump, &id)?;
 /// assert_eq!((proof.position, proof.layers, proof.root), (0, 1, join(&id, &sibling)));
-/// assert_eq!(prove_bump(&bump, &[0xcc; 32]).unwrap_err().reason, Reason::NotListed);
+/// assert_eq!(prove_bump(&bump, &Hash::default()).unwrap_err().reason, Reason::NotListed);
 ///
 /// // Four leaves and nothing above them: the sibling at level 1 is the join of the other two.
-/// let ids = [0xa0, 0xa1, 0xa2, 0xa3].map(|byte| [byte; 32]);
-/// let leaf = |at: usize| [&[at as u8, 0x02][..], &ids[at]].concat();
+/// let ids = [0xa0, 0xa1, 0xa2, 0xa3].map(|byte| Hash::from_stored([byte; 32]));
+/// let leaf = |at: usize| [&[at as u8, 0x02][..], ids[at].stored()].concat();
 /// let merged = [vec![0x00, 0x02, 0x04], leaf(0), leaf(1), leaf(2), leaf(3), vec![0x00]].concat();
 /// let root = join(&join(&ids[0], &ids[1]), &join(&ids[2], &ids[3]));
 /// assert_eq!(prove_bump(&merged, &ids[2])?.root, root);
@@ -47,9 +48,10 @@ pub fn prove_bump(data: &[u8], id: &Hash) -> Result<Proof, Refusal> {
 /// Proves an id by a compound path, with siblings worked out as by a BUMP.
 ///
 /// ```
-/// use barrowtide::{join, prove_cmp};
-/// let (sibling, id) = ([0xaa; 32], [0xbb; 32]);
-/// let path = [&[0x00, 0x02, 0x00][..], &sibling, &[0x01], &id].concat();
+/// use barrowtide::{join, prove_cmp, Hash};
+/// let bytes = [[0xaa; 32], [0xbb; 32]];
+/// let path = [&[0x00, 0x02, 0x00][..], &bytes[0], &[0x01], &bytes[1]].concat();
+/// let [sibling, id] = bytes.map(Hash::from_stored);
 ///
 /// let proof = prove_cmp(&path, &id)?;
 /// assert_eq!((proof.position, proof.layers, proof.root), (1, 1, join(&sibling, &id)));
@@ -60,12 +62,12 @@ pub fn prove_cmp(data: &[u8], id: &Hash) -> Result<Proof, Refusal> {
 }
 
 /// A call that proves a lent id.
-type ProvePath = fn(&[u8], &Hash, &mut Blame, &mut u64, &mut u64, &mut Hash) -> u32;
+type ProvePath = fn(&[u8], &Stored, &mut Blame, &mut u64, &mut u64, &mut Stored) -> u32;
 
 fn prove_path(call: ProvePath, data: &[u8], id: &Hash) -> Result<Proof, Refusal> {
     let (mut blame, mut position, mut layers, mut root) = (Blame::default(), 0, 0, [0; 32]);
-    let number = call(data, id, &mut blame, &mut position, &mut layers, &mut root);
-    answer(number, blame, Proof { id: *id, position, layers, root })
+    let number = call(data, id.stored(), &mut blame, &mut position, &mut layers, &mut root);
+    answer(number, blame, Proof { id: *id, position, layers, root: Hash::from_stored(root) })
 }
 
 /// Proves a TSC proof's own id, the one written or its transaction's.
@@ -75,7 +77,7 @@ fn prove_path(call: ProvePath, data: &[u8], id: &Hash) -> Result<Proof, Refusal>
 /// // An id that is alone in its block is the root itself; here it is given as the target, too.
 /// let id = [0xaa; 32];
 /// let proof = [&[0x04, 0x00][..], &id, &id, &[0x00]].concat();
-/// assert_eq!(prove_tsc(&proof)?.root, id);
+/// assert_eq!(prove_tsc(&proof)?.root.stored(), &id);
 ///
 /// let other = [&[0x04, 0x00][..], &id, &[0xbb; 32], &[0x00]].concat();
 /// assert_eq!(prove_tsc(&other).unwrap_err().reason, Reason::RootsDiffer);
@@ -85,6 +87,7 @@ pub fn prove_tsc(data: &[u8]) -> Result<Proof, Refusal> {
     let (mut blame, mut position, mut layers) = (Blame::default(), 0, 0);
     let (mut id, mut root) = ([0; 32], [0; 32]);
     let number = ffi::prove_tsc(data, &mut blame, &mut id, &mut position, &mut layers, &mut root);
+    let (id, root) = (Hash::from_stored(id), Hash::from_stored(root));
     answer(number, blame, Proof { id, position, layers, root })
 }
 
@@ -94,13 +97,14 @@ pub fn prove_tsc(data: &[u8]) -> Result<Proof, Refusal> {
 /// most.
 ///
 /// ```
-/// use barrowtide::{check_clients, join};
-/// let (left, right) = ([0xaa; 32], [0xbb; 32]);
-/// let bump = [&[0x00, 0x01, 0x02, 0x00, 0x02][..], &left, &[0x01, 0x02], &right].concat();
+/// use barrowtide::{check_clients, join, Hash};
+/// let bytes = [[0xaa; 32], [0xbb; 32]];
+/// let bump = [&[0x00, 0x01, 0x02, 0x00, 0x02][..], &bytes[0], &[0x01, 0x02], &bytes[1]].concat();
+/// let [left, right] = bytes.map(Hash::from_stored);
 /// assert_eq!(check_clients(&bump), Ok(join(&left, &right)));
 /// ```
 pub fn check_clients(data: &[u8]) -> Result<Hash, Refusal> {
     let (mut blame, mut root) = (Blame::default(), [0; 32]);
     let number = ffi::check_clients(data, &mut blame, &mut root);
-    answer(number, blame, root)
+    answer(number, blame, Hash::from_stored(root))
 }

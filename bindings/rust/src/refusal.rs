@@ -196,13 +196,13 @@ pub(crate) fn answer<T>(number: u32, blame: Blame, value: T) -> Result<T, Refusa
 /// As the listing program writes it, then what is wrong.
 ///
 /// ```
-/// use barrowtide::{prove_bump, sha256d, MAX_INPUT};
+/// use barrowtide::{prove_bump, sha256d, Hash, MAX_INPUT};
 /// let refusal = sha256d(&vec![0; MAX_INPUT + 1]).unwrap_err();
 /// assert_eq!(refusal.to_string(), "refused 1 at 0: input over its size (TOO_LONG)");
 ///
 /// // An id at position 21 and nothing else.
-/// let id = [0xaa; 32];
-/// let bump = [&[0x00, 0x05, 0x01, 0x15, 0x02][..], &id, &[0x00; 4]].concat();
+/// let id = Hash::from_stored([0xaa; 32]);
+/// let bump = [&[0x00, 0x05, 0x01, 0x15, 0x02][..], id.stored(), &[0x00; 4]].concat();
 /// let refusal = prove_bump(&bump, &id).unwrap_err();
 /// assert_eq!((refusal.layer, refusal.sibling), (0, 20));
 /// let text = "refused 14 at 0: sibling 20 of layer 0 is missing (MISSING)";

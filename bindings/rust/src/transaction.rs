@@ -26,5 +26,5 @@ pub struct Transaction {
 pub fn read_transaction(data: &[u8]) -> Result<Transaction, Refusal> {
     let (mut blame, mut inputs, mut outputs, mut id) = (Blame::default(), 0, 0, [0; 32]);
     let number = ffi::read_transaction(data, &mut blame, &mut inputs, &mut outputs, &mut id);
-    answer(number, blame, Transaction { inputs, outputs, id })
+    answer(number, blame, Transaction { inputs, outputs, id: Hash::from_stored(id) })
 }

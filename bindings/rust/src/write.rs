@@ -2,6 +2,7 @@
 
 use crate::ffi::{self, Blame};
 use crate::refusal::{answer, Refusal};
+use crate::Hash;
 
 /// The greatest number of ids in the list that a BUMP is written of.
 pub const MAX_IDS: usize = 1_024;
@@ -51,20 +52,20 @@ pub fn write_bump_into(
 /// does.
 ///
 /// ```
-/// use barrowtide::{join, prove_bump, write_bump, Reason};
-/// let ids = [[0xaa; 32], [0xbb; 32], [0xcc; 32]];
-/// let bump = write_bump(814_435, ids.as_flattened(), &[2])?;
+/// use barrowtide::{join, prove_bump, write_bump, Hash, Reason};
+/// let ids = [[0xaa; 32], [0xbb; 32], [0xcc; 32]].map(Hash::from_stored);
+/// let bump = write_bump(814_435, &ids, &[2])?;
 ///
 /// let proof = prove_bump(&bump, &ids[2])?;
 /// assert_eq!((proof.position, proof.layers), (2, 2));
 /// assert_eq!(proof.root, join(&join(&ids[0], &ids[1]), &join(&ids[2], &ids[2])));
 ///
-/// let refusal = write_bump(814_435, ids.as_flattened(), &[3]).unwrap_err();
+/// let refusal = write_bump(814_435, &ids, &[3]).unwrap_err();
 /// assert_eq!(refusal.reason, Reason::BadOffset);
 /// # Ok::<(), barrowtide::Refusal>(())
 /// ```
-pub fn write_bump(block_height: u64, ids: &[u8], positions: &[u64]) -> Result<Vec<u8>, Refusal> {
+pub fn write_bump(block_height: u64, ids: &[Hash], positions: &[u64]) -> Result<Vec<u8>, Refusal> {
     let mut out = vec![0; WRITE_ROOM];
-    let written = write_bump_into(block_height, ids, positions, &mut out)?;
+    let written = write_bump_into(block_height, &Hash::end_to_end(ids), positions, &mut out)?;
     Ok(out[..written].to_vec())
 }

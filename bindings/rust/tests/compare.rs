@@ -27,11 +27,15 @@ fn lent(claim: &Claim, tsc: u32) -> Lent<'_> {
     }
 }
 
+fn from_stored(id: Hash) -> barrowtide::Hash {
+    barrowtide::Hash::from_stored(id)
+}
+
 /// The claim as the wrapper takes it.
 fn wrapped(claim: &Claim) -> barrowtide::Claim<'_> {
     match claim {
-        Claim::Bump(data, id) => barrowtide::Claim::Bump { data, id },
-        Claim::Cmp(data, id) => barrowtide::Claim::Cmp { data, id },
+        Claim::Bump(data, id) => barrowtide::Claim::Bump { data, id: from_stored(*id) },
+        Claim::Cmp(data, id) => barrowtide::Claim::Cmp { data, id: from_stored(*id) },
         Claim::Tsc(data) => barrowtide::Claim::Tsc { data },
     }
 }

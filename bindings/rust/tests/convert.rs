@@ -7,7 +7,7 @@ use std::fmt;
 
 use barrowtide::ffi::{self, Blame};
 use barrowtide::{check_clients, prove_bump, prove_tsc, read_bump, read_tsc, write_bump};
-use barrowtide::{Bump, Hash, Tsc, BUMP_TO_TSC_ROOM, MAX_INPUT, TSC_TO_BUMP_ROOM};
+use barrowtide::{Bump, Tsc, BUMP_TO_TSC_ROOM, MAX_INPUT, TSC_TO_BUMP_ROOM};
 use common::{expected, plain, FILL, GUARDED};
 use reference::convert;
 use reference::generate::damage::{field_edits, random_edit, truncations};
@@ -19,8 +19,17 @@ use reference::generate::{transaction, tsc};
 use reference::hex::{encode, expand, show};
 use reference::refusal::Refusal;
 use reference::sha256::join;
+use reference::Hash;
 
 type Answer = Result<Vec<u8>, Refusal>;
+
+fn from_stored(id: &Hash) -> barrowtide::Hash {
+    barrowtide::Hash::from_stored(*id)
+}
+
+fn all_stored(ids: &[Hash]) -> Vec<barrowtide::Hash> {
+    ids.iter().map(from_stored).collect()
+}
 
 /// A call.
 #[derive(Clone, Copy)]
@@ -52,7 +61,7 @@ impl Turn<'_> {
     fn into(self, out: &mut [u8]) -> Result<usize, Refusal> {
         match self {
             Turn::ToBump(data, height) => barrowtide::tsc_to_bump_into(data, height, out),
-            Turn::ToTsc(data, id) => barrowtide::bump_to_tsc_into(data, id, out),
+            Turn::ToTsc(data, id) => barrowtide::bump_to_tsc_into(data, &from_stored(id), out),
         }
         .map_err(plain)
     }
@@ -61,7 +70,7 @@ impl Turn<'_> {
     fn whole(self) -> Answer {
         match self {
             Turn::ToBump(data, height) => barrowtide::tsc_to_bump(data, height),
-            Turn::ToTsc(data, id) => barrowtide::bump_to_tsc(data, id),
+            Turn::ToTsc(data, id) => barrowtide::bump_to_tsc(data, &from_stored(id)),
         }
         .map_err(plain)
     }
@@ -138,7 +147,7 @@ fn to_bump(data: &[u8], block_height: u32) -> Answer {
     assert_eq!(read_bump(bump), Ok(read), "{}", show(data));
     assert_eq!(prove_bump(bump, &proof.id), Ok(proof), "{}", show(data));
     assert_eq!(check_clients(bump), Ok(proof.root), "{}", show(data));
-    let back = check(Turn::ToTsc(bump, &proof.id)).expect("an accepted proof");
+    let back = check(Turn::ToTsc(bump, proof.id.stored())).expect("an accepted proof");
     assert_eq!(prove_tsc(&back), Ok(proof), "{}", show(data));
     assert!(data[0] != 4 || back == data, "{}; back {}", show(data), show(&back));
     answer
@@ -148,7 +157,7 @@ fn to_bump(data: &[u8], block_height: u32) -> Answer {
 /// that proves the same, also if turned back and once more.
 fn to_tsc(data: &[u8], id: &Hash) -> Answer {
     let answer = check(Turn::ToTsc(data, id));
-    let proof = match prove_bump(data, id) {
+    let proof = match prove_bump(data, &from_stored(id)) {
         Err(refusal) => {
             assert_eq!(answer, Err(plain(refusal)), "{}", show(data));
             return answer;
@@ -161,7 +170,7 @@ fn to_tsc(data: &[u8], id: &Hash) -> Answer {
     assert_eq!(prove_tsc(made), Ok(proof), "{}", show(data));
     let block_height = read_bump(data).expect("a BUMP").block_height as u32;
     let back = check(Turn::ToBump(made, block_height)).expect("an accepted proof");
-    assert_eq!(prove_bump(&back, id), Ok(proof), "{}", show(data));
+    assert_eq!(prove_bump(&back, &from_stored(id)), Ok(proof), "{}", show(data));
     assert_eq!(Turn::ToTsc(&back, id).whole().as_ref(), Ok(made), "{}", show(data));
     answer
 }
@@ -293,9 +302,9 @@ fn every_id_of_small_trees() {
         let ids: Vec<Hash> = spent.iter().map(transaction::Plan::id).collect();
         let tree = Tree::new(ids.clone());
         let all: Vec<u64> = (0..count as u64).collect();
-        let block = write_bump(7, ids.as_flattened(), &all).expect("a sound list");
+        let block = write_bump(7, &all_stored(&ids), &all).expect("a sound list");
         for (&position, own) in all.iter().zip(&spent) {
-            let single = write_bump(7, ids.as_flattened(), &[position]).map_err(plain);
+            let single = write_bump(7, &all_stored(&ids), &[position]).map_err(plain);
             for kind in [0, 2, 4] {
                 let mut proof = tsc::Plan::of(&tree, position);
                 proof.aim(kind, &mut random);
@@ -322,10 +331,10 @@ fn large_blocks() {
         let tree = Tree::random(&mut random, count);
         let ids = tree.ids();
         let all: Vec<u64> = (0..count as u64).collect();
-        let block = write_bump(1, ids.as_flattened(), &all).expect("a sound list");
+        let block = write_bump(1, &all_stored(ids), &all).expect("a sound list");
         for position in [0, 1, random.index(count), count - 2, count - 1] {
             let proof = tsc::Plan::of(&tree, position as u64).draft().bytes;
-            let single = write_bump(1, ids.as_flattened(), &[position as u64]).map_err(plain);
+            let single = write_bump(1, &all_stored(ids), &[position as u64]).map_err(plain);
             assert_eq!(to_tsc(&block, &ids[position]), Ok(proof.clone()));
             assert_eq!(to_bump(&proof, 1), single);
         }

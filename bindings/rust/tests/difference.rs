@@ -2,7 +2,7 @@
 
 mod common;
 
-use barrowtide::{ffi, read_bump, Difference, Hash, Side, MAX_DIFFERENCES, MAX_INPUT};
+use barrowtide::{ffi, read_bump, Difference, Side, MAX_DIFFERENCES, MAX_INPUT};
 use common::{expected, plain, FILL, GUARDED};
 use reference::difference::{differences, shorter, Entry};
 use reference::generate::damage::{field_edits, random_edit, truncations};
@@ -13,6 +13,7 @@ use reference::generate::tree::Tree;
 use reference::hex::{encode, expand, show};
 use reference::refusal::Refusal;
 use reference::sha256::join;
+use reference::Hash;
 
 type List = Result<Vec<Entry>, Refusal>;
 
@@ -88,7 +89,8 @@ fn check_shorter(first: &[u8], second: &[u8], id: &Hash) -> Result<usize, Refusa
         describe()
     );
 
-    let safe = barrowtide::shorter(first, second, id).map_err(plain);
+    let safe =
+        barrowtide::shorter(first, second, &barrowtide::Hash::from_stored(*id)).map_err(plain);
     let bytes = told.map(|which| [first, second][which]);
     assert_eq!(safe, bytes, "{}", describe());
     assert_eq!(safe.map(<[u8]>::as_ptr), bytes.map(<[u8]>::as_ptr), "{}", describe());

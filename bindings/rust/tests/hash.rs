@@ -14,12 +14,13 @@ fn check_hash(data: &[u8]) {
     let (mut guarded, mut digest) = (GUARDED, [0xa5; 32]);
     let number = ffi::sha256d(data, &mut guarded.blame, &mut digest);
     assert_eq!((number, guarded, digest), expected(told, [0xa5; 32]), "{}", show(data));
-    assert_eq!(barrowtide::sha256d(data).map_err(plain), told, "{}", show(data));
+    let safe = barrowtide::sha256d(data).map(|digest| *digest.stored());
+    assert_eq!(safe.map_err(plain), told, "{}", show(data));
 }
 
 #[test]
 fn published_values() {
-    let hash = |data: &[u8]| hex::printed(&barrowtide::sha256d(data).unwrap());
+    let hash = |data: &[u8]| barrowtide::sha256d(data).unwrap().to_string();
     let genesis =
         "0100000000000000000000000000000000000000000000000000000000000000000000003ba3edfd7a7b\
                    12b27ac72c3e67768f617fc81bc3888a51323a9fb8aa4b1e5e4a29ab5f49ffff001d1dac2b7c";
@@ -66,7 +67,8 @@ fn chains_of_joins() {
         let mut parent = [0xa5; 32];
         ffi::join(&left, &right, &mut parent);
         assert_eq!(parent, sha256::join(&left, &right), "turn {turn}");
-        assert_eq!(parent, barrowtide::join(&left, &right), "turn {turn}");
+        let safe = barrowtide::join(&Hash::from_stored(left), &Hash::from_stored(right));
+        assert_eq!(&parent, safe.stored(), "turn {turn}");
         if parent[0] % 2 == 0 {
             left = parent;
         } else {
@@ -77,13 +79,15 @@ fn chains_of_joins() {
 
 #[test]
 fn joins_of_simple_nodes() {
-    let nodes: Vec<Hash> = vec![[0; 32], [0xff; 32], [0x80; 32], std::array::from_fn(|i| i as u8)];
+    let nodes = [[0; 32], [0xff; 32], [0x80; 32], std::array::from_fn(|i| i as u8)];
+    let nodes = nodes.map(Hash::from_stored);
     for left in &nodes {
         for right in &nodes {
-            assert_eq!(barrowtide::join(left, right), sha256::join(left, right));
+            let told = sha256::join(left.stored(), right.stored());
+            assert_eq!(barrowtide::join(left, right).stored(), &told);
             assert_eq!(
                 Ok(barrowtide::join(left, right)),
-                barrowtide::sha256d(&[*left, *right].concat())
+                barrowtide::sha256d(&Hash::end_to_end(&[*left, *right]))
             );
         }
     }

@@ -10,7 +10,7 @@ use reference::generate::random::{rounds, Random};
 use reference::generate::tally::Tally;
 use reference::generate::tree::Tree;
 use reference::generate::{path, transaction};
-use reference::hex::{decode, expand, printed, show};
+use reference::hex::{decode, expand, show};
 use reference::judge;
 use reference::refusal::Refusal;
 use reference::sha256::{join, sha256d};
@@ -22,7 +22,7 @@ const PRESET: u8 = 0xa5;
 const FILLED: Record = Record {
     start: FILL,
     length: FILL,
-    id: [PRESET; 32],
+    id: barrowtide::Hash::from_stored([PRESET; 32]),
     bump: 0xa5a5_a5a5,
     anchored: 0xa5a5_a5a5,
     position: FILL,
@@ -57,6 +57,7 @@ fn check(data: &[u8], roots: &[u8], room: usize) -> Result<Vec<Record>, Refusal>
 fn record(told: judge::Record) -> Record {
     let judge::Record { start, length, id, anchored, bump, position } = told;
     let bump = bump.try_into().expect("at most 64 BUMPs");
+    let id = barrowtide::Hash::from_stored(id);
     Record { start, length, id, bump, anchored: anchored.into(), position }
 }
 
@@ -84,8 +85,8 @@ fn published_bundle() {
     assert_eq!(summary(&records[0]), (291, 192, true, 0, 21));
     assert_eq!(summary(&records[1]), (485, 191, false, 0, 0));
     let parent = "3ecead27a44d013ad1aae40038acbb1883ac9242406808bb4667c15b4f164eac";
-    assert_eq!(printed(&records[0].id), parent);
-    assert_eq!(records[1].id, sha256d(&bundle[485..676]));
+    assert_eq!(records[0].id.to_string(), parent);
+    assert_eq!(records[1].id.stored(), &sha256d(&bundle[485..676]));
 
     assert_eq!(check(&bundle, &[], 2), refused(17, 0));
     assert_eq!(check(&bundle, &[0; 64], 2), refused(17, 0));
@@ -143,10 +144,11 @@ fn sound_bundles() {
         let mut plan = Plan::random(&mut random, count);
         let records = check_plan(&plan).expect("a sound bundle");
         for (record, (transaction, anchor)) in records.iter().zip(&plan.entries) {
-            assert_eq!(record.id, transaction.id());
+            assert_eq!(record.id.stored(), &transaction.id());
             assert_eq!(record.is_anchored().then_some(record.bump.into()), *anchor);
         }
-        let verdict = barrowtide::judge(&plan.draft().bytes, &plan.roots).unwrap();
+        let roots: Vec<_> = plan.roots.iter().copied().map(barrowtide::Hash::from_stored).collect();
+        let verdict = barrowtide::judge(&plan.draft().bytes, &roots).unwrap();
         assert_eq!(verdict.records, records);
         // The last of several is not anchored; its last input must have a parent, too.
         if count > 1 {

@@ -7,9 +7,9 @@ mod met;
 #[path = "common/proofs.rs"]
 mod proofs;
 
-use barrowtide::{prove_bump, prove_page, Hash, Proof};
+use barrowtide::{prove_bump, prove_page};
 use met::Seen;
-use proofs::{check_bump, check_clients, check_cmp, number};
+use proofs::{check_bump, check_clients, check_cmp, number, stored, Proof};
 use reference::climb::beside;
 use reference::generate::damage::random_edit;
 use reference::generate::path::{Leaf, Plan};
@@ -20,6 +20,7 @@ use reference::hex::{expand, show};
 use reference::prove;
 use reference::refusal::Refusal;
 use reference::sha256::join;
+use reference::Hash;
 
 #[test]
 fn examples() {
@@ -201,7 +202,8 @@ fn thinned_paths() {
             let proved = Proof { id, position, layers, root: tree.root() };
             assert_eq!(check_bump(&bump, &id), Ok(proved));
             assert_eq!(check_cmp(&cmp, &id), Ok(proved));
-            assert_eq!(prove_page(&bump, &[id]), Ok(vec![Ok(proved)]));
+            let page = prove_page(&bump, &[barrowtide::Hash::from_stored(id)]).unwrap();
+            assert_eq!(page[0].map(stored), Ok(proved));
         }
     }
 }
@@ -223,9 +225,10 @@ fn grown_paths() {
         tally.note(check_bump(&bump.bytes, &id));
         tally.note(check_cmp(&cmp.bytes, &id));
         tally.note(check_clients(&bump.bytes));
+        let own = barrowtide::Hash::from_stored(id);
         assert_eq!(
-            prove_page(&bump.bytes, &[id]).map(|page| page[0]).and_then(|answer| answer),
-            prove_bump(&bump.bytes, &id),
+            prove_page(&bump.bytes, &[own]).map(|page| page[0]).and_then(|answer| answer),
+            prove_bump(&bump.bytes, &own),
             "{}",
             show(&bump.bytes)
         );

@@ -3,7 +3,7 @@
 
 mod common;
 
-use barrowtide::{ffi, prove_bump, Answer, Hash, MAX_INPUT, MAX_PAGE};
+use barrowtide::{ffi, prove_bump, Answer, MAX_INPUT, MAX_PAGE};
 use common::{expected, plain, FILL, GUARDED};
 use reference::generate::damage::{field_edits, random_edit, truncations};
 use reference::generate::path::Plan;
@@ -14,6 +14,7 @@ use reference::hex::{encode, expand, show};
 use reference::page;
 use reference::refusal::Refusal;
 use reference::sha256::join;
+use reference::Hash;
 
 /// What every answer of a lent row holds before the call.
 const FILLED: Answer = Answer {
@@ -23,7 +24,7 @@ const FILLED: Answer = Answer {
     sibling: FILL,
     position: FILL,
     layers: FILL,
-    root: [0xa5; 32],
+    root: barrowtide::Hash::from_stored([0xa5; 32]),
 };
 
 /// Compares the call's answer and a whole row of `room` answers; gives the row.
@@ -48,17 +49,19 @@ fn check(data: &[u8], ids: &[u8], room: usize) -> Result<Vec<Answer>, Refusal> {
 
 fn answer(told: page::Answer) -> Answer {
     let page::Answer { refusal, carried, layer, sibling, position, layers, root } = told;
+    let root = barrowtide::Hash::from_stored(root);
     Answer { refusal, carried, layer, sibling, position, layers, root }
 }
 
 /// Compares a page of whole ids with room enough, and each of its answers with asking singly.
 fn check_ids(data: &[u8], ids: &[Hash]) -> Result<Vec<Answer>, Refusal> {
     let answers = check(data, ids.as_flattened(), ids.len());
-    let safe = barrowtide::prove_page(data, ids).map_err(plain);
+    let ids: Vec<_> = ids.iter().copied().map(barrowtide::Hash::from_stored).collect();
+    let safe = barrowtide::prove_page(data, &ids).map_err(plain);
     match (&answers, safe) {
         (Ok(answers), Ok(proofs)) => {
             assert_eq!((answers.len(), proofs.len()), (ids.len(), ids.len()));
-            for ((answer, proof), id) in answers.iter().zip(proofs).zip(ids) {
+            for ((answer, proof), id) in answers.iter().zip(proofs).zip(&ids) {
                 let singly = prove_bump(data, id);
                 assert_eq!((answer.proof(id), proof), (singly, singly), "{}", show(data));
             }
@@ -119,7 +122,7 @@ fn sizes() {
     let ids = tree.ids();
     for count in [0, 1, 2, 100, 255, 256] {
         let answers = check_ids(&bump, &ids[..count]).expect("a sound path");
-        assert!(answers.iter().all(|answer| answer.root == tree.root()));
+        assert!(answers.iter().all(|answer| answer.root.stored() == &tree.root()));
         for room in [0, count.saturating_sub(1), count + 1, 300] {
             let answered = check(&bump, ids[..count].as_flattened(), room).is_ok();
             assert_eq!(answered, room >= count);
@@ -187,7 +190,7 @@ fn random_pages() {
         let ids = some_ids(&mut random, &plan);
         let bytes = plan.bump().bytes;
         for answer in check_ids(&bytes, &ids).unwrap_or_default() {
-            rows.note(answer.proof(&[0; 32]).map_err(plain));
+            rows.note(answer.proof(&barrowtide::Hash::default()).map_err(plain));
         }
         let mut list = ids.concat();
         if random.one_in(4) {

@@ -5,9 +5,9 @@ mod common;
 #[path = "common/proofs.rs"]
 mod proofs;
 
-use barrowtide::{ffi, Hash, Proof, MAX_INPUT};
+use barrowtide::{ffi, MAX_INPUT};
 use common::{expected, plain, GUARDED};
-use proofs::{check_bump, check_clients, check_cmp, fill, number, proof, Answer};
+use proofs::{check_bump, check_clients, check_cmp, fill, number, proof, stored, Answer, Proof};
 use reference::generate::damage::{field_edits, random_edit, truncations};
 use reference::generate::path::{Leaf, Plan};
 use reference::generate::random::{rounds, Random};
@@ -17,6 +17,7 @@ use reference::generate::tsc;
 use reference::hex::{decode, expand, printed, show};
 use reference::prove;
 use reference::refusal::Refusal;
+use reference::Hash;
 
 fn check_tsc(data: &[u8]) -> Answer {
     let told = prove::by_tsc(data).map(proof);
@@ -24,7 +25,7 @@ fn check_tsc(data: &[u8]) -> Answer {
     let Proof { id, position, layers, root } = &mut lent;
     let number = ffi::prove_tsc(data, &mut guarded.blame, id, position, layers, root);
     assert_eq!((number, guarded, lent), expected(told, fill([0xa5; 32])), "{}", show(data));
-    assert_eq!(barrowtide::prove_tsc(data).map_err(plain), told, "{}", show(data));
+    assert_eq!(barrowtide::prove_tsc(data).map(stored).map_err(plain), told, "{}", show(data));
     told
 }
 

@@ -2,7 +2,7 @@
 
 mod common;
 
-use barrowtide::{ffi, Beef, Transaction, Tsc, MAX_INPUT};
+use barrowtide::{ffi, Beef, Hash, Transaction, Tsc, MAX_INPUT};
 use common::{expected, plain, FILL, GUARDED};
 use reference::generate::damage::{all_strings, field_edits, random_edit, truncations};
 use reference::generate::draft::Draft;
@@ -17,17 +17,18 @@ fn check_transaction(data: &[u8]) -> Result<Transaction, Refusal> {
     let told = transaction::read(data).map(|read| Transaction {
         inputs: read.inputs.len() as u64,
         outputs: read.outputs.len() as u64,
-        id: read.id,
+        id: Hash::from_stored(read.id),
     });
-    let fill = Transaction { inputs: FILL, outputs: FILL, id: [0xa5; 32] };
-    let (mut guarded, mut lent) = (GUARDED, fill);
+    let fill = Transaction { inputs: FILL, outputs: FILL, id: Hash::from_stored([0xa5; 32]) };
+    let (mut guarded, mut lent, mut id) = (GUARDED, fill, [0xa5; 32]);
     let number = ffi::read_transaction(
         data,
         &mut guarded.blame,
         &mut lent.inputs,
         &mut lent.outputs,
-        &mut lent.id,
+        &mut id,
     );
+    lent.id = Hash::from_stored(id);
     assert_eq!((number, guarded, lent), expected(told, fill), "{}", show(data));
     assert_eq!(barrowtide::read_transaction(data).map_err(plain), told, "{}", show(data));
     told

@@ -1,14 +1,16 @@
 //! To and from TSC proofs.
 
-use barrowtide::{bump_to_tsc_into, tsc_to_bump_into, write_bump, Hash, TSC_TO_BUMP_ROOM};
+use barrowtide::{tsc_to_bump_into, TSC_TO_BUMP_ROOM};
 use reference::convert::{bump_to_tsc, tsc_to_bump};
 use reference::generate::path::Plan;
 use reference::generate::random::Random;
 use reference::generate::tree::Tree;
 use reference::generate::tsc;
+use reference::Hash;
 
 use crate::joins::{heading_beside, print};
 use crate::measure::{seconds, subject, Subject};
+use crate::stored::{bump_to_tsc_into, prove_bump, write_bump};
 
 /// Prints the table of turning proofs, beside the proof alone.
 pub fn run() {
@@ -31,7 +33,7 @@ pub fn run() {
     );
     back("BUMP to TSC proof", &bump, id, &proof);
     let all: Vec<u64> = (0..1_024).collect();
-    let merged = write_bump(1, tree.ids().as_flattened(), &all).expect("a sound list");
+    let merged = write_bump(1, tree.ids(), &all).expect("a sound list");
     back("merged BUMP of 1,024 clients to TSC proof", &merged, id, &proof);
 }
 
@@ -44,7 +46,7 @@ fn back(name: &str, bump: &[u8], id: &Hash, proof: &[u8]) {
         name,
         subject(|| bump_to_tsc_into(bump, id, &mut out)),
         subject(|| bump_to_tsc(bump, id, proof.len())),
-        subject(|| barrowtide::prove_bump(bump, id)),
+        subject(|| prove_bump(bump, id)),
     );
 }
 

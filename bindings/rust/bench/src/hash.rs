@@ -1,10 +1,12 @@
 //! The hash: one great message, many small ones, and joins.
 
-use barrowtide::{Hash, MAX_INPUT};
+use barrowtide::MAX_INPUT;
 use reference::generate::random::Random;
 use reference::sha256;
+use reference::Hash;
 
 use crate::measure::{seconds, subject, time, Subject};
+use crate::stored;
 use crate::yardstick::{plain, OpenSsl};
 
 /// Prints the table of the hash.
@@ -25,10 +27,10 @@ pub fn run() {
 }
 
 fn message(openssl: Option<OpenSsl>, name: &str, data: &[u8]) {
-    let digest = barrowtide::sha256d(data);
+    let digest = stored::sha256d(data);
     assert_eq!(digest, Ok(plain(data)));
     let mut subjects = vec![
-        subject(|| barrowtide::sha256d(data)),
+        subject(|| stored::sha256d(data)),
         subject(|| plain(data)),
         subject(|| sha256::hash(data)),
     ];
@@ -46,7 +48,7 @@ fn join(openssl: Option<OpenSsl>, data: &[u8]) {
         std::array::from_fn(|i| if i < 32 { left[i] } else { right[i - 32] })
     };
     let mut subjects = vec![
-        chain(move |left| barrowtide::join(&left, &right)),
+        chain(move |left| stored::join(&left, &right)),
         chain(move |left| plain(&pair(&left))),
         chain(move |left| sha256::join(&left, &right)),
     ];

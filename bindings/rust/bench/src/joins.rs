@@ -1,10 +1,9 @@
 //! Tables of calls whose work is known in joins: beside the reference, beside the joins alone, and
 //! beside as many by OpenSSL.
 
-use barrowtide::join;
-
 use crate::measure::{seconds, subject, time, Subject};
 use crate::read::seconds_of;
+use crate::stored::join;
 use crate::yardstick::OpenSsl;
 
 /// Prints the heading of such a table.

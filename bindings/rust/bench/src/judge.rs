@@ -1,16 +1,18 @@
 //! Judging bundles.
 
-use barrowtide::{join, sha256d, Hash, Record};
+use barrowtide::Record;
 use reference::generate::bundle::Plan;
 use reference::generate::random::Random;
 use reference::generate::tree::Tree;
 use reference::generate::{path, transaction};
 use reference::judge::judge;
+use reference::Hash;
 use reference::{beef, hex};
 
 use crate::measure::{seconds, subject, time};
 use crate::prove::buried;
 use crate::read::{falling, heading, row, seconds_of};
+use crate::stored::{join, sha256d};
 
 /// Prints the tables of bundles.
 pub fn run() {

@@ -15,6 +15,7 @@ mod page;
 mod prove;
 mod read;
 mod stack;
+mod stored;
 mod write;
 mod yardstick;
 

@@ -1,15 +1,17 @@
 //! Paths whose inner nodes are left out: the inputs that make the most joins.
 
-use barrowtide::{Hash, Record};
+use barrowtide::Record;
 use reference::generate::path::{Leaf, Plan};
 use reference::generate::random::Random;
 use reference::generate::tree::Tree;
 use reference::generate::{bundle, transaction};
 use reference::judge::judge;
 use reference::prove;
+use reference::Hash;
 
 use crate::joins::{heading, long_row, row};
 use crate::measure::subject;
+use crate::stored::{check_clients, prove_bump};
 
 /// Prints the table of such paths.
 pub fn run() {
@@ -46,11 +48,11 @@ fn clients_alone(random: &mut Random, order: &str) {
     one_id(&format!("1,024 clients alone, {order}"), &path, 777, 1_023);
 
     let bump = path.bump().bytes;
-    assert_eq!(barrowtide::prove_bump(&bump, &tree.ids()[777]).map(|p| p.root), Ok(tree.root()));
+    assert_eq!(prove_bump(&bump, &tree.ids()[777]).map(|p| p.root), Ok(tree.root()));
     long_row(
         "  check_clients",
         1_024 * 1_023,
-        subject(|| barrowtide::check_clients(&bump)),
+        subject(|| check_clients(&bump)),
         subject(|| prove::all_clients(&bump)),
     );
     let plan = bundle::Plan { bumps: vec![path], entries, roots: vec![tree.root()] };
@@ -69,11 +71,11 @@ fn clients_alone(random: &mut Random, order: &str) {
 fn one_id(name: &str, path: &Plan, position: u64, joins: usize) {
     let bump = path.bump().bytes;
     let id = path.leaf(0, position).expect("a client").hash;
-    assert_eq!(barrowtide::prove_bump(&bump, &id).map(|p| p.position), Ok(position));
+    assert_eq!(prove_bump(&bump, &id).map(|p| p.position), Ok(position));
     row(
         &format!("{name}, {} KB", bump.len() / 1_000),
         joins,
-        subject(|| barrowtide::prove_bump(&bump, &id)),
+        subject(|| prove_bump(&bump, &id)),
         subject(|| prove::by_bump(&bump, &id)),
     );
 }

@@ -1,10 +1,11 @@
 //! Pages of ids against one BUMP.
 
-use barrowtide::{prove_page_into, Answer, Hash, MAX_PAGE};
+use barrowtide::{prove_page_into, Answer, MAX_PAGE};
 use reference::generate::path::Plan;
 use reference::generate::random::Random;
 use reference::generate::tree::Tree;
 use reference::page::prove_page;
+use reference::Hash;
 
 use crate::joins::{heading, row};
 use crate::measure::subject;
@@ -35,7 +36,7 @@ fn compare(name: &str, path: &Plan, ids: &[Hash], root: Hash) {
     let (bump, ids) = (path.bump().bytes, ids.as_flattened());
     let mut answers = [Answer::default(); MAX_PAGE];
     assert_eq!(prove_page_into(&bump, ids, &mut answers), Ok(()));
-    assert!(answers.iter().all(|answer| answer.root == root));
+    assert!(answers.iter().all(|answer| answer.root.stored() == &root));
     row(
         name,
         MAX_PAGE * path.levels.len(),

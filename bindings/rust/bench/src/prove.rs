@@ -1,14 +1,15 @@
 //! Proving an id by each form.
 
-use barrowtide::{join, Hash};
 use reference::generate::path::{Leaf, Plan};
 use reference::generate::random::Random;
 use reference::generate::tree::Tree;
 use reference::generate::tsc;
 use reference::prove;
+use reference::Hash;
 
 use crate::measure::{seconds, subject, Subject};
 use crate::read::{falling, heading, row, seconds_of};
+use crate::stored::{check_clients, join, prove_bump, prove_cmp};
 
 /// Prints the tables of proofs.
 pub fn run() {
@@ -18,7 +19,7 @@ pub fn run() {
     let path = Plan::of(&tree, &[position]);
     let (bump, cmp) = (path.bump().bytes, path.cmp().bytes);
     let proof = tsc::Plan::of(&tree, position).draft().bytes;
-    assert_eq!(barrowtide::prove_bump(&bump, &id).map(|proof| proof.root), Ok(tree.root()));
+    assert_eq!(prove_bump(&bump, &id).map(|proof| proof.root), Ok(tree.root()));
 
     println!("\nProofs of one id in a block of 1,024 (10 layers)");
     println!(
@@ -35,16 +36,8 @@ pub fn run() {
             100.0 * 10.0 * times[2] / times[0]
         );
     };
-    table(
-        "by BUMP",
-        subject(|| barrowtide::prove_bump(&bump, &id)),
-        subject(|| prove::by_bump(&bump, &id)),
-    );
-    table(
-        "by CMP",
-        subject(|| barrowtide::prove_cmp(&cmp, &id)),
-        subject(|| prove::by_cmp(&cmp, &id)),
-    );
+    table("by BUMP", subject(|| prove_bump(&bump, &id)), subject(|| prove::by_bump(&bump, &id)));
+    table("by CMP", subject(|| prove_cmp(&cmp, &id)), subject(|| prove::by_cmp(&cmp, &id)));
     table("by TSC", subject(|| barrowtide::prove_tsc(&proof)), subject(|| prove::by_tsc(&proof)));
     worst_cases(&tree);
 }
@@ -56,7 +49,7 @@ fn worst_cases(tree: &Tree) {
     for height in [32, 64] {
         let (path, root) = buried(tree, &[0], height);
         let bytes = path.bump().bytes;
-        let prove = || barrowtide::prove_bump(&bytes, &id).map(|proof| proof.root);
+        let prove = || prove_bump(&bytes, &id).map(|proof| proof.root);
         row(
             &format!("prove_bump, {height} levels of 1,024 falling leaves"),
             bytes.len(),
@@ -68,7 +61,7 @@ fn worst_cases(tree: &Tree) {
         row(
             "check_clients, the same with 1,024 clients",
             bytes.len(),
-            seconds_of(|| assert_eq!(barrowtide::check_clients(&bytes), Ok(root))),
+            seconds_of(|| assert_eq!(check_clients(&bytes), Ok(root))),
             seconds_of(|| prove::all_clients(&bytes).expect("sound proofs")),
         );
     }

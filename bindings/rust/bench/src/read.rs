@@ -1,10 +1,11 @@
 //! Reading paths, and searching in what was read.
 
-use barrowtide::{prove_page_into, Answer, Hash, MAX_PAGE};
+use barrowtide::{prove_page_into, Answer, MAX_PAGE};
 use reference::generate::path::{Leaf, Plan};
 use reference::generate::random::Random;
 use reference::generate::tree::Tree;
 use reference::page::prove_page;
+use reference::Hash;
 use reference::{bump, generate, tsc};
 
 use crate::measure::{seconds, subject, time, time_of};

@@ -2,12 +2,12 @@
 
 use std::ffi::{c_char, CStr};
 
-use barrowtide::prove_bump;
 use reference::generate::random::Random;
 use reference::generate::tree::Tree;
 use reference::generate::{bundle, transaction, tsc};
 
 use crate::merged::copied;
+use crate::stored::prove_bump;
 
 extern "C" {
     fn stack_of(

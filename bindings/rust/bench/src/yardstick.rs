@@ -3,7 +3,7 @@
 use std::ffi::{c_char, c_int, c_void, CStr};
 use std::mem::transmute;
 
-use barrowtide::Hash;
+use reference::Hash;
 
 extern "C" {
     fn plain_sha256d(data: *const u8, len: usize, digest: *mut u8);

@@ -1,7 +1,7 @@
 //! Reading raw transactions, TSC proofs and BEEF bundles.
 
 use super::Blame;
-use crate::Hash;
+use super::Stored;
 
 extern "C" {
     fn barrowtide_read_transaction(
@@ -35,7 +35,7 @@ pub fn read_transaction(
     blame: &mut Blame,
     inputs: &mut u64,
     outputs: &mut u64,
-    id: &mut Hash,
+    id: &mut Stored,
 ) -> u32 {
     let id = id.as_mut_ptr();
     // SAFETY: the call reads `data` within its length and writes a blame, two u64 and 32 bytes,

@@ -1,7 +1,7 @@
 //! Comparing two proofs.
 
 use super::Blame;
-use crate::Hash;
+use super::Stored;
 
 extern "C" {
     fn barrowtide_compare(
@@ -27,7 +27,7 @@ pub struct Lent<'a> {
     /// The proof's bytes.
     pub data: &'a [u8],
     /// The id to prove; not looked at for a TSC proof.
-    pub id: &'a Hash,
+    pub id: &'a Stored,
 }
 
 /// `barrowtide_compare`: the 64 bytes that each of two proofs hashed where they first meet.

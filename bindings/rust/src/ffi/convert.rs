@@ -1,7 +1,7 @@
 //! To and from TSC proofs.
 
 use super::Blame;
-use crate::Hash;
+use super::Stored;
 
 extern "C" {
     fn barrowtide_tsc_to_bump(
@@ -50,7 +50,7 @@ pub fn tsc_to_bump(
 /// `barrowtide_bump_to_tsc`: the TSC proof of an id's climb in a BUMP, into lent room.
 pub fn bump_to_tsc(
     data: &[u8],
-    id: &Hash,
+    id: &Stored,
     out: &mut [u8],
     blame: &mut Blame,
     written: &mut u64,

@@ -1,7 +1,7 @@
 //! Two BUMPs side by side.
 
 use super::Blame;
-use crate::Hash;
+use super::Stored;
 
 extern "C" {
     fn barrowtide_differences(
@@ -55,7 +55,7 @@ pub fn differences(
 pub fn shorter(
     first: &[u8],
     second: &[u8],
-    id: &Hash,
+    id: &Stored,
     blame: &mut Blame,
     which: &mut u64,
     length: &mut u64,

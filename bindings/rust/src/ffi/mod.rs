@@ -22,6 +22,9 @@ mod path;
 mod prove;
 mod write;
 
+/// An id, a node or a root, in stored order.
+pub type Stored = [u8; 32];
+
 pub use blame::Blame;
 pub use bundle::{read_beef, read_transaction, read_tsc};
 pub use compare::{compare, Lent};

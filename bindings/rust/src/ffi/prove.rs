@@ -1,7 +1,7 @@
 //! Proving ids and checking clients.
 
 use super::Blame;
-use crate::Hash;
+use super::Stored;
 
 extern "C" {
     fn barrowtide_prove_bump(
@@ -42,11 +42,11 @@ extern "C" {
 /// `barrowtide_prove_bump`: a lent id by a BUMP.
 pub fn prove_bump(
     data: &[u8],
-    id: &Hash,
+    id: &Stored,
     blame: &mut Blame,
     position: &mut u64,
     layers: &mut u64,
-    root: &mut Hash,
+    root: &mut Stored,
 ) -> u32 {
     let (id, root) = (id.as_ptr(), root.as_mut_ptr());
     // SAFETY: the call reads `data` within its length and the id's 32 bytes, and writes a blame,
@@ -57,11 +57,11 @@ pub fn prove_bump(
 /// `barrowtide_prove_cmp`: a lent id by a compound path.
 pub fn prove_cmp(
     data: &[u8],
-    id: &Hash,
+    id: &Stored,
     blame: &mut Blame,
     position: &mut u64,
     layers: &mut u64,
-    root: &mut Hash,
+    root: &mut Stored,
 ) -> u32 {
     let (id, root) = (id.as_ptr(), root.as_mut_ptr());
     // SAFETY: the call reads `data` within its length and the id's 32 bytes, and writes a blame,
@@ -73,10 +73,10 @@ pub fn prove_cmp(
 pub fn prove_tsc(
     data: &[u8],
     blame: &mut Blame,
-    id: &mut Hash,
+    id: &mut Stored,
     position: &mut u64,
     layers: &mut u64,
-    root: &mut Hash,
+    root: &mut Stored,
 ) -> u32 {
     let (id, root) = (id.as_mut_ptr(), root.as_mut_ptr());
     // SAFETY: the call reads `data` within its length and writes a blame, two u64 and twice 32
@@ -85,7 +85,7 @@ pub fn prove_tsc(
 }
 
 /// `barrowtide_check_clients`: all client leaves of a BUMP.
-pub fn check_clients(data: &[u8], blame: &mut Blame, root: &mut Hash) -> u32 {
+pub fn check_clients(data: &[u8], blame: &mut Blame, root: &mut Stored) -> u32 {
     // SAFETY: the call reads `data` within its length and writes a blame and 32 bytes, all of
     // which are borrowed for the call.
     unsafe { barrowtide_check_clients(data.as_ptr(), data.len(), blame, root.as_mut_ptr()) }

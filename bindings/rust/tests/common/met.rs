@@ -2,12 +2,12 @@
 
 use std::collections::BTreeMap;
 
-use barrowtide::Hash;
 use reference::climb::climb;
 use reference::path::{Node, Path};
 use reference::refusal::{Refusal, MISSING, TWIN};
 use reference::sha256::join;
 use reference::values::Values;
+use reference::Hash;
 
 /// What a climb shows, or a place below it that it asks about.
 #[derive(Debug, Clone, Copy, PartialEq, Eq, PartialOrd, Ord)]

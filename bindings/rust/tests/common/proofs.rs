@@ -1,12 +1,32 @@
 //! Proofs by paths: the library against the reference.
 
-use barrowtide::{ffi, Hash, Proof};
+use barrowtide::ffi;
 use reference::climb::Climb;
 use reference::hex::show;
 use reference::prove;
 use reference::refusal::Refusal;
+use reference::Hash;
 
 use crate::common::{expected, plain, FILL, GUARDED};
+
+/// A proof with its hashes in stored order, as the reference has them.
+#[derive(Debug, Clone, Copy, PartialEq, Eq)]
+pub struct Proof {
+    /// The id.
+    pub id: Hash,
+    /// Its position.
+    pub position: u64,
+    /// The number of layers.
+    pub layers: u64,
+    /// The root.
+    pub root: Hash,
+}
+
+/// A wrapper's proof so.
+pub fn stored(proof: barrowtide::Proof) -> Proof {
+    let barrowtide::Proof { id, position, layers, root } = proof;
+    Proof { id: *id.stored(), position, layers, root: *root.stored() }
+}
 
 /// What a call that proves an id answers.
 pub type Answer = Result<Proof, Refusal>;
@@ -29,7 +49,8 @@ pub fn check_bump(data: &[u8], id: &Hash) -> Answer {
     let Proof { position, layers, root, .. } = &mut lent;
     let number = ffi::prove_bump(data, id, &mut guarded.blame, position, layers, root);
     assert_eq!((number, guarded, lent), expected(told, fill(*id)), "{}", show(data));
-    assert_eq!(barrowtide::prove_bump(data, id).map_err(plain), told, "{}", show(data));
+    let safe = barrowtide::prove_bump(data, &barrowtide::Hash::from_stored(*id));
+    assert_eq!(safe.map(stored).map_err(plain), told, "{}", show(data));
     told
 }
 
@@ -40,7 +61,8 @@ pub fn check_cmp(data: &[u8], id: &Hash) -> Answer {
     let Proof { position, layers, root, .. } = &mut lent;
     let number = ffi::prove_cmp(data, id, &mut guarded.blame, position, layers, root);
     assert_eq!((number, guarded, lent), expected(told, fill(*id)), "{}", show(data));
-    assert_eq!(barrowtide::prove_cmp(data, id).map_err(plain), told, "{}", show(data));
+    let safe = barrowtide::prove_cmp(data, &barrowtide::Hash::from_stored(*id));
+    assert_eq!(safe.map(stored).map_err(plain), told, "{}", show(data));
     told
 }
 
@@ -50,7 +72,8 @@ pub fn check_clients(data: &[u8]) -> Result<Hash, Refusal> {
     let (mut guarded, mut root) = (GUARDED, [0xa5; 32]);
     let number = ffi::check_clients(data, &mut guarded.blame, &mut root);
     assert_eq!((number, guarded, root), expected(told, [0xa5; 32]), "{}", show(data));
-    assert_eq!(barrowtide::check_clients(data).map_err(plain), told, "{}", show(data));
+    let safe = barrowtide::check_clients(data).map(|root| *root.stored());
+    assert_eq!(safe.map_err(plain), told, "{}", show(data));
     told
 }
 

@@ -3,6 +3,8 @@
 use std::io::{self, Write};
 use std::process::ExitCode;
 
+use barrowtide::hex;
+
 use crate::json::{Fields, Json};
 use crate::words::Refused;
 
@@ -89,7 +91,7 @@ pub fn print(answer: Answer, style: Style) -> ExitCode {
                 let out = match told.output {
                     Output::Text(text) | Output::Svg(text) => text.into_bytes(),
                     Output::Bytes(bytes) if style.binary => bytes,
-                    Output::Bytes(bytes) => format!("{}\n", hex_of(&bytes)).into_bytes(),
+                    Output::Bytes(bytes) => format!("{}\n", hex::encode(&bytes)).into_bytes(),
                 };
                 (status, out, told.note)
             }
@@ -133,7 +135,7 @@ fn json(told: Told) -> Vec<u8> {
     fields.extend(told.fields);
     match told.output {
         Output::Text(_) => {}
-        Output::Bytes(bytes) => fields.push(("hex", hex_of(&bytes).into())),
+        Output::Bytes(bytes) => fields.push(("hex", hex::encode(&bytes).into())),
         Output::Svg(svg) => fields.push(("svg", svg.into())),
     }
     line(Json::Object(fields))
@@ -141,15 +143,4 @@ fn json(told: Told) -> Vec<u8> {
 
 fn line(value: Json) -> Vec<u8> {
     format!("{value}\n").into_bytes()
-}
-
-/// Bytes in hex, as they stand.
-pub fn hex_of(bytes: &[u8]) -> String {
-    use std::fmt::Write;
-    let mut text = String::with_capacity(2 * bytes.len());
-    for byte in bytes {
-        // Writing to a string doesn't fail.
-        let _ = write!(text, "{byte:02x}");
-    }
-    text
 }

@@ -4,7 +4,7 @@ use std::ffi::{OsStr, OsString};
 
 use barrowtide::{hex, Claim, Difference, Hash, Proof, Reason, Record, Refusal, Side, MAX_PAGE};
 
-use crate::answer::{hex_of, Answer, Failure, Output, Told};
+use crate::answer::{Answer, Failure, Output, Told};
 use crate::draw;
 use crate::input;
 use crate::json::{Fields, Json};
@@ -46,7 +46,6 @@ fn row(number: usize, record: &Record) -> String {
         ("no", "-".to_string(), "-".to_string())
     };
     let Record { start, length, id, .. } = record;
-    let id = hex::printed(id);
     format!("{number:4}  {start:8}  {length:8}  {anchored:8}  {bump:>4}  {position:>10}  {id}\n")
 }
 
@@ -55,7 +54,7 @@ fn record_json(record: &Record) -> Json {
     Json::Object(vec![
         ("start", record.start.into()),
         ("length", record.length.into()),
-        ("id", hex::printed(&record.id).into()),
+        ("id", record.id.to_string().into()),
         ("anchored", anchored.into()),
         ("bump", anchored.then_some(record.bump).into()),
         ("position", anchored.then_some(u64::from(record.position)).into()),
@@ -80,7 +79,7 @@ impl Given {
             _ => return Err(Failure::Misused),
         };
         if form == Form::Tsc {
-            return Ok((Self { form, data: input::bytes(path)?, id: [0; 32] }, rest));
+            return Ok((Self { form, data: input::bytes(path)?, id: Hash::default() }, rest));
         }
         let [id, rest @ ..] = rest else { return Err(Failure::Misused) };
         let id = input::id(id)?;
@@ -97,8 +96,8 @@ impl Given {
 
     fn claim(&self) -> Claim<'_> {
         match self.form {
-            Form::Bump => Claim::Bump { data: &self.data, id: &self.id },
-            Form::Cmp => Claim::Cmp { data: &self.data, id: &self.id },
+            Form::Bump => Claim::Bump { data: &self.data, id: self.id },
+            Form::Cmp => Claim::Cmp { data: &self.data, id: self.id },
             _ => Claim::Tsc { data: &self.data },
         }
     }
@@ -110,9 +109,7 @@ pub fn prove(words: &[OsString]) -> Answer {
     let Proof { id, position, layers, root } = proof;
     let text = format!(
         "accepted: the id is under this root, and worth as much as the root is trusted\n\
-         id        {}\nposition  {position}\nlayers    {layers}\nroot      {}\n",
-        hex::printed(&id),
-        hex::printed(&root)
+         id        {id}\nposition  {position}\nlayers    {layers}\nroot      {root}\n"
     );
     Ok(Told::text(text, proof_fields(&proof)))
 }
@@ -120,10 +117,10 @@ pub fn prove(words: &[OsString]) -> Answer {
 /// The fields of a proof.
 pub fn proof_fields(proof: &Proof) -> Fields {
     vec![
-        ("id", hex::printed(&proof.id).into()),
+        ("id", proof.id.to_string().into()),
         ("position", proof.position.into()),
         ("layers", proof.layers.into()),
-        ("root", hex::printed(&proof.root).into()),
+        ("root", proof.root.to_string().into()),
     ]
 }
 
@@ -132,7 +129,7 @@ pub fn clients(words: &[OsString]) -> Answer {
     let data = input::bytes(path)?;
     let root = barrowtide::check_clients(&data).map_err(refused(Asked::Clients))?;
     let clients = Levels::of_bump(&data).ok_or_else(unreadable)?.clients() as u64;
-    let (count, root) = (counted(clients, "client", "clients"), hex::printed(&root));
+    let (count, root) = (counted(clients, "client", "clients"), root.to_string());
     let text = format!("accepted: all clients lead to this root; {count}\nroot      {root}\n");
     Ok(Told::text(text, vec![("clients", clients.into()), ("root", root.into())]))
 }
@@ -199,7 +196,7 @@ fn levels_json(levels: &Levels) -> Json {
 }
 
 fn kind_json(kind: Kind) -> Json {
-    let hash = kind.hash().map(|hash| hex::printed(&hash));
+    let hash = kind.hash().map(|hash| hash.to_string());
     Json::Object(vec![("kind", kind.word().into()), ("hash", hash.into())])
 }
 
@@ -229,7 +226,7 @@ fn list_transaction(data: &[u8]) -> Answer {
     let read = barrowtide::read_transaction(data);
     let transaction = read.map_err(refused(Asked::Read(Form::Transaction)))?;
     let (inputs, outputs) = (transaction.inputs, transaction.outputs);
-    let id = hex::printed(&transaction.id);
+    let id = transaction.id.to_string();
     let text =
         format!("accepted: a transaction\nid       {id}\ninputs   {inputs}\noutputs  {outputs}\n");
     let fields = vec![("id", id.into()), ("inputs", inputs.into()), ("outputs", outputs.into())];
@@ -258,7 +255,7 @@ pub fn compare(words: &[OsString]) -> Answer {
             _ => of("second", second.form),
         })
     })?;
-    let (first, second) = (hex_of(&strings.first), hex_of(&strings.second));
+    let (first, second) = (hex::encode(&strings.first), hex::encode(&strings.second));
     let text = format!(
         "accepted: the two proofs contradict each other, and here is how: two strings of 64 bytes \
          with one double SHA-256\nfirst   {first}\nsecond  {second}\n"
@@ -274,7 +271,7 @@ pub fn write(words: &[OsString]) -> Answer {
         .map(|word| input::number("position", word))
         .collect::<Result<Vec<_>, _>>()?;
     let ids = input::hashes(ids)?;
-    let written = barrowtide::write_bump(height, ids.as_flattened(), &positions);
+    let written = barrowtide::write_bump(height, &ids, &positions);
     bytes(written.map_err(refused(Asked::Write))?)
 }
 
@@ -294,11 +291,10 @@ pub fn page(words: &[OsString]) -> Answer {
     let mut text = format!("proved: {proved} of {}\n", counted(ids.len() as u64, "id", "ids"));
     let mut rows = Vec::new();
     for (answer, id) in answers.iter().zip(&ids) {
-        let id = hex::printed(id);
+        let id = id.to_string();
         let (said, row) = match answer {
             Ok(proof) => {
                 let Proof { position, layers, root, .. } = proof;
-                let root = hex::printed(root);
                 let said = format!("proved at position {position}, {layers} layers, root {root}");
                 let mut row: Fields = vec![("proved", true.into())];
                 row.extend(proof_fields(proof));

@@ -66,7 +66,7 @@ pub fn hashes(path: &OsStr) -> Result<Vec<Hash>, Failure> {
         if line.is_empty() || line.starts_with('#') {
             continue;
         }
-        let Some(hash) = hex::parse_printed(line) else {
+        let Ok(hash) = line.parse() else {
             let at = format!("{}, line {}", name(path), index + 1);
             return Err(Failure::unusable(format!("{at}: not 64 hex digits: {}", shown(line))));
         };
@@ -78,7 +78,7 @@ pub fn hashes(path: &OsStr) -> Result<Vec<Hash>, Failure> {
 /// An id given on the command line.
 pub fn id(word: &OsStr) -> Result<Hash, Failure> {
     let text = word.to_string_lossy();
-    hex::parse_printed(&text).ok_or_else(|| {
+    text.parse().map_err(|_| {
         Failure::unusable(format!("not an id, which is 64 hex digits: {}", shown(&text)))
     })
 }

@@ -3,7 +3,7 @@
 
 use std::collections::BTreeMap;
 
-use barrowtide::{hex, join, read_varint, Hash};
+use barrowtide::{join, read_varint, Hash};
 
 /// What a leaf holds.
 #[derive(Clone, Copy, PartialEq, Eq)]
@@ -34,7 +34,7 @@ impl Kind {
     /// The word, and the hash in printed order.
     pub fn text(self) -> String {
         match self.hash() {
-            Some(hash) => format!("{} {}", self.word(), hex::printed(&hash)),
+            Some(hash) => format!("{} {hash}", self.word()),
             None => self.word().to_string(),
         }
     }
@@ -68,7 +68,7 @@ impl Cursor<'_> {
     fn hash(&mut self) -> Option<Hash> {
         let (first, rest) = self.0.split_first_chunk()?;
         self.0 = rest;
-        Some(*first)
+        Some(Hash::from_stored(*first))
     }
 
     fn level(&mut self, leaf: fn(&mut Self) -> Option<Leaf>) -> Option<Vec<Leaf>> {

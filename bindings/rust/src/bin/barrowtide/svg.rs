@@ -1,6 +1,6 @@
 //! The text of a picture.
 
-use barrowtide::{hex, Hash};
+use barrowtide::Hash;
 
 use crate::draw::{Climb, Node, Picture, Role};
 use crate::leaves::Kind;
@@ -40,7 +40,7 @@ const LINE: usize = 110;
 
 /// The first eight digits of a hash in printed order.
 fn brief(hash: &Hash) -> String {
-    hex::printed(hash).chars().take(8).collect()
+    hash.to_string().chars().take(8).collect()
 }
 
 /// The first line of a node: its position and what it is.
@@ -167,9 +167,9 @@ fn head(picture: &Picture) -> Vec<(&'static str, String)> {
         ),
     ];
     let Some((id, said)) = picture.said else { return lines };
-    lines.push(("mono", format!("id   {}", hex::printed(id))));
+    lines.push(("mono", format!("id   {id}")));
     match said {
-        Ok(proof) => lines.push(("mono", format!("root {}", hex::printed(&proof.root)))),
+        Ok(proof) => lines.push(("mono", format!("root {}", proof.root))),
         Err(refused) => {
             lines.extend(wrapped(&refused.to_string()).into_iter().map(|line| ("bad", line)));
         }
@@ -285,7 +285,7 @@ impl Sheet<'_> {
             title += &format!(", written: {}", kind.text());
         }
         if let Some(hash) = hash {
-            title += &format!(", value {}", hex::printed(&hash));
+            title += &format!(", value {hash}");
         }
         self.put(&format!("<g><title>{title}</title>"));
         if half == 3.0 {
