@@ -527,6 +527,19 @@ fn draw_a_thousand_leaves() {
     assert!(svg.len() < 30_000, "{} bytes", svg.len());
 }
 
+/// A tall tree: the climb stands straight, so the picture stays narrow.
+#[test]
+fn draw_many_layers() {
+    let level = [1, 1, 1].repeat(29);
+    let bump = [&[7, 30, 2, 0, 2][..], &[0xaa; 32], &[1, 1], &level].concat();
+    let (status, svg, _) = run(&["draw", &file("tall.bump", bump), &"aa".repeat(32)]);
+    well_formed(&svg);
+    assert_eq!(status, Some(0));
+    assert!(svg.contains("layer 29: 0 is even, ") && svg.contains("1 copy"));
+    let width = svg.split("width=\"").nth(1).and_then(|rest| rest.split('"').next());
+    assert!(width.expect("a width").parse::<u32>().expect("a number") < 1_200);
+}
+
 #[test]
 fn help() {
     let (status, text, error) = run(&["--help"]);

@@ -8,7 +8,7 @@ use crate::leaves::{Kind, Levels, Values};
 use crate::svg;
 use crate::words::Refused;
 
-/// The columns of a picture that has no climb, at most.
+/// The columns of a picture, at most. A climb of more layers is drawn as a ladder.
 const MOST_COLUMNS: usize = 16;
 
 /// The columns for what stands beside a climb.
@@ -117,6 +117,20 @@ pub struct Node {
     pub children: Vec<Node>,
 }
 
+impl Node {
+    /// Puts the climb into the middle of three columns, and its siblings on their side.
+    fn stand_straight(&mut self) {
+        for child in &mut self.children {
+            child.column = match child.role {
+                Role::Climb(_) => 1.0,
+                _ if child.place.1 % 2 == 0 => 0.0,
+                _ => 2.0,
+            };
+            child.stand_straight();
+        }
+    }
+}
+
 /// Everything that is drawn.
 pub struct Picture<'a> {
     pub head: &'a Bump,
@@ -147,8 +161,14 @@ pub fn picture(
         None => counts.open_evenly(height),
     };
     let mut columns = 0;
+    let ladder = climb.is_some() && height >= MOST_COLUMNS;
     let mut plan = Plan { levels, counts, values: &mut values, climb: climb.as_ref(), open };
-    let root = plan.node((height, 0), &mut columns);
+    let mut root = plan.node((height, 0), &mut columns);
+    if ladder {
+        root.column = 1.0;
+        root.stand_straight();
+        columns = 3;
+    }
     Some(svg::text(&Picture { head, levels, climb, said, root, columns }))
 }
 
@@ -210,12 +230,12 @@ impl Counts {
     }
 
     /// What is shown of a picture with a climb: all of the climb, and what stands beside it where it
-    /// is little.
+    /// is little and the climb is no ladder.
     fn open_beside(&self, climb: &Climb, height: usize) -> BTreeSet<Place> {
         let mut open: BTreeSet<Place> =
             (1..=height).map(|level| (level, climb.passes(level))).collect();
         let mut left = BESIDE;
-        for level in 0..height {
+        for level in (0..height).filter(|_| height < MOST_COLUMNS) {
             self.open_whole((level, climb.passes(level) ^ 1), &mut left, &mut open);
         }
         open
