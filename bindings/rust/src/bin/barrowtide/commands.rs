@@ -56,8 +56,8 @@ fn record_json(record: &Record) -> Json {
         ("length", record.length.into()),
         ("id", record.id.to_string().into()),
         ("anchored", anchored.into()),
-        ("bump", anchored.then_some(record.bump).into()),
-        ("position", anchored.then_some(u64::from(record.position)).into()),
+        ("bump", anchored.then_some(u64::from(record.bump)).into()),
+        ("position", anchored.then_some(record.position).into()),
     ])
 }
 
