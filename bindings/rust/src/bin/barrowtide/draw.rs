@@ -77,7 +77,11 @@ impl Climb {
             steps.push(Step { position, left, right, made: working });
             position /= 2;
         }
-        let same = said.as_ref().map_or(true, |proof| proof.root == working);
+        let same = match (said, stop) {
+            (Ok(proof), _) => proof.root == working,
+            (_, Some(((_, sibling), _))) => sibling == position ^ 1,
+            _ => false,
+        };
         same.then_some(Some(Self { id: *id, start, steps, stop }))
     }
 
