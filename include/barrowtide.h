@@ -282,8 +282,8 @@ enum barrowtide_difference {
    for list_len / 3 entries; 3 * BARROWTIDE_MAX_DIFFERENCES are always enough. On acceptance
    *entries is the number of entries, which stand at the front of the list; the numbers past them
    stay as they were, and all of the list on a refusal.
-   Levels whose offsets rise take one pass, others up to the square of their leaves: two BUMPs of 32
-   levels of 1,024 falling leaves take 0.1 s.
+   Levels whose offsets rise take one pass, others up to the square of their leaves: two BUMPs of 64
+   levels of 1,024 falling leaves take 0.2 s.
    Refused: as barrowtide_read_bump for the first, then for the second; 22 if there are more
    differences than room. */
 uint32_t barrowtide_differences(const uint8_t *first, size_t first_len, const uint8_t *second,
