@@ -1,10 +1,10 @@
 // Judging a BEEF bundle.
 use super::blame::blame_of;
-use spv::Record;
-use spv::Verdict;
+use bundle::Record;
+use bundle::Verdict;
 ghost use mathlib.Core.Path.{_≡_};
 ghost use lib.ListN.{length};
-ghost use Rattle.spv.specs.Bundle.{Judgement, judgeBeef, verdictOf, tableOf};
+ghost use Rattle.bundle.specs.Bundle.{Judgement, judgeBeef, verdictOf, tableOf};
 ghost use Rattle.barrowtide.specs.Interface as I;
 
 // The number of a verdict; what a refusal blames, or how many transactions were accepted, is written.
@@ -42,6 +42,6 @@ pub extern "C" fn barrowtide_judge_beef(
         × (now (blame .exit) ≡ I.blame v (now (blame .entry)))
         × (now (transactions .exit) ≡ I.taken length v (now (transactions .entry)))) ⌝ }
 {
-    let verdict = spv::judge_beef(message, roots, table);
+    let verdict = bundle::judge_beef(message, roots, table);
     tell(verdict, blame, transactions)
 }

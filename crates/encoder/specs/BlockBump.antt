@@ -16,7 +16,7 @@ use Rattle.format.specs.Bump.{Bump, bumpWhole}
 use Rattle.format.specs.Refusals.{OVER-LIMIT, NOT-LISTED, BAD-OFFSET, SAME-TX, MAX-BLOCK}
 use Rattle.spv.specs.Climb.{siblingPosition}
 use Rattle.spv.specs.Result.{Result, accepted, refused, carrying, follow}
-use Rattle.spv.specs.Bundle.{hashesOf, among}
+use Rattle.spv.specs.Hashes.{hashesOf, among}
 use Rattle.format.specs.BumpBytes.{Carried, plain, copy, client, Entry, Content, bumpBytes, carriedOf}
 use Rattle.encoder.specs.Output.{roomFor}
 use Rattle.encoder.specs.Tree.{size, node, height, treeClimb}

@@ -21,7 +21,7 @@ use Rattle.format.specs.Bytes.{same}
 use Rattle.format.specs.BytesLaws.{same-eq, same-refl, eq-same}
 use Rattle.format.specs.Level.{holds}
 use Rattle.format.specs.Search.{carries, leastOffset}
-use Rattle.spv.specs.Bundle.{among}
+use Rattle.spv.specs.Hashes.{among}
 use Rattle.spv.specs.Climb.{Siblings, siblingPosition, siblingPositions}
 use Rattle.spv.specs.ClimbLaws.{ascend-agree}
 use Rattle.spv.specs.Result.{accepted}

@@ -15,10 +15,10 @@ use Rattle.format.specs.BumpBytes.{levelBytes, bumpBytes}
 use Rattle.format.specs.Refusals.{OVER-LIMIT, NOT-LISTED, BAD-OFFSET, SAME-TX, NO-ROOM, MAX-BLOCK}
 use Rattle.spv.specs.declared.rejection.Rejection.{Rejection}
 use Rattle.spv.specs.Result.{accepted, refused, carrying}
-use Rattle.spv.specs.Bundle.{hashesOf}
+use Rattle.spv.specs.Hashes.{hashesOf}
 use Rattle.encoder.specs.Tree.{heightFor}
 use Rattle.encoder.specs.TreeLaws.{height-holds, height-least}
-use Rattle.spv.specs.BundleHashes.{hashes-length}
+use Rattle.spv.specs.HashesLaws.{hashes-length}
 use Rattle.encoder.specs.BlockBump.{levelsFor, blockBump, sized, noneChosen, allBelow, distinct, climbsFrom, writing}
 use Rattle.encoder.specs.Output.{roomFor}
 use Rattle.encoder.specs.OutputLaws.{room-short, room-enough}

@@ -8,7 +8,7 @@ use Rattle.format.specs.Bytes.{same}
 use Rattle.format.specs.BytesLaws.{same-refl}
 use Rattle.spv.specs.Result.{accepted, refused, carrying, atSibling}
 use Rattle.spv.specs.Climb.{siblingPosition, joined, step, ascendBy, endBy}
-use Rattle.spv.specs.Bundle.{hashes, hashesOf, among}
+use Rattle.spv.specs.Hashes.{hashes, hashesOf, among}
 use Rattle.format.specs.Spelling.{spells}
 use Rattle.format.specs.Digits.{little, varintBytes}
 use Rattle.format.specs.BumpBytes.{Carried, plain, copy, client, Entry, carriedBytes, entryBytes, levelBytes, bumpBytes}

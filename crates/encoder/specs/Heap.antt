@@ -10,7 +10,7 @@ use Rattle.lanes.specs.declared.Nodes.{Nodes}
 use Rattle.format.specs.Bytes.{same, setHash}
 use Rattle.format.specs.Parse.{pick}
 use Rattle.format.specs.Search.{hashAt}
-use Rattle.spv.specs.Bundle.{hashesOf}
+use Rattle.spv.specs.Hashes.{hashesOf}
 use Rattle.spv.specs.Result.{Result, accepted, refused}
 use Rattle.encoder.specs.declared.tree.Climb.{Climb}
 use Rattle.encoder.specs.declared.tree.Climb.the-variants.{Free, Twin}

@@ -24,10 +24,10 @@ use Rattle.format.specs.Search.{hashAt}
 use Rattle.format.specs.SearchLaws.{hash-there, hash-none, hash-at-length}
 use Rattle.spv.specs.Result.{atSibling}
 use Rattle.spv.specs.Climb.{siblingPosition}
-use Rattle.spv.specs.Bundle.{hashesOf}
+use Rattle.spv.specs.Hashes.{hashesOf}
 use Rattle.encoder.specs.Tree.{above, layer, size, node, heightFor, treeClimb}
 use Rattle.encoder.specs.TreeLaws.{above-length, above-pair, above-last, height-holds, height-least, size-suc}
-use Rattle.spv.specs.BundleHashes.{hashes-length, hashes-at}
+use Rattle.spv.specs.HashesLaws.{hashes-length, hashes-at}
 use Rattle.encoder.specs.TreeClimb.{twinAt, endFrom, from-end, from-twin, from-on, from-all}
 use Rattle.encoder.specs.declared.tree.Climb.the-variants.{Free, Twin}
 use Rattle.encoder.specs.Heap.{nodeIn, rightIn, pairIn, setFour, Stored, Heap, Level, twinIn, Grown, climbOf}

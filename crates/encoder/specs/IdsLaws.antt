@@ -16,8 +16,8 @@ use Rattle.format.specs.BytesLaws.{ne-same}
 use Rattle.format.specs.Search.{hashAt}
 use Rattle.format.specs.SearchLaws.{hash-there}
 use Rattle.format.specs.Spelling.{AllBytes, part-bytes}
-use Rattle.spv.specs.Bundle.{hashes, hashesOf}
-use Rattle.spv.specs.BundleHashes.{hashes-length, hashes-at, searching, search-here, search-on, search-end}
+use Rattle.spv.specs.Hashes.{hashes, hashesOf}
+use Rattle.spv.specs.HashesLaws.{hashes-length, hashes-at, searching, search-here, search-on, search-end}
 use Rattle.encoder.specs.TreeLaws.{Hashes}
 use Rattle.encoder.specs.BlockBump.{allBelow, distinct}
 use Rattle.encoder.specs.Ids.{idAt, slotAt}

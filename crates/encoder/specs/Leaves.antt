@@ -13,7 +13,7 @@ use Rattle.format.specs.Digits.{varintBytes}
 use Rattle.encoder.specs.Heap.{nodeIn, Heap}
 use Rattle.encoder.specs.Marks.{marked, Marked}
 use Rattle.encoder.specs.BlockBump.{Below}
-use Rattle.spv.specs.Bundle.{hashesOf}
+use Rattle.spv.specs.Hashes.{hashesOf}
 
 -- a node that a chosen climb passes: at level 0 the client, above it what can be worked out
 unfoldable pub passedAt : Bool → Asked

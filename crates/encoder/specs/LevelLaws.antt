@@ -10,7 +10,7 @@ use native.Mathlib.Omega.{arith}
 use borrow.Author.Tests.{ltb-true, lt-ltb, eqb-true, ne-eqb}
 use Rattle.format.specs.Parse.{pick}
 use Rattle.spv.specs.Climb.{siblingPosition}
-use Rattle.spv.specs.Bundle.{hashesOf}
+use Rattle.spv.specs.Hashes.{hashesOf}
 use Rattle.encoder.specs.declared.level.Asked.{Asked}
 use Rattle.encoder.specs.declared.level.Asked.the-variants.{Nothing, Plain, Copy, Client}
 use Rattle.format.specs.Spelling.{spells}
@@ -24,7 +24,7 @@ use Rattle.encoder.specs.Heap.{Stored, Heap, Level}
 use Rattle.encoder.specs.Marks.{Marked}
 use Rattle.format.specs.Buffer.{Buffer, writeOn}
 use Rattle.format.specs.BufferLaws.{write-then, write-none}
-use Rattle.spv.specs.BundleHashes.{hashes-length}
+use Rattle.spv.specs.HashesLaws.{hashes-length}
 use Rattle.encoder.specs.TreeLaws.{size-suc}
 use native.Mathlib.Nat.{pow-suc, sub-zero, zero-lt-suc}
 use native.Mathlib.Numerals.{add-one}

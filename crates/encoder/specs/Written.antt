@@ -14,7 +14,7 @@ use Rattle.format.specs.Level.{holds}
 use Rattle.format.specs.Refusals.{NOT-LISTED, MAX-BLOCK}
 use Rattle.spv.specs.declared.rejection.Rejection.{Rejection}
 use Rattle.spv.specs.Result.{Result, accepted, refused, carrying, follow}
-use Rattle.spv.specs.Bundle.{hashes, hashesOf}
+use Rattle.spv.specs.Hashes.{hashes, hashesOf}
 use Rattle.spv.specs.Compare.{proofOf, prove}
 use Rattle.spv.specs.Readings.{bumpReading}
 use Rattle.format.specs.Spelling.{AllBytes}
@@ -23,7 +23,7 @@ use Rattle.encoder.specs.Tree.{node, height, root, treeSiblings, treeCli
 use Rattle.encoder.specs.BlockBump.{blockBump, sized, noneChosen, allBelow, distinct, climbsFrom, writing, Meets}
 use Rattle.encoder.specs.OutputLaws.{room-told}
 use Rattle.encoder.specs.ClimbsLaws.{climbs-reach}
-use Rattle.spv.specs.BundleHashes.{hashes-length}
+use Rattle.spv.specs.HashesLaws.{hashes-length}
 use Rattle.encoder.specs.IdsLaws.{ids-hashes}
 use Rattle.encoder.specs.BlockFit.{Sizes, below-told, under-chosen}
 use Rattle.encoder.specs.BlockMeets.{read-back, bump-meets}

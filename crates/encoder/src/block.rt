@@ -23,7 +23,7 @@ ghost use mathlib.Core.Bool.{true};
 ghost use Prim.Native.Nat.{_/_};
 ghost use lib.ListN.{length};
 ghost use Rattle.spv.specs.Result.{refused};
-ghost use Rattle.spv.specs.Bundle.{hashesOf};
+ghost use Rattle.spv.specs.Hashes.{hashesOf};
 ghost use Rattle.encoder.specs.BlockBump.{allBelow, distinct, sized, writing};
 ghost use Rattle.encoder.specs.Output.{outputAfter, writtenOf};
 

@@ -3,8 +3,8 @@ ghost use mathlib.Core.Path.{_≡_};
 ghost use mathlib.Core.Bool.{false};
 ghost use Prim.Native.Nat.{_+_, _/_, _<_, _≤_};
 ghost use lib.ListN.{length};
-ghost use Rattle.spv.specs.Bundle.{hashesOf};
-ghost use Rattle.spv.specs.BundleHashes.{searching};
+ghost use Rattle.spv.specs.Hashes.{hashesOf};
+ghost use Rattle.spv.specs.HashesLaws.{searching};
 ghost use Rattle.encoder.specs.BlockBump.{allBelow, distinct};
 ghost use Rattle.encoder.specs.Ids.{idAt, slotAt};
 

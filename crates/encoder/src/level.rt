@@ -13,7 +13,7 @@ ghost use Rattle.format.specs.Buffer.{buffer, writeOn};
 ghost use Rattle.format.specs.Digits.{varintBytes};
 ghost use Rattle.format.specs.Spelling.{spells};
 ghost use Rattle.format.specs.BumpBytes.{levelBytes};
-ghost use Rattle.spv.specs.Bundle.{hashesOf};
+ghost use Rattle.spv.specs.Hashes.{hashesOf};
 ghost use Rattle.encoder.specs.BlockBump.{levelsFor};
 ghost use Rattle.encoder.specs.Heap.{nodeIn};
 ghost use Rattle.encoder.specs.Leaves.{passedAt, formAt, leafCount, leafBytes, leafText, levelLeaves, levelSize, leavesText, levelText, Ready};

@@ -11,7 +11,7 @@ ghost use Prim.Native.Nat.{ℕ, _+_, _*_, _/_, _%_, _^_, _<_, _≤_};
 ghost use lib.ListN.{length};
 ghost use Rattle.lanes.specs.Lanes as L;
 ghost use Rattle.format.specs.Search.{hashAt};
-ghost use Rattle.spv.specs.Bundle.{hashesOf};
+ghost use Rattle.spv.specs.Hashes.{hashesOf};
 ghost use Rattle.encoder.specs.Tree.{above, heightFor, treeClimb};
 ghost use Rattle.encoder.specs.BlockBump.{climbsFrom};
 ghost use Rattle.encoder.specs.Heap.{nodeIn, rightIn, pairIn, setFour, Stored, Heap, Grown, twinIn, climbOf};

@@ -13,7 +13,7 @@ use Rattle.spv.specs.Result.{carrying}
 use Rattle.spv.specs.Compare.{proveBy}
 use Rattle.spv.specs.Readings.{starting, levelsReading, bumpReading}
 use Rattle.spv.specs.Shapes.{provedOf}
-use Rattle.spv.specs.Bundle.{hashes, hashesOf}
+use Rattle.spv.specs.Hashes.{hashes, hashesOf}
 use Rattle.page.specs.declared.Answer.{Answer}
 use Rattle.page.specs.declared.Paged.{Paged}
 use Rattle.page.specs.declared.Paged.the-variants.{Answered, Refused}

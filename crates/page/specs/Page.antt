@@ -15,7 +15,7 @@ use Rattle.spv.specs.Result.{Result, accepted, refused, afterReading}
 use Rattle.spv.specs.Compare.{prove}
 use Rattle.spv.specs.Readings.{bumpReading}
 use Rattle.spv.specs.Shapes.{provedOf}
-use Rattle.spv.specs.Bundle.{hashesOf}
+use Rattle.spv.specs.Hashes.{hashesOf}
 use Rattle.page.specs.declared.Answer.{Answer}
 use Rattle.page.specs.declared.Paged.{Paged}
 

@@ -19,11 +19,11 @@ use Rattle.spv.specs.Compare.{Proof, prove}
 use Rattle.spv.specs.Readings.{pathReading}
 use Rattle.spv.specs.ReadingsLaws.{bump-proves}
 use Rattle.spv.specs.Shapes.{provedOf}
-use Rattle.spv.specs.Bundle.{hashesOf}
-use Rattle.spv.specs.BundleHashes.{hashes-length, hashes-at}
-use Rattle.spv.specs.BundleTheorems.{map-at}
-use Rattle.spv.specs.Table.{rows}
-use Rattle.spv.specs.TableLaws.{rows-list}
+use Rattle.spv.specs.Hashes.{hashesOf}
+use Rattle.spv.specs.HashesLaws.{hashes-length, hashes-at}
+use Rattle.spv.specs.RowsLaws.{map-at}
+use Rattle.spv.specs.Rows.{rows}
+use Rattle.spv.specs.RowsLaws.{rows-list}
 use Rattle.page.specs.declared.Paged.{Paged}
 use Rattle.page.specs.Page.{MAX-PAGE, blankAnswer, answerOf, single, answers, allowed, bumpFor, page, pagedOf, rowOf}
 use Rattle.page.specs.Opening.{unopened, openingOf, answerUnder, answerAt}

@@ -11,7 +11,7 @@ use spv::Rejection;
 ghost use mathlib.Core.Path.{_≡_};
 ghost use lib.ListN.{length};
 ghost use Prim.Native.Nat.{_/_};
-ghost use Rattle.spv.specs.Table.{rows};
+ghost use Rattle.spv.specs.Rows.{rows};
 ghost use Rattle.format.specs.Bump.{bumpWhole};
 ghost use Rattle.page.specs.Page.{blankAnswer, answerOf, bumpFor, page, pagedOf, rowOf};
 ghost use Rattle.page.specs.Opening.{unopened, openingOf, answerAt};

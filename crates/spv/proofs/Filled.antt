@@ -9,8 +9,8 @@ use native.Mathlib.Nat.{not-suc-le-zero, le-of-suc-le-suc}
 use native.Mathlib.Numerals.{add-one}
 use native.Mathlib.Omega.{arith}
 use lib.ListN.{length, set, drop, length-append, length-drop, drop-of-length-le}
-use Rattle.spv.specs.Table.{rows}
-use Rattle.spv.specs.TableLaws.{rows-length}
+use Rattle.spv.specs.Rows.{rows}
+use Rattle.spv.specs.RowsLaws.{rows-length}
 
 abbrev pub upTo : {A : Type 0} → (ℕ → A) → List A → ℕ → List A
 upTo f ys i = rows f i ++ drop i ys

@@ -2,4 +2,3 @@ pub mod Turns
 pub mod Traces
 pub mod Pairs
 pub mod Filled
-mod Local

@@ -1,17 +1,13 @@
-// Merkle root computation over the published forms of Merkle proof: proving an id, the all-clients check, comparing two proofs,
-// and judging a BEEF.
-mod bundle;
+// Merkle root computation over the published forms of Merkle proof: proving an id, the all-clients check and comparing two proofs.
 mod clients;
 mod climb;
 mod comparing;
 mod marks;
 mod prove;
 mod rejection;
-mod table;
 mod trace;
 mod values;
 
-pub use bundle::Verdict;
 pub use clients::Agreement;
 pub use clients::Checked;
 pub use clients::check_clients;
@@ -28,10 +24,5 @@ pub use prove::prove_tsc;
 pub use rejection::Rejection;
 pub use rejection::reject;
 pub use rejection::reject_reading;
-pub use table::Record;
-pub use table::Row;
-pub use table::blank;
-pub use table::judge_beef;
-pub use table::judge_row;
 pub use trace::Traced;
 pub use trace::trace_bump;

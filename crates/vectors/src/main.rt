@@ -1,5 +1,7 @@
 // Runs published vectors and edges, and prints what the library answers, a line each. The file `stdout` holds what an independent
 // program answers.
+use bundle::Record;
+use bundle::Verdict;
 use format::BeefAnswer;
 use format::BumpAnswer;
 use format::CmpAnswer;
@@ -10,9 +12,7 @@ use format::TscAnswer;
 use libc::STDOUT_FILENO;
 use spv::Outcome;
 use spv::Proved;
-use spv::Record;
 use spv::Rejection;
-use spv::Verdict;
 ghost use Rattle.io.specs.Counts.{Counts};
 
 fn text(words: &[u8]) {
@@ -234,8 +234,8 @@ fn record(row: Record) {
 }
 
 fn judged(message: &[u8], roots: &[u8]) {
-    let first = spv::judge_row(message, roots, 2, 0);
-    let second = spv::judge_row(message, roots, 2, 1);
+    let first = bundle::judge_row(message, roots, 2, 0);
+    let second = bundle::judge_row(message, roots, 2, 1);
     let verdict = first.verdict;
     match verdict {
         Verdict::Refused(rejection) => rejected(rejection),

@@ -46,7 +46,7 @@ use denote.Triple.Spec.{Meets, tripleOf}
 use denote.Triple.Table.{entered, cited}
 use denote.Triple.Walked.{says, Stays, stay-none, stay-none-slice, stay-slice, walkOf, AllGo, goes-none, goes-none-slice, goes-slice, Walks, ends-at, walked, walk-meets}
 use denote.Exit.{yes}
-use Rattle.spv.specs.Table.{rows}
+use Rattle.spv.specs.Rows.{rows}
 use Rattle.spv.proofs.Filled.{upTo, upTo-none, upTo-more, upTo-all, upTo-length}
 use Rattle.page.specs.declared.Answer.{Answer}
 use Rattle.page.specs.declared.Opening.{Opening}

@@ -39,7 +39,7 @@ use denote.Triple.Spec.{Meets, tripleOf}
 use denote.Triple.Table.{entered, cited}
 use denote.Triple.Walked.{says, Stays, stay-none-slice, gave-slice, walkOf, AllGo, goes-none-slice, goes-gave-slice, Walks, ends-at, walked, walk-meets}
 use denote.Exit.{yes}
-use Rattle.spv.specs.Table.{rows}
+use Rattle.spv.specs.Rows.{rows}
 use Rattle.page.specs.declared.Answer.{Answer}
 use Rattle.page.specs.declared.Opening.{Opening}
 use Rattle.page.specs.declared.Paged.{Paged}

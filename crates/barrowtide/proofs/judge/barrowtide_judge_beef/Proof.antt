@@ -38,17 +38,17 @@ use denote.Triple.Spec.{Meets, tripleOf}
 use denote.Triple.Table.{entered, cited}
 use denote.Triple.Walked.{says, Stays, stay-none-slice, gave-slice, gave-ref, walkOf, AllGo, goes-none-slice, goes-gave-slice, goes-gave-ref, Walks, ends-at, walked, walk-meets}
 use denote.Exit.{yes}
-use Rattle.spv.specs.declared.table.Record.{Record}
-use Rattle.spv.specs.declared.bundle.Verdict.{Verdict}
-use Rattle.spv.specs.Bundle.{Judgement, judgeBeef, verdictOf, tableOf}
+use Rattle.bundle.specs.declared.table.Record.{Record}
+use Rattle.bundle.specs.declared.judging.Verdict.{Verdict}
+use Rattle.bundle.specs.Bundle.{Judgement, judgeBeef, verdictOf, tableOf}
 use Rattle.barrowtide.specs.Interface.{refusal, blame, taken}
-use Rattle.spv.proofs.table.Record as T
-use Rattle.spv.proofs.bundle.Verdict as E
-use Rattle.spv.proofs.bundle.Verdict.Laws as E′
-use Rattle.spv.proofs.judge_beef as g
-use Rattle.spv.proofs.judge_beef.Symbol as g-def
-use Rattle.spv.proofs.judge_beef.Symbol.{name as #spv·judge-beef}
-use Rattle.spv.proofs.judge_beef.Met as g-thm
+use Rattle.bundle.proofs.table.Record as T
+use Rattle.bundle.proofs.judging.Verdict as E
+use Rattle.bundle.proofs.judging.Verdict.Laws as E′
+use Rattle.bundle.proofs.judge_beef as g
+use Rattle.bundle.proofs.judge_beef.Symbol as g-def
+use Rattle.bundle.proofs.judge_beef.Symbol.{name as #bundle·judge-beef}
+use Rattle.bundle.proofs.judge_beef.Met as g-thm
 use Rattle.barrowtide.proofs.judge.tell as h
 use Rattle.barrowtide.proofs.judge.tell.Symbol as h-def
 use Rattle.barrowtide.proofs.judge.tell.Symbol.{name as #barrowtide·judge·tell}
@@ -187,7 +187,7 @@ module _ {M : Type 1} (𝓤 : URA M) (H : Heap 𝓤) (A : Atoms 𝓤) (W : Given
       -- [the result; count; blames; the last list; roots; input]
       nothing ! $ move ! (2 ∷ 0 ∷ []) $ fjoin ! $ move ! (2 ∷ 0 ∷ []) $ fjoin ! $ move ! (2 ∷ 0 ∷ []) $ fjoin ! $ move ! (2 ∷ 0 ∷ []) $ fjoin ! $ move ! (2 ∷ 0 ∷ []) $ fjoin ! $ done !
 
-  module _ (C : Calls 𝓤 H) (Λ : Loops 𝓤 H) (fm : FmC 𝓤 H (W .laws) C) (judges : Triple 𝓤 (C #spv·judge-beef) (G 𝓤 H A mem run)) (tells : Triple 𝓤 (C #barrowtide·judge·tell) (K 𝓤 H A mem run)) where
+  module _ (C : Calls 𝓤 H) (Λ : Loops 𝓤 H) (fm : FmC 𝓤 H (W .laws) C) (judges : Triple 𝓤 (C #bundle·judge-beef) (G 𝓤 H A mem run)) (tells : Triple 𝓤 (C #barrowtide·judge·tell) (K 𝓤 H A mem run)) where
     walk : ent 𝓤 (onEntry 𝓤 H A f.signature (κ₀, (κ₁, (κ₂, (κ₃, (κ₄, tt))))) (q₀, (q₁, (q₂, (q₃, (q₄, tt))))) a vals) (WpFn 𝓤 H C Λ code.function (s₀ ∷ s₁ ∷ s₂ ∷ p₃ ∷ p₄ ∷ []) Post)
     walk =
         qed W ((‵ (flft κ₀ q₀) ⊛ ‵ (flft κ₁ q₁) ⊛ ‵ (flft κ₂ q₂) ⊛ ‵ (flft κ₃ q₃) ⊛ ‵ (flft κ₄ q₄) ⊛ ‵ ftrue) ∷ ‵ (owns (ShrSlice (named 0) κ₀ u8 ∷ ShrSlice (named 1) κ₁ u8 ∷ MutSlice (named 2) κ₂ R ∷ MutRef (named 3) κ₃ Three ∷ MutRef (named 4) κ₄ u64 ∷ []) a vals) ∷ []) ∵ enter ! C Λ code.function (s₀ ∷ s₁ ∷ s₂ ∷ p₃ ∷ p₄ ∷ []) _ $
@@ -231,7 +231,7 @@ module _ {M : Type 1} (𝓤 : URA M) (H : Heap 𝓤) (A : Atoms 𝓤) (W : Given
         keep ! (0 ∷ 1 ∷ 2 ∷ 3 ∷ 4 ∷ 5 ∷ 7 ∷ 8 ∷ []) $ by ! (exits v (zs .1 .1 .0) n (ms .1 .0) (ms .1 .1 .0) u l d e)))))))))))))))))))))))
 
 module _ {M : Type 1} (𝓤 : URA M) (H : Heap 𝓤) (A : Atoms 𝓤) (W : Given 𝓤 H A) (mem : Memory → SProp 𝓤) (run : Routine → Fun 𝓤) where
-  judge-walks : (C : Calls 𝓤 H) (Λ : Loops 𝓤 H) → FmC 𝓤 H (W .laws) C → Triple 𝓤 (C #spv·judge-beef) (G 𝓤 H A mem run) → Triple 𝓤 (C #barrowtide·judge·tell) (K 𝓤 H A mem run) → Walks 𝓤 H A f.ended stayed (WpFn 𝓤 H C Λ code.function) (f.clauses 𝓤 H A mem run)
+  judge-walks : (C : Calls 𝓤 H) (Λ : Loops 𝓤 H) → FmC 𝓤 H (W .laws) C → Triple 𝓤 (C #bundle·judge-beef) (G 𝓤 H A mem run) → Triple 𝓤 (C #barrowtide·judge·tell) (K 𝓤 H A mem run) → Walks 𝓤 H A f.ended stayed (WpFn 𝓤 H C Λ code.function) (f.clauses 𝓤 H A mem run)
   judge-walks C Λ fm judges tells = walked 𝓤 H A f.ended stayed (f.clauses 𝓤 H A mem run) (WpFn 𝓤 H C Λ code.function)
       (λ κs. (slice-vals, (slice-vals, (slice-vals, (ptr-vals, (ptr-vals, tt)))))) (λ κs. (shr-slice-tells (named 0) (κs .0) u8, (shr-slice-tells (named 1) (κs .1 .0) u8, (mut-slice-tells (named 2) (κs .1 .1 .0) R, (mut-tells (named 3) (κs .1 .1 .1 .0) Three, (mut-tells (named 4) (κs .1 .1 .1 .1 .0) u64, tt))))))
       (λ κs qs bounds a g are. via 𝓤 _ (fst∗ 𝓤 _ (emp 𝓤))
@@ -240,7 +240,7 @@ module _ {M : Type 1} (𝓤 : URA M) (H : Heap 𝓤) (A : Atoms 𝓤) (W : Given
   goes : AllGo 𝓤 H A W 5 (f.signature .params) (f.ended .kept) stayed
   goes = (goes-none-slice 𝓤 H A W 5 (0 ∷ []) tt (plain (λ _. u8)) yes, (goes-none-slice 𝓤 H A W 5 (1 ∷ []) tt (plain (λ _. u8)) yes, (goes-gave-slice 𝓤 H A W 5 2 tt (plain (λ _. R)), (goes-gave-ref 𝓤 H A W 5 3 tt (plain (λ _. Three)), (goes-gave-ref 𝓤 H A W 5 4 tt (plain (λ _. u64)), tt)))))
 
-judge-meets : {M : Type 1} (𝓤 : URA M) (H : Heap 𝓤) (A : Atoms 𝓤) → Given 𝓤 H A → (mem : Memory → SProp 𝓤) (run : Routine → Fun 𝓤) (𝓣 : Tables 𝓤 H) → Triple 𝓤 (𝓣 .C #spv·judge-beef) (G 𝓤 H A mem run) → Triple 𝓤 (𝓣 .C #barrowtide·judge·tell) (K 𝓤 H A mem run)
+judge-meets : {M : Type 1} (𝓤 : URA M) (H : Heap 𝓤) (A : Atoms 𝓤) → Given 𝓤 H A → (mem : Memory → SProp 𝓤) (run : Routine → Fun 𝓤) (𝓣 : Tables 𝓤 H) → Triple 𝓤 (𝓣 .C #bundle·judge-beef) (G 𝓤 H A mem run) → Triple 𝓤 (𝓣 .C #barrowtide·judge·tell) (K 𝓤 H A mem run)
     → Meets 𝓤 H A f.signature (WpFn 𝓤 H (𝓣 .C) (𝓣 .Λ) code.function) (f.spec 𝓤 H A mem run)
 judge-meets 𝓤 H A W mem run 𝓣 judges tells = walk-meets 𝓤 H A f.ended stayed W (goes 𝓤 H A W mem run) (f.clauses 𝓤 H A mem run) (WpFn 𝓤 H (𝓣 .C) (𝓣 .Λ) code.function) (WpFn-mono 𝓤 H (W .laws) 𝓣 code.function) (judge-walks 𝓤 H A W mem run (𝓣 .C) (𝓣 .Λ) (fmOf 𝓤 H (W .laws) 𝓣) judges tells)
 
@@ -250,5 +250,5 @@ barrowtide-judge-beef-spec 𝓤 H 𝓜 𝓖 𝓡 =
     entered 𝓤 H (tripleOf 𝓤 H (𝓖 .A) f.signature (f.spec 𝓤 H (𝓖 .A) (𝓜 .mem) (𝓡 .run)))
     (tables 𝓤 H 𝓜 𝓡 code.env .C) (tables 𝓤 H 𝓜 𝓡 code.env .Λ) #barrowtide·judge·barrowtide-judge-beef code.function (code.unfolded 𝓤 H 𝓜 𝓡)
     (judge-meets 𝓤 H (𝓖 .A) (givenOf 𝓤 H 𝓜 𝓖) (𝓜 .mem) (𝓡 .run) (tablesOf 𝓤 H 𝓜 (tables 𝓤 H 𝓜 𝓡 code.env))
-    (cited 𝓤 H (G 𝓤 H (𝓖 .A) (𝓜 .mem) (𝓡 .run)) 𝓜 𝓡 code.env #spv·judge-beef g-def.routine code.calls-spv·judge-beef (g-thm.met 𝓤 H 𝓜 𝓖 𝓡))
+    (cited 𝓤 H (G 𝓤 H (𝓖 .A) (𝓜 .mem) (𝓡 .run)) 𝓜 𝓡 code.env #bundle·judge-beef g-def.routine code.calls-bundle·judge-beef (g-thm.met 𝓤 H 𝓜 𝓖 𝓡))
     (cited 𝓤 H (K 𝓤 H (𝓖 .A) (𝓜 .mem) (𝓡 .run)) 𝓜 𝓡 code.env #barrowtide·judge·tell h-def.routine code.calls-barrowtide·judge·tell (h-thm.met 𝓤 H 𝓜 𝓖 𝓡)))

@@ -2,7 +2,7 @@ use borrow.Author.Needs.{needs}
 use mathlib.Core.Path.{_≡_, refl, sym, _∙_}
 use Prim.Native.Nat.{_-_, _/_}
 use lib.ListN.{length}
-use Rattle.spv.specs.BundleHashes.{searching, search-end}
+use Rattle.spv.specs.HashesLaws.{searching, search-end}
 use Rattle.encoder.specs.IdsLaws.{found-here, not-here}
 use Rattle.encoder.proofs.ids.among_from.Statement.{statement}
 use Rattle.encoder.proofs.ids.among_from.Tie as tie

@@ -4,7 +4,7 @@ use mathlib.Core.Path.{_≡_, refl, _∙_}
 use Prim.Native.Nat.{ℕ, _-_, _≤_}
 use mathlib.Core.List.{List}
 use lib.ListN.{length}
-use Rattle.spv.specs.Bundle.{hashesOf}
+use Rattle.spv.specs.Hashes.{hashesOf}
 use Rattle.format.specs.Buffer.{buffer, writeOn}
 use Rattle.encoder.specs.Tree.{size as layerSize}
 use Rattle.encoder.specs.Heap.{Level}

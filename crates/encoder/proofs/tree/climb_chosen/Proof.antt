@@ -3,7 +3,7 @@ use native.Mathlib.Omega.{arith}
 use mathlib.Core.Path.{_≡_, sym, ap, _∙_}
 use mathlib.Core.List.{List}
 use Prim.Native.Nat.{ℕ, _-_, _≤_}
-use Rattle.spv.specs.Bundle.{hashesOf}
+use Rattle.spv.specs.Hashes.{hashesOf}
 use Rattle.encoder.specs.BlockBump.{climbsFrom}
 use Rattle.encoder.specs.Heap.{Grown, climbOf}
 use Rattle.encoder.specs.Marks.{Marked}

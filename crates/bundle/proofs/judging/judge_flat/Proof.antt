@@ -1,0 +1,95 @@
+use mathlib.Core.Path.{_∙_}
+use native.Mathlib.Omega.{arith}
+use borrow.Author.Needs.{needs}
+use Rattle.format.specs.ParseLaws.{answered}
+use Rattle.format.specs.BeefAnswer.{beefAnswer}
+use Rattle.bundle.specs.BundleAnswer.{judgementOf}
+use Rattle.bundle.specs.BundleRead.{judge-long, judge-roots, judge-refused, judge-read, read-few}
+use Rattle.bundle.proofs.judging.judge_flat.Statement.{statement}
+use Rattle.bundle.proofs.judging.judge_flat.Tie as tie
+
+refused-requires : tie.Need-refused-requires
+refused-requires c κs = search needs
+
+returns : tie.Need-returns
+returns c = let short = c .before .if1 .taken in λ wide long. absurd (omega arith)
+
+refused-requires-2 : tie.Need-refused-requires-2
+refused-requires-2 c κs = search needs
+
+returns-2 : tie.Need-returns-2
+returns-2 c = let short = c .before .if2 .taken in λ wide long. absurd (omega arith)
+
+refused-requires-3 : tie.Need-refused-requires-3
+refused-requires-3 c κs = search needs
+
+returns-3 : tie.Need-returns-3
+unfolding judgementOf
+returns-3 c = λ wide long. rw (c .refused3 .ensures) (judge-long _ _ _ (c .before .if3 .taken))
+
+refused-requires-4 : tie.Need-refused-requires-4
+refused-requires-4 c κs = search needs
+
+returns-4 : tie.Need-returns-4
+unfolding judgementOf
+returns-4 c = λ wide long. rw (c .refused4 .ensures) (judge-roots _ _ _ (c .before .before .if3 .left) (c .before .if4 .taken))
+
+read-bundle-requires : tie.Need-read-bundle-requires
+read-bundle-requires c κs = search needs
+
+enum-known-answer : tie.Need-enum-known-answer
+enum-known-answer c = search needs
+
+reject-reading-requires : tie.Need-reject-reading-requires
+reject-reading-requires c κs = search needs
+
+enum-known-answer-2 : tie.Need-enum-known-answer-2
+enum-known-answer-2 c = search needs
+
+bump-heads-requires : tie.Need-bump-heads-requires
+bump-heads-requires c κs = search needs
+
+judge-entries-requires : tie.Need-judge-entries-requires
+judge-entries-requires c κs =
+    let few = read-few _ _ _ _ (answered beefAnswer (c .before .before .before .before .before .before .before .read-bundle .ensures) (c .before .before .before .before .before .answer2 .given .1)) in
+    (few, (c .before .before .before .before .before .before .before .before .before .before .before .if1 .left, c .before .before .before .before .before .before .before .before .before .before .if2 .left))
+
+returns-5 : tie.Need-returns-5
+unfolding judgementOf
+returns-5 c =
+    λ wide long. rw (c .reject-reading .ensures)
+    (judge-refused _ _ _ (c .before .before .before .before .before .before .if3 .left) (c .before .before .before .before .before .if4 .left) _ (answered beefAnswer (c .before .before .before .before .read-bundle .ensures) (c .before .before .answer .given .1)))
+
+same-length : tie.Need-same-length
+same-length c = search needs
+
+same-length-2 : tie.Need-same-length-2
+same-length-2 c = search needs
+
+returns-6 : tie.Need-returns-6
+returns-6 c =
+    λ wide long. c .before .before .before .before .judge-entries .ensures
+    ∙ judge-read _ _ _ (c .before .before .before .before .before .before .before .before .before .before .before .before .before .before .if3 .left) (c .before .before .before .before .before .before .before .before .before .before .before .before .before .if4 .left) _ _ (answered beefAnswer (c .before .before .before .before .before .before .before .before .before .before .before .before .read-bundle .ensures) (c .before .before .before .before .before .before .before .before .before .before .answer2 .given .1)) (c .before .before .before .before .before .before .before .before .bump-heads .ensures)
+
+pub judge-flat-spec : {M : Type 1} → statement M
+judge-flat-spec =
+    tie.close
+    (tie.spec
+    refused-requires
+    returns
+    refused-requires-2
+    returns-2
+    refused-requires-3
+    returns-3
+    refused-requires-4
+    returns-4
+    read-bundle-requires
+    enum-known-answer
+    reject-reading-requires
+    enum-known-answer-2
+    bump-heads-requires
+    judge-entries-requires
+    returns-5
+    same-length
+    same-length-2
+    returns-6)

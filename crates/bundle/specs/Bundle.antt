@@ -1,0 +1,106 @@
+-- The bundle rule (01, "The bundle rule").
+use Prim.Native.Nat.{ℕ, _-_, _%_}
+use mathlib.Core.Bool.{Bool, true, _&&_}
+use mathlib.Core.List.{List, [], _∷_, _++_}
+use lib.Dec.{leb, eqb}
+use lib.ListN.{length, getD, replicate}
+use Rattle.format.specs.declared.tx.Input.{Input}
+use Rattle.format.specs.declared.beef.Anchor.{Anchor}
+use Rattle.format.specs.declared.beef.Anchor.the-variants.{Unanchored, Bump as InBump}
+use Rattle.format.specs.Parse.{Parse, got, bad, pick}
+use Rattle.format.specs.Search.{hashAt}
+use Rattle.format.specs.Bump.{Bump}
+use Rattle.format.specs.Padded.{padded}
+use Rattle.format.specs.Id.{txid}
+use Rattle.format.specs.Beef.{Entry, Beef, beefWhole}
+use Rattle.format.specs.Refusals.{TOO-LONG, UNTRUSTED, SAME-TX, NO-PARENT, BAD-ROOTS, MAX-INPUT}
+use Rattle.bundle.specs.declared.table.Record.{Record}
+use Rattle.bundle.specs.declared.judging.Standing.{Standing}
+use Rattle.bundle.specs.declared.judging.Standing.the-variants.{Refuses, Passes}
+use Rattle.bundle.specs.declared.judging.Verdict.{Verdict}
+use Rattle.bundle.specs.declared.judging.Verdict.the-variants.{Accepted, Refused}
+use Rattle.spv.specs.Result.{Result, accepted, refused, carrying, blaming}
+use Rattle.spv.specs.Compare.{Proof, prove}
+use Rattle.spv.specs.Readings.{levelsReading}
+use Rattle.spv.specs.Hashes.{hashesOf, among}
+use Rattle.bundle.specs.Table.{blankRecord}
+
+-- each input has its parent among the ids
+unfoldable pub rests : List ℕ → List (List ℕ) → List Input → Bool
+rests s ids [] = true
+rests s ids (input ∷ l) = among (hashAt s (input .parent)) ids && rests s ids l
+
+-- "An anchored one (byte 01) must climb in its BUMP to a root in the lent list"
+unfoldable pub trusted : List ℕ → ℕ → Result Proof → Standing
+trusted roots n (refused why) = Refuses why
+trusted roots n (accepted p) = pick (among (p .root) (hashesOf roots)) (Passes 1 n (p .position)) (Refuses (carrying UNTRUSTED 0))
+
+-- an id by a BUMP of the bundle
+unfoldable pub proving : List ℕ → Bump → List ℕ → Result Proof
+proving s b id = prove (levelsReading s (b .height) (b .levels) id)
+
+-- the n-th BUMP; n is below their count by the reading (18)
+abbrev pub emptyBump : Bump
+emptyBump = record { block = 0; height = 0; start = 0; levels = [] }
+
+abbrev pub nthBump : List Bump → ℕ → Bump
+nthBump bumps n = getD bumps n emptyBump
+
+abbrev pub entryId : List ℕ → Entry → List ℕ
+entryId s e = txid s (e .transaction)
+
+module _ (s roots : List ℕ) (bumps : List Bump) where
+  -- "Any other must have, for each input, an earlier transaction with the parent's id"
+  unfoldable pub anchoring : List (List ℕ) → Entry → Anchor → Standing
+  anchoring earlier e (InBump n) = trusted roots n (proving s (nthBump bumps n) (entryId s e))
+  anchoring earlier e Unanchored = pick (rests s earlier (e .transaction .inputs)) (Passes 0 0 0) (Refuses (carrying NO-PARENT 0))
+
+  -- 19, then 13, 14 or 15, 17, or 20
+  unfoldable pub standing : List (List ℕ) → Entry → Standing
+  standing earlier e = pick (among (entryId s e) earlier) (Refuses (carrying SAME-TX 0)) (anchoring earlier e (e .anchor))
+
+-- the record of a transaction
+unfoldable pub entryRow : List ℕ → Entry → ℕ → ℕ → ℕ → Record
+entryRow s e a n i =
+    record { start = e .transaction .start; length = e .transaction .end - e .transaction .start; id = entryId s e; anchored = a; bump = n; position = i }
+
+-- what judging comes to: a record for each transaction
+abbrev pub Judgement : Type 0
+Judgement = Result (List Record)
+
+unfoldable pub ahead : Record → Judgement → Judgement
+ahead r (refused why) = refused why
+ahead r (accepted l) = accepted (r ∷ l)
+
+-- "transactions are judged from the first"; a refusal carries the transaction's number, counted from 0
+module _ {A : Type 0} (id : A → List ℕ) (stands : List (List ℕ) → A → Standing) (row : A → ℕ → ℕ → ℕ → Record) where
+  unfoldable pub judgeFrom : List (List ℕ) → List A → Judgement
+  judgeFrom earlier [] = accepted []
+  judgeFrom earlier (x ∷ l) =
+      elim (stands earlier x)
+      [ Refuses why ↦ refused (blaming (length earlier) why) | Passes a n i ↦ ahead (row x a n i) (judgeFrom (earlier ++ (id x ∷ [])) l) ]
+
+unfoldable pub judgeEntries : List ℕ → List ℕ → Beef → Judgement
+judgeEntries s roots b = judgeFrom (entryId s) (standing s roots (b .bumps)) (entryRow s) [] (b .entries)
+
+-- "The whole BEEF is read first"
+unfoldable pub judgeRead : List ℕ → List ℕ → Parse Beef → Judgement
+judgeRead s roots (bad number place) = refused (carrying number place)
+judgeRead s roots (got b next) = judgeEntries s roots b
+
+-- a BEEF, a list of roots, and room for so many records: 1, 21, then fields as they come
+unfoldable pub judgeBeef : List ℕ → List ℕ → ℕ → Judgement
+judgeBeef s roots room =
+    pick (leb (length s) MAX-INPUT)
+    (pick (eqb (length roots % 32) 0) (judgeRead s roots (beefWhole room s)) (refused (carrying BAD-ROOTS 0)))
+    (refused (carrying TOO-LONG 0))
+
+-- the answer
+unfoldable pub verdictOf : Judgement → Verdict
+verdictOf (refused why) = Refused why
+verdictOf (accepted records) = Accepted (length records)
+
+-- the table of n rows: on acceptance the first are filled and the others zero; a refusal zeroes the whole table
+unfoldable pub tableOf : Judgement → ℕ → List Record
+tableOf (refused why) n = replicate n blankRecord
+tableOf (accepted records) n = padded n blankRecord records

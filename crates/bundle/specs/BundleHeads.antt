@@ -1,0 +1,76 @@
+-- The bundle rule over what the code holds of a bundle that was read: heads, by places in the bytes.
+use mathlib.Core.Path.{_≡_}
+use Prim.Native.Nat.{ℕ, zero, suc, _-_, _<_}
+use mathlib.Core.Bool.{Bool, true, false}
+use mathlib.Core.List.{List, [], _∷_}
+use lib.Dec.{ltb}
+use lib.ListN.{getD}
+use Rattle.format.specs.declared.tx.TxHead.{TxHead}
+use Rattle.format.specs.declared.bump.BumpHead.{BumpHead}
+use Rattle.format.specs.declared.beef.Anchor.{Anchor}
+use Rattle.format.specs.declared.beef.Anchor.the-variants.{Unanchored, Bump as InBump}
+use Rattle.format.specs.declared.beef.EntryHead.{EntryHead}
+use Rattle.format.specs.Parse.{pick, otherwise, each}
+use Rattle.format.specs.Search.{hashAt}
+use Rattle.format.specs.Path.{bumpPathOf}
+use Rattle.format.specs.Transaction.{inputField}
+use Rattle.format.specs.Beef.{entryField}
+use Rattle.format.specs.BeefAnswer.{noBump, entryHeadOf}
+use Rattle.format.specs.Id.{spanHash}
+use Rattle.format.specs.Refusals.{BAD-INDEX, SAME-TX, NO-PARENT, MAX-BUMPS}
+use Rattle.format.specs.declared.path.Path.{Path}
+use Rattle.bundle.specs.declared.judging.Kept.{Kept}
+use Rattle.bundle.specs.declared.table.Record.{Record}
+use Rattle.bundle.specs.declared.judging.Standing.the-variants.{Refuses, Passes}
+use Rattle.bundle.specs.declared.judging.Standing.{Standing}
+use Rattle.spv.specs.Result.{Result, carrying}
+use Rattle.bundle.specs.Table.{flatHead}
+use Rattle.spv.specs.Compare.{prove, Proof}
+use Rattle.spv.specs.Readings.{pathReading}
+use Rattle.spv.specs.Hashes.{among}
+use Rattle.bundle.specs.Bundle.{trusted}
+
+-- the numbers of a record
+abbrev pub numbersOf : TxHead → ℕ → ℕ → ℕ → List ℕ
+numbersOf t a n i = t .start ∷ (t .end - t .start) ∷ n ∷ a ∷ i ∷ []
+
+-- n transactions from a place, of a bundle with so many BUMPs, as far as they can be read
+unfoldable pub headsFrom : ℕ → List ℕ → ℕ → ℕ → List EntryHead
+headsFrom bumps s zero at = []
+headsFrom bumps s (suc n) at = otherwise (each entryHeadOf (entryField bumps s at)) [] (λ e next. e ∷ headsFrom bumps s n next)
+
+-- n inputs from a place: each has its parent among the ids
+unfoldable pub restsFrom : List ℕ → List (List ℕ) → ℕ → ℕ → Bool
+restsFrom s ids zero at = true
+restsFrom s ids (suc n) at =
+    otherwise (inputField s at) false (λ input next. pick (among (hashAt s (input .parent)) ids) (restsFrom s ids n next) false)
+
+-- an id by a BUMP
+unfoldable pub headProving : List ℕ → BumpHead → List ℕ → Result Proof
+headProving s b id = prove (pathReading s (bumpPathOf s b) id)
+
+module _ (s roots : List ℕ) (bumps : List BumpHead) where
+  unfoldable pub headAnchoring : List (List ℕ) → List ℕ → TxHead → Anchor → Standing
+  headAnchoring earlier id t (InBump n) = pick (ltb n MAX-BUMPS) (trusted roots n (headProving s (getD bumps n noBump) id)) (Refuses (carrying BAD-INDEX 0))
+  headAnchoring earlier id t Unanchored = pick (restsFrom s earlier (t .inputs .count) (t .inputs .at .at)) (Passes 0 0 0) (Refuses (carrying NO-PARENT 0))
+
+  unfoldable pub headStanding : List (List ℕ) → List ℕ → EntryHead → Standing
+  headStanding earlier id e = pick (among id earlier) (Refuses (carrying SAME-TX 0)) (headAnchoring earlier id (e .transaction) (e .anchor))
+
+-- a path that is kept is its BUMP's
+abbrev pub IsKept : List ℕ → List BumpHead → Kept → Type 0
+IsKept s bumps k = k .bump < MAX-BUMPS → k .path ≡ bumpPathOf s (getD bumps (k .bump) noBump)
+
+-- the path of the BUMP that an anchor names
+abbrev pub Names : List ℕ → List BumpHead → Anchor → Path → Type 0
+Names s bumps anchor path = (n : ℕ) → anchor ≡ InBump n → n < MAX-BUMPS → path ≡ bumpPathOf s (getD bumps n noBump)
+
+-- what is judged, by an entry's head
+abbrev pub headId : List ℕ → EntryHead → List ℕ
+headId s e = spanHash s (e .transaction .start) (e .transaction .end)
+
+abbrev pub headStands : List ℕ → List ℕ → List BumpHead → List (List ℕ) → EntryHead → Standing
+headStands s roots bumps earlier e = headStanding s roots bumps earlier (headId s e) e
+
+abbrev pub headRow : List ℕ → EntryHead → ℕ → ℕ → ℕ → Record
+headRow s e a n i = flatHead (headId s e) (numbersOf (e .transaction) a n i)

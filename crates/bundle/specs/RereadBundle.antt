@@ -1,0 +1,167 @@
+-- What a BUMP and a transaction say: the same wherever their bytes stand.
+use Prim.Native.Nat.{ℕ, _+_, _-_}
+use mathlib.Core.Path.{_≡_, refl, ap}
+use mathlib.Core.Bool.{not, _&&_}
+use mathlib.Core.List.{List, [], _∷_, _++_, map}
+use native.Mathlib.Omega.{arith}
+use lib.ListN.{take, drop}
+use lib.Dec.{ltb, leb, eqb}
+use Rattle.format.specs.declared.level.Layout.{Layout}
+use Rattle.format.specs.declared.level.Kind.the-variants.{Plain, Copy, Client}
+use Rattle.format.specs.declared.level.Leaf.{Leaf}
+use Rattle.format.specs.declared.tx.Input.{Input}
+use Rattle.format.specs.declared.beef.Anchor.{Anchor}
+use Rattle.format.specs.Parse.{Reader, got, _passing_else_}
+use Rattle.format.specs.Search.{hashAt}
+use Rattle.format.specs.Field.{bytes, byte, varint}
+use Rattle.format.specs.Level.{holds, offsetField, flagAllowed, flagField, kindField, carriedField, leafField, andOffset, levelField, levelInTurn, nextTurn, levelFields}
+use Rattle.format.specs.Bump.{Bump, blockField, heightField, bumpField}
+use Rattle.format.specs.Transaction.{Transaction, scriptField, inputField, outputField, someField, listField, txField}
+use Rattle.format.specs.TransactionLaws.{TxRead, tx-told}
+use Rattle.format.specs.Beef.{Entry, bumpNumberField, anchorField, entryField}
+use Rattle.format.specs.Refusals.{OVER-LIMIT, BAD-HEIGHT, BAD-OFFSET, BAD-FLAG, REPEATED, BAD-TX, BAD-INDEX, MAX-LEAVES, MAX-BLOCK, MAX-HEIGHT}
+use Rattle.spv.specs.Climb.{Sibling, value}
+use Rattle.spv.specs.Siblings.{written}
+use Rattle.bundle.specs.Reread.{StandsIn, Again, pure-again, here-again, then-again, then-same, passing-again, given-again, pick-again, many-again, bytes-again, byte-again, varint-again, run-again, hash-again}
+
+-- a leaf: its offset, and its 32 bytes or a copy
+abbrev pub leafSaid : List ℕ → Leaf → ℕ × Sibling
+leafSaid s leaf = (leaf .offset, written s (leaf .kind))
+
+-- a BUMP: its height and its levels
+abbrev pub bumpSaid : List ℕ → Bump → ℕ × List (List (ℕ × Sibling))
+bumpSaid s b = (b .height, map (map (leafSaid s)) (b .levels))
+
+-- an input: its parent's id
+abbrev pub parentOf : List ℕ → Input → List ℕ
+parentOf s i = hashAt s (i .parent)
+
+-- a transaction: how many bytes it has, the bytes, and its parents' ids
+abbrev pub txSaid : List ℕ → Transaction → ℕ × List ℕ × List (List ℕ)
+txSaid s x = (x .end - x .start, take (x .end - x .start) (drop (x .start) s), map (parentOf s) (x .inputs))
+
+abbrev pub entrySaid : List ℕ → Entry → (ℕ × List ℕ × List (List ℕ)) × Anchor
+entrySaid s e = (txSaid s (e .transaction), e .anchor)
+
+module _ {u t : List ℕ} {base : ℕ} (stands : StandsIn u t base) where
+  abbrev Same : {A B C : Type 0} → Reader A → Reader B → (A → C) → (B → C) → Type 0
+  Same r r′ c d = Again u t base r r′ c d
+
+  abbrev Equal : Reader ℕ → Type 0
+  Equal r = Again u t base r r (λ x. x) (λ x. x)
+
+  -- ---- a BUMP
+
+  kind-again : (flag : ℕ) → Same (kindField flag) (kindField flag) (written u) (written t)
+  unfolding kindField written
+  kind-again flag =
+      let hash = bytes-again stands 32 (hashAt u) (hashAt t) (hash-again stands) in
+      pick-again (eqb flag 0) (given-again Plain Plain (written u) (written t) hash (λ p q e. ap value e))
+      (pick-again (eqb flag 1) (pure-again Copy Copy (written u) (written t) refl) (given-again Client Client (written u) (written t) hash (λ p q e. ap value e)))
+
+  carried-again : (level offset : ℕ) → Same (carriedField Layout.Bump level offset) (carriedField Layout.Bump level offset) (written u) (written t)
+  unfolding carriedField flagField
+  carried-again level offset =
+      then-same (passing-again byte byte (flagAllowed level offset) (flagAllowed level offset) BAD-FLAG BAD-FLAG (byte-again stands) (λ x h. h)) kind-again
+
+  offset-again : (limit : ℕ) (seen : List ℕ) → Equal (offsetField limit seen)
+  unfolding offsetField
+  offset-again limit seen =
+      passing-again (varint passing (λ o. ltb o limit) else BAD-OFFSET) (varint passing (λ o. ltb o limit) else BAD-OFFSET) (λ o. not (holds o seen)) (λ o. not (holds o seen)) REPEATED REPEATED
+      (passing-again varint varint (λ o. ltb o limit) (λ o. ltb o limit) BAD-OFFSET BAD-OFFSET (varint-again stands) (λ x h. h)) (λ x h. h)
+
+  leaf-again : (limit level : ℕ) (seen : List ℕ) → Same (leafField Layout.Bump limit level seen) (leafField Layout.Bump limit level seen) (leafSaid u) (leafSaid t)
+  unfolding leafField
+  leaf-again limit level seen =
+      then-same (offset-again limit seen) (λ offset. then-again (carried-again level offset)
+      (λ k l e. pure-again (record { offset = offset; kind = k }) (record { offset = offset; kind = l }) (leafSaid u) (leafSaid t) (ap (λ (x : Sibling). (offset, x)) e)))
+
+  level-again : (limit level : ℕ) → Same (levelField Layout.Bump limit level) (levelField Layout.Bump limit level) (map (leafSaid u)) (map (leafSaid t))
+  unfolding levelField
+  level-again limit level =
+      then-same (passing-again varint varint (λ n. leb n MAX-LEAVES) (λ n. leb n MAX-LEAVES) OVER-LIMIT OVER-LIMIT (varint-again stands) (λ x h. h))
+      (λ n. many-again (leafField Layout.Bump limit level) (leafField Layout.Bump limit level) andOffset andOffset (leafSaid u) (leafSaid t) (leaf-again limit level)
+      (λ seen a b e. ap (λ (x : ℕ × Sibling). seen ++ (x .0 ∷ [])) e) n [])
+
+  levels-again : (height : ℕ) → Same (levelFields Layout.Bump height) (levelFields Layout.Bump height) (map (map (leafSaid u))) (map (map (leafSaid t)))
+  levels-again height =
+      many-again (levelInTurn Layout.Bump height) (levelInTurn Layout.Bump height) nextTurn nextTurn (map (leafSaid u)) (map (leafSaid t)) (λ i. level-again _ _) (λ i a b e. refl) height 0
+
+  pub bump-again : Same bumpField bumpField (bumpSaid u) (bumpSaid t)
+  unfolding bumpField blockField heightField
+  bump-again =
+      then-same (passing-again varint varint (λ b. leb b MAX-BLOCK) (λ b. leb b MAX-BLOCK) OVER-LIMIT OVER-LIMIT (varint-again stands) (λ x h. h))
+      (λ block. then-same (passing-again byte byte (λ h. leb 1 h && leb h MAX-HEIGHT) (λ h. leb 1 h && leb h MAX-HEIGHT) BAD-HEIGHT BAD-HEIGHT (byte-again stands) (λ x h. h))
+      (λ height. then-again here-again (λ p q _. then-again (levels-again height)
+      (λ l m e. pure-again (record { block = block; height = height; start = p; levels = l }) (record { block = block; height = height; start = q; levels = m }) (bumpSaid u) (bumpSaid t)
+      (ap (λ (x : List (List (ℕ × Sibling))). (height, x)) e)))))
+
+  -- ---- a transaction
+
+  nothing : ℕ → Unit {0}
+  nothing _ = tt
+
+  skip-again : (n : ℕ) → Same (bytes n) (bytes n) nothing nothing
+  unfolding nothing
+  skip-again n = bytes-again stands n nothing nothing (λ p h. refl)
+
+  script-again : Same scriptField scriptField nothing nothing
+  unfolding scriptField
+  script-again = then-same (varint-again stands) skip-again
+
+  input-again : Same inputField inputField (parentOf u) (parentOf t)
+  unfolding inputField
+  input-again =
+      then-again (bytes-again stands 32 (hashAt u) (hashAt t) (hash-again stands)) (λ p q e. then-again (skip-again 4) (λ o w _. then-again script-again (λ _ _ _. then-again (skip-again 4)
+      (λ _ _ _. pure-again (record { parent = p; output = o }) (record { parent = q; output = w }) (parentOf u) (parentOf t) e))))
+
+  output-again : Same outputField outputField nothing nothing
+  unfolding outputField nothing
+  output-again = then-again (skip-again 8) (λ p q _. then-again script-again (λ _ _ _. pure-again p q nothing nothing refl))
+
+  list-again : {A C : Type 0} (item : Reader A) (c d : A → C) → Same item item c d → Same (listField item) (listField item) (λ l. map c (l .items)) (λ l. map d (l .items))
+  unfolding listField someField
+  list-again item c d f =
+      then-same (passing-again varint varint (λ n. leb 1 n) (λ n. leb 1 n) BAD-TX BAD-TX (varint-again stands) (λ x h. h))
+      (λ n. then-again here-again (λ p q _. then-again (many-again {S = Unit {0}} (λ _. item) (λ _. item) (λ x _. x) (λ x _. x) c d (λ _. f) (λ _ _ _ _. refl) n tt)
+      (λ l m e. pure-again (record { at = p; items = l }) (record { at = q; items = m }) (λ l. map c (l .items)) (λ l. map d (l .items)) e)))
+
+  inputs-again : Same txField txField (λ x. map (parentOf u) (x .inputs)) (λ x. map (parentOf t) (x .inputs))
+  unfolding txField
+  inputs-again =
+      then-again (skip-again 4) (λ p q _. then-again (list-again inputField (parentOf u) (parentOf t) input-again) (λ i j e. then-again (list-again outputField nothing nothing output-again)
+      (λ o w _. then-again (skip-again 4) (λ _ _ _. then-again here-again
+      (λ n m _. pure-again (record { start = p; end = n; inputsAt = i .at; inputs = i .items; outputsAt = o .at; outputs = o .items })
+      (record { start = q; end = m; inputsAt = j .at; inputs = j .items; outputsAt = w .at; outputs = w .items }) (λ x. map (parentOf u) (x .inputs)) (λ x. map (parentOf t) (x .inputs)) e)))))
+
+  pub tx-again : Same txField txField (txSaid u) (txSaid t)
+  tx-again = record { again = moved }
+    where
+      -- its bytes are those from its start to its end
+      run : (a b : Transaction) (at q : ℕ) → TxRead u at q a → TxRead t (base + at) (base + q) b → map (parentOf u) (a .inputs) ≡ map (parentOf t) (b .inputs) → txSaid u a ≡ txSaid t b
+      run a b at q x y e =
+          let f = x .forward in
+          let i = x .inside in
+          let size : b .end - b .start ≡ q - at = omega arith in
+          let from : b .start ≡ base + at = y .start-is in
+          rw (x .start-is, x .end-is, size, from, e, run-again stands (q - at) at (omega arith))
+
+      moved : (at q : ℕ) (a : Transaction) → txField u at ≡ got a q → (b : Transaction) × (txField t (base + at) ≡ got b (base + q)) × (txSaid u a ≡ txSaid t b)
+      moved at q a e =
+          let x = inputs-again .again at q a e in
+          (x .0, x .1, run a (x .0) at q (tx-told u at e) (tx-told t (base + at) (x .1)) (x .2))
+
+  -- ---- a bundle's transaction
+
+  pub anchor-again : (bumps : ℕ) → Same (anchorField bumps) (anchorField bumps) (λ x. x) (λ x. x)
+  unfolding anchorField bumpNumberField
+  anchor-again bumps =
+      then-same (passing-again byte byte (λ b. leb b 1) (λ b. leb b 1) BAD-FLAG BAD-FLAG (byte-again stands) (λ x h. h))
+      (λ mark. pick-again (eqb mark 0) (pure-again Anchor.Unanchored Anchor.Unanchored (λ x. x) (λ x. x) refl)
+      (given-again Anchor.Bump Anchor.Bump (λ x. x) (λ x. x) (passing-again varint varint (λ n. ltb n bumps) (λ n. ltb n bumps) BAD-INDEX BAD-INDEX (varint-again stands) (λ x h. h)) (λ a b e. ap Anchor.Bump e)))
+
+  pub entry-again : (bumps : ℕ) → Same (entryField bumps) (entryField bumps) (entrySaid u) (entrySaid t)
+  unfolding entryField
+  entry-again bumps =
+      then-again tx-again (λ x y e. then-same (anchor-again bumps)
+      (λ a. pure-again (record { transaction = x; anchor = a }) (record { transaction = y; anchor = a }) (entrySaid u) (entrySaid t) (ap (λ (z : ℕ × List ℕ × List (List ℕ)). (z, a)) e)))

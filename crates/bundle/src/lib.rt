@@ -1,0 +1,10 @@
+// Judging a BEEF against a list of trusted roots, into a table that the caller lends.
+mod judging;
+mod table;
+
+pub use judging::Verdict;
+pub use table::Record;
+pub use table::Row;
+pub use table::blank;
+pub use table::judge_beef;
+pub use table::judge_row;
