@@ -46,7 +46,7 @@ below f g u v e (suc n) a b c p q r =
 bit-by-bit : (f g : ℕ → ℕ → ℕ → ℕ) → Bitwise f → Bitwise g → Alike f g → (a b c : ℕ) → f a b c ≡ g a b c
 bit-by-bit f g u v e a b c = below f g u v e (a + b + c) a b c (omega arith) (omega arith) (omega arith)
 
-xor-assoc : (a b c : ℕ) → a ⊕ b ⊕ c ≡ a ⊕ (b ⊕ c)
+pub xor-assoc : (a b c : ℕ) → a ⊕ b ⊕ c ≡ a ⊕ (b ⊕ c)
 unfolding _⊕_
 xor-assoc =
     bit-by-bit (λ a b c. bitXor (bitXor a b) c) (λ a b c. bitXor a (bitXor b c))
@@ -62,7 +62,7 @@ and-xor =
     (λ a b c. xor-shr (bitAnd a b) (bitAnd a c) 1 ∙ ap₂ bitXor (and-shr a b 1) (and-shr a c 1), λ a b c. xor-mod (bitAnd a b) (bitAnd a c) 1 ∙ ap₂ bitXor (and-mod a b 1) (and-mod a c 1))
     (alike (λ a b c. bitAnd a (bitXor b c)) (λ a b c. bitXor (bitAnd a b) (bitAnd a c)) refl refl refl refl refl refl refl refl)
 
-xor-swap : (a b : ℕ) → a ⊕ b ≡ b ⊕ a
+pub xor-swap : (a b : ℕ) → a ⊕ b ≡ b ⊕ a
 unfolding _⊕_
 xor-swap a b = xor-comm a b
 
@@ -106,15 +106,15 @@ ch-form x y z h l =
     ∙ ap (λ (u : ℕ). bitAnd x y ⊕ u) (sym n)
 
 -- The last two change places.
-right : (a b c : ℕ) → a ⊕ b ⊕ c ≡ a ⊕ c ⊕ b
+pub right : (a b c : ℕ) → a ⊕ b ⊕ c ≡ a ⊕ c ⊕ b
 right a b c = xor-assoc a b c ∙ ap (λ (u : ℕ). a ⊕ u) (xor-swap b c) ∙ sym (xor-assoc a c b)
 
-crossed : (a b c d : ℕ) → a ⊕ b ⊕ (c ⊕ d) ≡ a ⊕ d ⊕ (c ⊕ b)
+pub crossed : (a b c d : ℕ) → a ⊕ b ⊕ (c ⊕ d) ≡ a ⊕ d ⊕ (c ⊕ b)
 crossed a b c d =
     sym (xor-assoc (a ⊕ b) c d) ∙ ap (λ (u : ℕ). u ⊕ d) (right a b c) ∙ right (a ⊕ c) b d ∙ ap (λ (u : ℕ). u ⊕ b) (right a c d) ∙ xor-assoc (a ⊕ d) c b
 
 -- A rotation's two shifts have no bit in common.
-parts : (x n k y : ℕ) → x / 2 ^ n < 2 ^ k → x * 2 ^ k % 2 ^ 32 ≡ y * 2 ^ k → bitOr (x / 2 ^ n) (x * 2 ^ k % 2 ^ 32) ≡ x / 2 ^ n ⊕ x * 2 ^ k % 2 ^ 32
+pub parts : (x n k y : ℕ) → x / 2 ^ n < 2 ^ k → x * 2 ^ k % 2 ^ 32 ≡ y * 2 ^ k → bitOr (x / 2 ^ n) (x * 2 ^ k % 2 ^ 32) ≡ x / 2 ^ n ⊕ x * 2 ^ k % 2 ^ 32
 unfolding _⊕_
 parts x n k y h e =
     let z : bitAnd (x / 2 ^ n) (x * 2 ^ k % 2 ^ 32) ≡ 0 = rw e (and-comm (x / 2 ^ n) (y * 2 ^ k) ∙ and-shifted y k (x / 2 ^ n) h) in

@@ -19,7 +19,7 @@ pub struct State {
 }
 
 // The constants (section 4.2.2), sixteen at a time.
-const K0: [u32; 16] = [
+pub const K0: [u32; 16] = [
     0x428a_2f98,
     0x7137_4491,
     0xb5c0_fbcf,
@@ -38,7 +38,7 @@ const K0: [u32; 16] = [
     0xc19b_f174,
 ];
 
-const K1: [u32; 16] = [
+pub const K1: [u32; 16] = [
     0xe49b_69c1,
     0xefbe_4786,
     0x0fc1_9dc6,
@@ -57,7 +57,7 @@ const K1: [u32; 16] = [
     0x1429_2967,
 ];
 
-const K2: [u32; 16] = [
+pub const K2: [u32; 16] = [
     0x27b7_0a85,
     0x2e1b_2138,
     0x4d2c_6dfc,
@@ -76,7 +76,7 @@ const K2: [u32; 16] = [
     0x106a_a070,
 ];
 
-const K3: [u32; 16] = [
+pub const K3: [u32; 16] = [
     0x19a4_c116,
     0x1e37_6c08,
     0x2748_774c,
@@ -96,7 +96,7 @@ const K3: [u32; 16] = [
 ];
 
 // The sums of the constants and of the words of a known schedule: that of the padding block of a 64-byte message.
-const PADDING0: [u32; 16] = [
+pub const PADDING0: [u32; 16] = [
     0xc28a_2f98,
     0x7137_4491,
     0xb5c0_fbcf,
@@ -115,7 +115,7 @@ const PADDING0: [u32; 16] = [
     0xc19b_f374,
 ];
 
-const PADDING1: [u32; 16] = [
+pub const PADDING1: [u32; 16] = [
     0x649b_69c1,
     0xf0fe_4786,
     0x0fe1_edc6,
@@ -134,7 +134,7 @@ const PADDING1: [u32; 16] = [
     0xc735_3eb0,
 ];
 
-const PADDING2: [u32; 16] = [
+pub const PADDING2: [u32; 16] = [
     0x3069_bad5,
     0xcb97_6d5f,
     0x5a0f_118f,
@@ -153,7 +153,7 @@ const PADDING2: [u32; 16] = [
     0xc0bb_be37,
 ];
 
-const PADDING3: [u32; 16] = [
+pub const PADDING3: [u32; 16] = [
     0x8361_3bda,
     0xdb48_a363,
     0x0b02_e931,

@@ -4,12 +4,23 @@ ghost use mathlib.Core.List.{_++_};
 ghost use Prim.Native.Nat.{_+_, _*_, _/_, _%_, _^_, _≤_, _<_};
 ghost use lib.ListN.{length, getD};
 ghost use Rattle.hash.specs.Sha256 as F;
+ghost use Rattle.hash.specs.Parts as P;
 
 mod compress;
 
-use compress::State;
+pub use compress::State;
 use compress::compress;
 use compress::compress_padding;
+
+// The tables of constants, for hashes side by side.
+pub use compress::K0;
+pub use compress::K1;
+pub use compress::K2;
+pub use compress::K3;
+pub use compress::PADDING0;
+pub use compress::PADDING1;
+pub use compress::PADDING2;
+pub use compress::PADDING3;
 
 // The most bytes that an input may have.
 pub const MAX_INPUT: usize = 16_777_216;
@@ -93,6 +104,29 @@ fn padded_byte(s: &[u8], i: usize) -> u8
     byte((n * 8) as u64, k as u32)
 }
 
+// A word of the padded message. Most are bytes of the message or zeros, and are then made at once.
+fn padded_word(s: &[u8], at: usize) -> u32
+    requires { ⌜ (length (now s) ≤ F.MAX-INPUT) × (at + 4 ≤ (length (now s) + 72) / 64 * 64) ⌝ }
+    ensures { λ r. ⌜ r ≡ F.word (F.pad (now (s .entry))) at ⌝ }
+{
+    let n = s.len();
+    if at + 4 <= n {
+        return word(s[at], s[at + 1], s[at + 2], s[at + 3]);
+    }
+    let end = (n + 72) / 64 * 64;
+    if n < at {
+        if at + 12 <= end {
+            return 0;
+        }
+    }
+    word(
+        padded_byte(s, at),
+        padded_byte(s, at + 1),
+        padded_byte(s, at + 2),
+        padded_byte(s, at + 3),
+    )
+}
+
 // A block in which the padding begins or goes on.
 fn padded_block(s: &[u8], i: usize) -> [u32; 16]
     requires { ⌜ (length (now s) ≤ F.MAX-INPUT) × (i < (length (now s) + 72) / 64) ⌝ }
@@ -100,13 +134,7 @@ fn padded_block(s: &[u8], i: usize) -> [u32; 16]
 {
     let mut w = [0u32; 16];
     for t in 0..16 {
-        let at = 64 * i + 4 * t;
-        w[t] = word(
-            padded_byte(s, at),
-            padded_byte(s, at + 1),
-            padded_byte(s, at + 2),
-            padded_byte(s, at + 3),
-        );
+        w[t] = padded_word(s, 64 * i + 4 * t);
     }
     w
 }
@@ -122,6 +150,26 @@ fn block(s: &[u8], i: usize) -> [u32; 16]
     } else {
         padded_block(s, i)
     }
+}
+
+// The same for every number i, for hashes side by side: zeros past the blocks.
+pub fn block_of(s: &[u8], i: usize) -> [u32; 16]
+    ensures { λ r. ⌜ r ≡ P.blockOf (now (s .entry)) i ⌝ }
+{
+    let n = s.len();
+    if n <= MAX_INPUT {
+        if i < (n + 72) / 64 {
+            return block(s, i);
+        }
+    }
+    [0u32; 16]
+}
+
+// The hash value after s and the block m.
+pub fn compressed(s: State, m: [u32; 16]) -> State
+    ensures { λ r. ⌜ r ≡ F.compress s m ⌝ }
+{
+    compress(s, m)
 }
 
 // Section 5.3.3.
