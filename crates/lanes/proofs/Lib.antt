@@ -1,2 +1,3 @@
 pub mod Mixed
 pub mod SideBySide
+pub mod Turns

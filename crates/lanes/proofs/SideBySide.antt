@@ -189,7 +189,7 @@ pub lanes-digest : (i : ℕ) (s : State4) (one none bits : Four) → one ≡ all
 unfolding lanes lane value digestWords
 lanes-digest i s one none bits p q r = rw (p, q, r) (simp at-all)
 
-compress-block : (s : State) (m : List ℕ) → digestWords (compress s m) ≡ words (pad (digest (compress s m))) 0 16
+pub compress-block : (s : State) (m : List ℕ) → digestWords (compress s m) ≡ words (pad (digest (compress s m))) 0 16
 unfolding digestWords compress plus _⊞_
 compress-block s m =
     digest-block (compress s m) (omega arith) (omega arith) (omega arith) (omega arith) (omega arith) (omega arith) (omega arith) (omega arith)

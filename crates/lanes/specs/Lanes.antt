@@ -1,10 +1,15 @@
 -- Four words side by side, and the hash values, blocks and nodes that stand in their lanes. Assumes nothing.
+use mathlib.Core.Bool.{cond}
 use mathlib.Core.List.{List, [], _∷_, map}
 use Prim.Native.Nat.{ℕ, zero, suc}
+use lib.Dec.{leb}
 use Rattle.hash.specs.declared.compress.State.{State}
+use Rattle.hash.specs.Sha256.{pad, H}
+use Rattle.hash.specs.Parts.{blocks}
 use Rattle.lanes.specs.declared.compress.Four.{Four}
 use Rattle.lanes.specs.declared.compress.State4.{State4}
 use Rattle.lanes.specs.declared.Nodes.{Nodes}
+use Rattle.lanes.specs.declared.messages.Counts.{Counts}
 
 -- What stands in lane i, which is 0, 1, 2 or 3; a number above is taken for 3. So the node in a lane, which public contracts cite.
 unfoldable pub pick : {A : Type 0} → ℕ → A → A → A → A → A
@@ -48,3 +53,17 @@ nodes a b c d = record { a = a; b = b; c = c; d = d }
 -- The words of the one block of a padded digest.
 unfoldable pub digestWords : State → List ℕ
 digestWords s = s .a ∷ s .b ∷ s .c ∷ s .d ∷ s .e ∷ s .f ∷ s .g ∷ s .h ∷ 0x8000_0000 ∷ 0 ∷ 0 ∷ 0 ∷ 0 ∷ 0 ∷ 0 ∷ 256 ∷ []
+
+-- Messages side by side: the number in lane i; the new value, or the old one where i has reached n; the larger number.
+unfoldable pub count : ℕ → Counts → ℕ
+count i n = pick i (n .a) (n .b) (n .c) (n .d)
+
+unfoldable pub onward : {A : Type 0} → ℕ → ℕ → A → A → A
+onward n i new old = cond (leb n i) old new
+
+unfoldable pub larger : ℕ → ℕ → ℕ
+larger x y = cond (leb x y) y x
+
+-- The hash value after i blocks of a padded message, or after all where it has fewer.
+unfoldable pub after : List ℕ → ℕ → State
+after m i = H (pad m) (onward (blocks m) i i (blocks m))

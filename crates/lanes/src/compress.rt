@@ -6,6 +6,14 @@ ghost use Rattle.hash.specs.Sha256 as F;
 ghost use Rattle.hash.specs.Sha256.{_⊞_};
 ghost use Rattle.hash.specs.Parts as P;
 ghost use Rattle.lanes.specs.Lanes as L;
+use hash::K0;
+use hash::K1;
+use hash::K2;
+use hash::K3;
+use hash::PADDING0;
+use hash::PADDING1;
+use hash::PADDING2;
+use hash::PADDING3;
 use std::num::wrapping_add_u32;
 
 // Four words side by side.
@@ -27,160 +35,6 @@ pub struct State4 {
     pub g: Four,
     pub h: Four,
 }
-
-// The constants (section 4.2.2), sixteen at a time.
-const K0: [u32; 16] = [
-    0x428a_2f98,
-    0x7137_4491,
-    0xb5c0_fbcf,
-    0xe9b5_dba5,
-    0x3956_c25b,
-    0x59f1_11f1,
-    0x923f_82a4,
-    0xab1c_5ed5,
-    0xd807_aa98,
-    0x1283_5b01,
-    0x2431_85be,
-    0x550c_7dc3,
-    0x72be_5d74,
-    0x80de_b1fe,
-    0x9bdc_06a7,
-    0xc19b_f174,
-];
-
-const K1: [u32; 16] = [
-    0xe49b_69c1,
-    0xefbe_4786,
-    0x0fc1_9dc6,
-    0x240c_a1cc,
-    0x2de9_2c6f,
-    0x4a74_84aa,
-    0x5cb0_a9dc,
-    0x76f9_88da,
-    0x983e_5152,
-    0xa831_c66d,
-    0xb003_27c8,
-    0xbf59_7fc7,
-    0xc6e0_0bf3,
-    0xd5a7_9147,
-    0x06ca_6351,
-    0x1429_2967,
-];
-
-const K2: [u32; 16] = [
-    0x27b7_0a85,
-    0x2e1b_2138,
-    0x4d2c_6dfc,
-    0x5338_0d13,
-    0x650a_7354,
-    0x766a_0abb,
-    0x81c2_c92e,
-    0x9272_2c85,
-    0xa2bf_e8a1,
-    0xa81a_664b,
-    0xc24b_8b70,
-    0xc76c_51a3,
-    0xd192_e819,
-    0xd699_0624,
-    0xf40e_3585,
-    0x106a_a070,
-];
-
-const K3: [u32; 16] = [
-    0x19a4_c116,
-    0x1e37_6c08,
-    0x2748_774c,
-    0x34b0_bcb5,
-    0x391c_0cb3,
-    0x4ed8_aa4a,
-    0x5b9c_ca4f,
-    0x682e_6ff3,
-    0x748f_82ee,
-    0x78a5_636f,
-    0x84c8_7814,
-    0x8cc7_0208,
-    0x90be_fffa,
-    0xa450_6ceb,
-    0xbef9_a3f7,
-    0xc671_78f2,
-];
-
-// The sums of the constants and of the words of a known schedule: that of the padding block of a 64-byte message.
-const PADDING0: [u32; 16] = [
-    0xc28a_2f98,
-    0x7137_4491,
-    0xb5c0_fbcf,
-    0xe9b5_dba5,
-    0x3956_c25b,
-    0x59f1_11f1,
-    0x923f_82a4,
-    0xab1c_5ed5,
-    0xd807_aa98,
-    0x1283_5b01,
-    0x2431_85be,
-    0x550c_7dc3,
-    0x72be_5d74,
-    0x80de_b1fe,
-    0x9bdc_06a7,
-    0xc19b_f374,
-];
-
-const PADDING1: [u32; 16] = [
-    0x649b_69c1,
-    0xf0fe_4786,
-    0x0fe1_edc6,
-    0x240c_f254,
-    0x4fe9_346f,
-    0x6cc9_84be,
-    0x61b9_411e,
-    0x16f9_88fa,
-    0xf2c6_5152,
-    0xa88e_5a6d,
-    0xb019_fc65,
-    0xb9d9_9ec7,
-    0x9a12_31c3,
-    0xe70e_eaa0,
-    0xfdb1_232b,
-    0xc735_3eb0,
-];
-
-const PADDING2: [u32; 16] = [
-    0x3069_bad5,
-    0xcb97_6d5f,
-    0x5a0f_118f,
-    0xdc1e_eefd,
-    0x0a35_b689,
-    0xde0b_7a04,
-    0x58f4_ca9d,
-    0xe15d_5b16,
-    0x007f_3e86,
-    0x3708_8980,
-    0xa507_ea32,
-    0x6fab_9537,
-    0x1740_6110,
-    0x0d8c_d6f1,
-    0xcdaa_3b6d,
-    0xc0bb_be37,
-];
-
-const PADDING3: [u32; 16] = [
-    0x8361_3bda,
-    0xdb48_a363,
-    0x0b02_e931,
-    0x6fd1_5ca7,
-    0x521a_faca,
-    0x3133_8431,
-    0x6ed4_1a95,
-    0x6d43_7890,
-    0xc39c_91f2,
-    0x9ecc_abbd,
-    0xb5c9_a0e6,
-    0x532f_b63c,
-    0xd2c7_41c6,
-    0x0723_7ea3,
-    0xa495_4b68,
-    0x4c19_1d76,
-];
 
 pub(crate) fn all(k: u32) -> Four
     ensures { λ r. ⌜ r ≡ L.all k ⌝ }

@@ -1,4 +1,4 @@
-// Four joins at once, each in a lane of its own.
+// Four joins at once, each in a lane of its own; and four double hashes.
 ghost use mathlib.Core.Path.{_≡_};
 ghost use mathlib.Core.List.{_++_};
 ghost use Prim.Native.Nat.{ℕ, _+_, _*_, _<_, _≤_};
@@ -6,12 +6,14 @@ ghost use Rattle.hash.specs.Sha256 as F;
 ghost use Rattle.lanes.specs.Lanes as L;
 
 mod compress;
+mod messages;
 
 use compress::Four;
 use compress::State4;
 use compress::all;
 use compress::compress_padding4;
 use compress::compress4;
+pub use messages::sha256d4;
 
 // Four nodes, one for each lane.
 pub struct Nodes {
