@@ -2,6 +2,9 @@ pub mod Table
 pub mod TableLaws
 pub mod Bundle
 pub mod BundleHeads
+pub mod AmongLaws
+pub mod Ahead
+pub mod AheadLaws
 pub mod BundleHeadLaws
 pub mod BundleLaws
 pub mod BundleTheorems

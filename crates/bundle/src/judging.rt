@@ -1,4 +1,7 @@
 // Judging a BEEF against a list of trusted roots (paper 01, "The bundle rule").
+use super::ids::id_in;
+use super::ids::ids_ahead;
+use super::ids::no_ids;
 use format::Anchor;
 use format::Beef;
 use format::BeefAnswer;
@@ -77,17 +80,16 @@ fn same_at(list: &[u8], at: usize, x: [u8; 32]) -> bool
     true
 }
 
-// Whether the hash is one of a list of hashes, end to end.
+// Whether the hash is one of a list of hashes, end to end. The last ones are asked first: a parent mostly comes shortly before its child.
 fn is_among(x: [u8; 32], list: &[u8]) -> bool
     ensures { λ r. ⌜ r ≡ among x (hashesOf (now (list .entry))) ⌝ }
 {
-    let n = list.len() / 32;
-    let mut i = 0;
-    while i < n {
-        if same_at(list, 32 * i, x) {
+    let mut left = list.len() / 32;
+    while 0 < left {
+        if same_at(list, 32 * (left - 1), x) {
             return true;
         }
-        i += 1;
+        left -= 1;
     }
     false
 }
@@ -267,6 +269,7 @@ fn judge_entries(
     ensures { λ r. ⌜ judgementOf r (now (ids .exit)) (now (numbers .exit)) ≡ judgeFrom (headId (now (s .entry))) (headStands (now (s .entry)) (now (roots .entry)) bumps) (headRow (now (s .entry))) [] (headsFrom count (now (s .entry)) n (start .at)) ⌝ }
 {
     let mut kept = none_kept();
+    let mut four = no_ids();
     let mut next = start;
     let mut i = 0;
     while i < n {
@@ -277,7 +280,8 @@ fn judge_entries(
         let anchor = e.anchor;
         kept = keep_path(s, bumps, anchor, kept);
         let tx = e.transaction;
-        let id = format::tx_id(s, tx);
+        four = ids_ahead(s, count, next, i % 4, four);
+        let id = id_in(four, i % 4);
         let standing = judge_entry(s, roots, kept.path, &ids[..32 * i], id, e);
         match standing {
             Standing::Refuses(rejection) => {

@@ -6,7 +6,7 @@ ghost use mathlib.Core.Path.{_≡_};
 ghost use Rattle.format.specs.Id.{spanHash, subjectHash};
 
 // The hash of a part of the input; zero if it does not lie in it.
-fn span_hash(s: &[u8], start: usize, end: usize) -> [u8; 32]
+pub fn span_hash(s: &[u8], start: usize, end: usize) -> [u8; 32]
     ensures { λ r. ⌜ r ≡ spanHash (now (s .entry)) start end ⌝ }
 {
     if end < start {

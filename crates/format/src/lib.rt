@@ -39,6 +39,7 @@ pub use field::Cursor;
 pub use field::Number;
 pub use field::Run;
 pub use field::read_varint;
+pub use id::span_hash;
 pub use id::subject_id;
 pub use id::tx_id;
 pub use level::Kind;

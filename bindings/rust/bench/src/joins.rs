@@ -16,6 +16,11 @@ pub fn heading_beside(name: &str, other: &str) {
     heading_of(name, &["reference", other]);
 }
 
+/// The heading of a table of calls that do at once what single calls do one by one.
+pub fn heading_at_once(name: &str) {
+    heading_of(name, &["single calls", "OpenSSL"]);
+}
+
 fn heading_of(name: &str, others: &[&str]) {
     let others: String =
         others.iter().map(|other| format!(" {other:>12} {:>6}", "ratio")).collect();
@@ -41,6 +46,13 @@ fn beside_joins<'a>(
     let mut subjects = vec![library, reference, alone(joins)];
     subjects.extend(OpenSsl::find().map(|openssl| by_openssl(openssl, joins)));
     subjects
+}
+
+/// Prints a row of a table of calls at once; `joins` is how many the single calls make.
+pub fn at_once(name: &str, joins: usize, library: Subject, single: Subject) {
+    let mut subjects = vec![library, single];
+    subjects.extend(OpenSsl::find().map(|openssl| by_openssl(openssl, joins)));
+    print(name, &seconds(subjects));
 }
 
 /// So many joins, one after the other.

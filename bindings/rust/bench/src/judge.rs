@@ -13,6 +13,7 @@ use crate::measure::{seconds, subject, time};
 use crate::prove::buried;
 use crate::read::{falling, heading, row, seconds_of};
 use crate::stored::{join, sha256d};
+use crate::yardstick::OpenSsl;
 
 /// Prints the tables of bundles.
 pub fn run() {
@@ -31,12 +32,21 @@ pub fn run() {
     let forest = Plan::random(&mut random, 256);
     compare("256 transactions, some anchored", &forest.draft().bytes, &forest.root_list());
 
+    println!("\nBundles of transactions of 250 bytes, beside the hashing of these one by one");
+    println!(
+        "{:<34} {:>12} {:>12} {:>6} {:>12} {:>6}",
+        "", "library", "hashing", "ratio", "OpenSSL", "ratio"
+    );
+    for count in [1, 2, 4, 256] {
+        of_250_bytes(&mut random, count);
+    }
+
     heading("Worst cases of judging");
     for height in [32, 64] {
         let name = format!("256 transactions in one BUMP of {height} full levels");
         worst(&name, &anchored_in_one(&mut random, height));
     }
-    worst("400,000 inputs, parent the last of 255", &many_inputs(&mut random));
+    worst("400,000 inputs, parent the first of 255", &many_inputs(&mut random));
     for (count, height) in [(64, 32), (26, 64)] {
         let name = format!("{count} BUMPs of {height} levels of 1,024 falling leaves");
         worst(&name, &many_bumps(&mut random, count, height));
@@ -73,6 +83,38 @@ fn compare(name: &str, bundle: &[u8], roots: &[u8]) {
     );
 }
 
+/// Prints the row of a chain of so many transactions of 250 bytes.
+fn of_250_bytes(random: &mut Random, count: usize) {
+    let plan = chain_of(random, count, |random, parent| {
+        let mut next = transaction::Plan::spending(random, &[parent]);
+        next.inputs[0].2.clear();
+        next.outputs = vec![(1, random.bytes(25)), (2, random.bytes(25))];
+        next.inputs[0].2 = random.bytes(250 - next.draft().bytes.len());
+        next
+    });
+    let (bundle, roots) = (plan.draft().bytes, plan.root_list());
+    let mut table = vec![Record::default(); count];
+    assert_eq!(barrowtide::judge_beef(&bundle, &roots, &mut table), Ok(count as u64));
+    let transactions: Vec<_> = plan.entries.iter().map(|entry| entry.0.draft().bytes).collect();
+    assert!(transactions.iter().all(|bytes| bytes.len() == 250));
+    let mut subjects = vec![
+        subject(|| barrowtide::judge_beef(&bundle, &roots, &mut table)),
+        subject(|| transactions.iter().filter_map(|bytes| sha256d(bytes).ok()).count()),
+    ];
+    if let Some(openssl) = OpenSsl::find() {
+        let transactions = &transactions;
+        subjects.push(subject(move || {
+            transactions.iter().map(|bytes| openssl.sha256d(bytes)[0]).max()
+        }));
+    }
+    let times = seconds(subjects);
+    let others: String = times[1..]
+        .iter()
+        .map(|other| format!(" {:>12} {:>6.2}", time(*other), times[0] / other))
+        .collect();
+    println!("{:<34} {:>12}{others}", format!("{count} of them, one anchored"), time(times[0]));
+}
+
 fn worst(name: &str, plan: &Plan) {
     let (bundle, roots) = (plan.draft().bytes, plan.root_list());
     let count = plan.entries.len();
@@ -87,14 +129,24 @@ fn worst(name: &str, plan: &Plan) {
 
 /// A bundle with one anchored transaction and a chain of others that spend from it.
 fn chain(random: &mut Random, count: usize) -> Plan {
-    let first = transaction::Plan::random(random);
+    chain_of(random, count, |random, parent| transaction::Plan::spending(random, &[parent]))
+}
+
+/// The same, of transactions that are made for their parents.
+fn chain_of(
+    random: &mut Random,
+    count: usize,
+    spending: impl Fn(&mut Random, Hash) -> transaction::Plan,
+) -> Plan {
+    let unknown = random.hash();
+    let first = spending(random, unknown);
     let mut ids: Vec<Hash> = (0..1_000).map(|_| random.hash()).collect();
     ids[500] = first.id();
     let tree = Tree::new(ids);
     let mut last = first.id();
     let mut entries = vec![(first, Some(0))];
     while entries.len() < count {
-        let next = transaction::Plan::spending(random, &[last]);
+        let next = spending(random, last);
         last = next.id();
         entries.push((next, None));
     }
@@ -110,10 +162,10 @@ fn anchored_in_one(random: &mut Random, height: u32) -> Plan {
     Plan { bumps: vec![bump], entries, roots: vec![root] }
 }
 
-/// 255 transactions in a chain, and one whose 400,000 inputs all spend from the last of them.
+/// 255 transactions in a chain, and one whose 400,000 inputs all spend from the first of them.
 fn many_inputs(random: &mut Random) -> Plan {
     let mut plan = chain(random, 255);
-    let parent = plan.entries[254].0.id();
+    let parent = plan.entries[0].0.id();
     let mut greedy = transaction::Plan::spending(random, &[parent]);
     greedy.inputs = (0..400_000).map(|number| (parent, number, Vec::new(), 0)).collect();
     plan.entries.push((greedy, None));

@@ -7,9 +7,10 @@ use reference::generate::tree::Tree;
 use reference::page::prove_page;
 use reference::Hash;
 
-use crate::joins::{heading, row};
+use crate::joins::{at_once, heading, heading_at_once, row};
 use crate::measure::subject;
 use crate::prove::buried;
+use crate::stored::{check_clients, prove_bump};
 
 /// Prints the table of pages.
 pub fn run() {
@@ -30,6 +31,29 @@ pub fn run() {
         let (path, root) = buried(&tree, &positions, height);
         compare(&format!("BUMP, {height} levels of 1,024 falling leaves"), &path, &ids, root);
     }
+
+    heading_at_once("256 climbs by one BUMP of 10 layers, beside as many calls of prove_bump");
+    let few = small.bump().bytes;
+    page_at_once("page, 8 leaves at level 0", &few, &repeated);
+    let bump = Plan::of(&tree, &positions).bump().bytes;
+    page_at_once("page, 512 leaves at level 0", &bump, &ids);
+    let prove_each = subject(|| ids.iter().all(|id| prove_bump(&bump, id).is_ok()));
+    at_once(
+        "all clients, 512 leaves",
+        10 * ids.len(),
+        subject(|| check_clients(&bump)),
+        prove_each,
+    );
+}
+
+fn page_at_once(name: &str, bump: &[u8], ids: &[Hash]) {
+    let mut answers = [Answer::default(); MAX_PAGE];
+    at_once(
+        name,
+        10 * ids.len(),
+        subject(|| prove_page_into(bump, ids.as_flattened(), &mut answers)),
+        subject(|| ids.iter().all(|id| prove_bump(bump, id).is_ok())),
+    );
 }
 
 fn compare(name: &str, path: &Plan, ids: &[Hash], root: Hash) {

@@ -1,0 +1,51 @@
+-- The ids of the transactions ahead of a place, as the code makes them four at a time.
+use Prim.Native.Nat.{ℕ, zero, suc, _+_, _≤_, _<_}
+use mathlib.Core.Path.{_≡_}
+use mathlib.Core.Bool.{Bool}
+use mathlib.Core.List.{List}
+use lib.ListN.{length}
+use Rattle.format.specs.declared.beef.EntryHead.{EntryHead}
+use Rattle.format.specs.Parse.{Parse, pick, otherwise, each}
+use Rattle.format.specs.Beef.{entryField}
+use Rattle.format.specs.BeefAnswer.{entryHeadOf}
+use Rattle.format.specs.Id.{spanHash}
+use Rattle.lanes.specs.Lanes as L
+use Rattle.lanes.specs.declared.Nodes.{Nodes}
+use Rattle.bundle.specs.declared.ids.Span.{Span}
+use Rattle.bundle.specs.declared.ids.Spans.{Spans}
+
+-- where no transaction can be read
+unfoldable pub noSpan : Span
+noSpan = record { start = 1; end = 0 }
+
+unfoldable pub spanOf : EntryHead → Span
+spanOf e = record { start = e .transaction .start; end = e .transaction .end }
+
+-- the place in lane l
+unfoldable pub span : ℕ → Spans → Span
+span l x = L.pick l (x .a) (x .b) (x .c) (x .d)
+
+abbrev pub entryAt : ℕ → List ℕ → ℕ → Parse EntryHead
+entryAt count s at = each entryHeadOf (entryField count s at)
+
+-- where the m-th transaction from a place on lies, as far as they can be read
+unfoldable pub spanAt : ℕ → List ℕ → ℕ → ℕ → Span
+spanAt count s at zero = otherwise (entryAt count s at) noSpan (λ e _. spanOf e)
+spanAt count s at (suc m) = otherwise (entryAt count s at) noSpan (λ _ next. spanAt count s next m)
+
+unfoldable pub spanFrom : ℕ → List ℕ → ℕ → Bool → ℕ → Span
+spanFrom count s at more m = pick more (spanAt count s at m) noSpan
+
+-- a step from a place: what lies there, and from where the ones after it are read
+abbrev pub Reaches : ℕ → List ℕ → ℕ → Bool → Span → ℕ → Bool → Type 0
+Reaches count s at more x next onward = (x ≡ spanFrom count s at more 0) × ((m : ℕ) → spanFrom count s next onward m ≡ spanFrom count s at more (suc m))
+
+unfoldable pub spanId : List ℕ → Span → List ℕ
+spanId s x = spanHash s (x .start) (x .end)
+
+abbrev pub Inside : List ℕ → Span → Type 0
+Inside s x = (x .start ≤ x .end) × (x .end ≤ length s)
+
+-- from lane k on stand the ids of the transactions from a place on
+unfoldable pub Ahead : ℕ → List ℕ → ℕ → ℕ → Nodes → Type 0
+Ahead count s at k four = (m : ℕ) → k + m < 4 → L.node (k + m) four ≡ spanId s (spanAt count s at m)
