@@ -157,13 +157,17 @@ pub at-words : (j i p q r s : ℕ) (n : Nodes) → p ≡ word (n .a) i → q ≡
 unfolding at node
 at-words j i p q r s n ep eq er es = rw (ep, eq, er, es) (pick-map (λ (l : List ℕ). word l i) j (n .a) (n .b) (n .c) (n .d))
 
+-- One word more of each lane.
+pub words-on : (i o : ℕ) (p : List ℕ) (w : List Four) (t : ℕ) (x : Four) → t < length w → take t (lanes i w) ≡ words p o t → at i x ≡ word p (o + 4 * t)
+    → take (t + 1) (lanes i (set w t x)) ≡ words p o (t + 1)
+words-on i o p w t x h q e =
+    let n = lanes-length i w in
+    rw (lanes-set, e) (words-step p (lanes i w) o t (omega arith) q)
+
 -- The words of two nodes, one after the other.
 pub left-on : (i : ℕ) (p : List ℕ) (w : List Four) (t : ℕ) (x : Four) → t < length w → take t (lanes i w) ≡ words p 0 t → at i x ≡ word p (4 * t)
     → take (t + 1) (lanes i (set w t x)) ≡ words p 0 (t + 1)
-left-on i p w t x h q e =
-    let n = lanes-length i w in
-    let s = words-step p (lanes i w) 0 t (omega arith) q in
-    rw (lanes-set, e) (rw zero-add at s)
+left-on i p w t x h q e = words-on i 0 p w t x h q (rw zero-add e)
 
 pub right-on : (i : ℕ) (f p : List ℕ) (w : List Four) (t : ℕ) (x : Four) → 8 ≤ t → t < length w → take t (lanes i w) ≡ f ++ words p 0 (t - 8)
     → at i x ≡ word p (4 * t - 32) → take (t + 1) (lanes i (set w t x)) ≡ f ++ words p 0 (t + 1 - 8)

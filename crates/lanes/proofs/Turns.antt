@@ -13,8 +13,8 @@ use Rattle.hash.specs.declared.compress.State.{State}
 use Rattle.hash.specs.Sha256.{pad, words, digest, compress, H0, H, hashValue, sha256, sha256d, hashed, MAX-INPUT}
 use Rattle.hash.specs.Sha256Laws.{hashed-accepted}
 use Rattle.hash.specs.Parts.{blocks, blockOf}
-use Rattle.hash.proofs.Words.{grow}
-use Rattle.hash.proofs.Padding.{H-step, H-done, block-within}
+use Rattle.hash.proofs.Words.{grow, words-same}
+use Rattle.hash.proofs.Padding.{pad-front, H-step, H-done, block-within}
 use Rattle.hash.proofs.Digests.{digest-hashed}
 use Rattle.lanes.specs.declared.compress.Four.{Four}
 use Rattle.lanes.specs.declared.compress.State4.{State4}
@@ -116,6 +116,11 @@ columns-done l t a b c d w et h ha hb hc hd q =
     let p : length (pick l a b c d) ≡ 16 = pick-all (λ (m : List ℕ). length m ≡ 16) l ha hb hc hd in
     let e : take 16 (lanes l w) ≡ take 16 (pick l a b c d) = rw et at q in
     sym (take-all 16 (lanes l w) (omega arith)) ∙ e ∙ take-all 16 (pick l a b c d) (omega arith)
+
+-- A block that lies within the message.
+pub block-in : (m : List ℕ) (i : ℕ) → length m ≤ MAX-INPUT → i < length m / 64 → words m (64 * i) 16 ≡ blockOf m i
+block-in m i h l =
+    words-same m (pad m) (64 * i) (64 * i) 16 (λ k g. sym (pad-front m (64 * i + k) (omega arith))) ∙ sym (block-within m i h (omega arith))
 
 -- The hash value after some blocks: up to all of them, and from there on.
 after-upto : (m : List ℕ) (i : ℕ) → i ≤ blocks m → H (pad m) i ≡ after m i

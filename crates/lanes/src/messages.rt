@@ -8,8 +8,9 @@ use super::digest_block;
 use super::digests;
 use super::initial;
 use super::side_by_side;
+use super::word;
 ghost use mathlib.Core.Path.{_≡_};
-ghost use Prim.Native.Nat.{ℕ, _≤_};
+ghost use Prim.Native.Nat.{ℕ, _+_, _≤_};
 ghost use lib.ListN.{length};
 ghost use Rattle.hash.specs.Sha256 as F;
 ghost use Rattle.hash.specs.Parts as P;
@@ -82,10 +83,52 @@ fn columns(a: [u32; 16], b: [u32; 16], c: [u32; 16], d: [u32; 16]) -> [Four; 16]
     w
 }
 
-// Block i of each message: zeros past the blocks.
+// The word at a byte of a message, and of four.
+fn word_in(s: &[u8], at: usize) -> u32
+    requires { ⌜ at + 4 ≤ length (now s) ⌝ }
+    ensures { λ r. ⌜ r ≡ F.word (now (s .entry)) at ⌝ }
+{
+    word(s[at], s[at + 1], s[at + 2], s[at + 3])
+}
+
+fn words_in(a: &[u8], b: &[u8], c: &[u8], d: &[u8], at: usize) -> Four
+    requires { ⌜ (at + 4 ≤ length (now a)) × (at + 4 ≤ length (now b)) × (at + 4 ≤ length (now c)) × (at + 4 ≤ length (now d)) ⌝ }
+    ensures { λ r. ⌜ ((l : ℕ) → L.at l r ≡ F.word (L.pick l (now (a .entry)) (now (b .entry)) (now (c .entry)) (now (d .entry))) at) ⌝ }
+{
+    Four {
+        a: word_in(a, at),
+        b: word_in(b, at),
+        c: word_in(c, at),
+        d: word_in(d, at),
+    }
+}
+
+fn blocks_in(a: &[u8], b: &[u8], c: &[u8], d: &[u8], at: usize) -> [Four; 16]
+    requires { ⌜ (at + 64 ≤ length (now a)) × (at + 64 ≤ length (now b)) × (at + 64 ≤ length (now c)) × (at + 64 ≤ length (now d)) ⌝ }
+    ensures { λ r. ⌜ ((l : ℕ) → L.lanes l r ≡ F.words (L.pick l (now (a .entry)) (now (b .entry)) (now (c .entry)) (now (d .entry))) at 16) ⌝ }
+{
+    let none = all(0);
+    let mut w = [none; 16];
+    for t in 0..16 {
+        w[t] = words_in(a, b, c, d, at + 4 * t);
+    }
+    w
+}
+
+// Block i of each message: zeros past the blocks. Blocks that lie within all messages are read where they lie.
 fn blocks(a: &[u8], b: &[u8], c: &[u8], d: &[u8], i: usize) -> [Four; 16]
+    requires { ⌜ (length (now a) ≤ F.MAX-INPUT) × (length (now b) ≤ F.MAX-INPUT) × (length (now c) ≤ F.MAX-INPUT) × (length (now d) ≤ F.MAX-INPUT) ⌝ }
     ensures { λ r. ⌜ ((l : ℕ) → L.lanes l r ≡ P.blockOf (L.pick l (now (a .entry)) (now (b .entry)) (now (c .entry)) (now (d .entry))) i) ⌝ }
 {
+    if i < a.len() / 64 {
+        if i < b.len() / 64 {
+            if i < c.len() / 64 {
+                if i < d.len() / 64 {
+                    return blocks_in(a, b, c, d, 64 * i);
+                }
+            }
+        }
+    }
     columns(
         block_of(a, i),
         block_of(b, i),
