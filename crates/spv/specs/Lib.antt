@@ -18,6 +18,10 @@ pub mod Joins
 pub mod JoinsLaws
 pub mod Shapes
 pub mod ShapesLaws
+pub mod Kept
+pub mod KeptLaws
+pub mod Together
+pub mod TogetherLaws
 pub mod Trace
 pub mod TraceLaws
 pub mod Readings

@@ -75,7 +75,7 @@ module _ (w : Siblings) (whole : (k q : ℕ) → Whole (w k q)) where
   value-by-whole copied copy join a b c = b
   value-by-whole absent copy join a b c = c
 
-  absent-whole : Whole absent
+  pub absent-whole : Whole absent
   unfolding Whole
   absent-whole p e = let z : _≡_ {A = ℕ} 0 1 = cc in absurd (omega arith)
 
@@ -91,7 +91,7 @@ module _ (w : Siblings) (whole : (k q : ℕ) → Whole (w k q)) where
   both-whole copied r = absent-whole
   both-whole absent r = absent-whole
 
-  join-whole : (k q : ℕ) → Whole (joinOf w k q)
+  pub join-whole : (k q : ℕ) → Whole (joinOf w k q)
   unfolding joinOf
   join-whole zero q = absent-whole
   join-whole (suc k) q = both-whole _ _

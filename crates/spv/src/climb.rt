@@ -69,7 +69,7 @@ pub(crate) fn value_at(s: &[u8], place: usize) -> Node
 }
 
 // What a leaf or node gives, by its kind.
-fn written_node(s: &[u8], kind: Kind) -> Node
+pub(crate) fn written_node(s: &[u8], kind: Kind) -> Node
     ensures { λ r. ⌜ r ≡ nodeOf (written (now (s .entry)) kind) ⌝ }
 {
     match kind {
@@ -94,7 +94,7 @@ pub(crate) fn sibling_at(s: &[u8], path: Path, layer: usize, position: u64) -> N
     }
 }
 
-fn failed(number: u8) -> Joined
+pub(crate) fn failed(number: u8) -> Joined
     ensures { λ r. ⌜ r ≡ joinedOf (fails number) ⌝ }
 {
     Joined {

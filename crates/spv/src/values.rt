@@ -21,7 +21,7 @@ ghost use Rattle.spv.specs.Marks.{Marked};
 ghost use Rattle.spv.specs.Low.{Low};
 ghost use Rattle.spv.specs.Shapes.{siblingOf};
 
-fn has_value(node: Node) -> bool
+pub(crate) fn has_value(node: Node) -> bool
     ensures { λ r. ⌜ r ≡ hasValue (siblingOf node) ⌝ }
 {
     let kind = node.kind;

@@ -1,0 +1,22 @@
+use mathlib.Core.Path.{ap, sym}
+use Rattle.spv.specs.Together.{goesOn, goingOn}
+use borrow.Author.Needs.{needs}
+use Rattle.spv.proofs.together.goes_on.Statement.{statement}
+use Rattle.spv.proofs.together.goes_on.Tie as tie
+
+enum-told : tie.Need-enum-told
+enum-told c = search needs
+
+enum-told-2 : tie.Need-enum-told-2
+enum-told-2 c = search needs
+
+returns : tie.Need-returns
+unfolding goingOn
+returns c = sym (ap goesOn (c .enum-told .given .1))
+
+returns-2 : tie.Need-returns-2
+unfolding goingOn
+returns-2 c = sym (ap goesOn (c .enum-told2 .given .1))
+
+pub goes-on-spec : {M : Type 1} → statement M
+goes-on-spec = tie.close (tie.spec enum-told enum-told-2 returns returns-2)
