@@ -14,22 +14,19 @@ use Rattle.format.specs.Parse.{got, bad}
 use Rattle.format.specs.Refusals.{NOT-LISTED}
 use Rattle.format.specs.Search.{looseLeaf}
 use Rattle.spv.specs.declared.rejection.Rejection.{Rejection}
-use Rattle.spv.specs.Result.{follow, Result, refused, carrying, atSibling}
+use Rattle.spv.specs.Result.{Result, accepted, refused, follow, carrying, atSibling}
 use Rattle.spv.specs.Climb.{Siblings, Step, joins, fails, Ascent, step, odd, siblingPosition, ascend, endBy, endOf, preimagesOf}
 use Rattle.spv.specs.ClimbLaws.{turn-joins, turn-fails, turn-none}
-use Rattle.spv.specs.Compare.{targetOf, Target, any, at, never, meet}
+use Rattle.spv.specs.Compare.{Target, any, at, never, meet}
 use Rattle.spv.specs.CompareLaws.{meet-left, meet-right, meet-here, meet-above}
 use Rattle.spv.specs.Shapes.{climbedOf, joinedOf, isJoins}
 use Rattle.spv.specs.ShapesLaws.{is-joins, told-joins}
 use Rattle.spv.specs.Clients.{afterLeaf, closing}
-use Rattle.spv.specs.ClientsShapes.{clientsIn, wantSays, refusedCheck, checkedOf}
-use Rattle.spv.specs.ClientsLaws.{turn-leaf, turn-short, turn-last}
-use Rattle.spv.specs.ClientsShapesLaws.{told-goes, told-halts}
+use Rattle.spv.specs.ClientsShapes.{clientsIn, refusedCheck, checkedOf}
+use Rattle.spv.specs.ClientsLaws.{follow-same, follow-twice, turn-leaf, turn-short, turn-last}
 use Rattle.spv.specs.declared.climb.Climbed.{Climbed}
 use Rattle.spv.specs.declared.climb.Joined.{Joined}
 use Rattle.spv.specs.declared.climb.End.the-variants.{Root, Stop}
-use Rattle.spv.specs.declared.prove.Status.the-variants.{Read, Unread}
-use Rattle.spv.specs.declared.clients.Want.{Want}
 
 -- ---- one climb: what is left from here comes to what was asked at the start
 
@@ -114,32 +111,35 @@ module _ (σ τ : Siblings) (e h i : ℕ) (c₀ d₀ : List ℕ) where
         pub pairing-up : same (sha256d (both r)) (sha256d (both u)) ≡ false → (c′ d′ : List ℕ) → c′ ≡ sha256d (both r) → d′ ≡ sha256d (both u) → Pairing σ τ e h i c₀ d₀ (k + 1) (j / 2) c′ d′
         pairing-up t c′ d′ z w = record { done = omega arith; kept = rw (z, w) (sym (both-up ∙ meet-above _ _ _ _ t) ∙ v .kept) }
 
--- ---- a level's clients: what is left from here comes to what was asked at the start
+-- ---- a level's clients: with x wanted, what is left from here comes to what was asked at the start
 
-pub record Checking (σ : Siblings) (h : ℕ) (s : List ℕ) (n start m at : ℕ) (w : Target) : Type 0 where
+pub record Checking (σ : Siblings) (h : ℕ) (s : List ℕ) (n start m at : ℕ) (x : Result Target) : Type 0 where
   pub done : m ≤ n
-  pub kept : clientsIn σ h s (n - m) at w ≡ clientsIn σ h s n start any
+  pub kept : follow x (λ w. clientsIn σ h s (n - m) at w) ≡ clientsIn σ h s n start any
 
 module _ (σ : Siblings) (h : ℕ) (s : List ℕ) (n start : ℕ) where
-  pub checking-start : (w : Target) → w ≡ any → Checking σ h s n start 0 start w
-  checking-start w e = record { done = omega arith; kept = rw (sub-zero, e) }
+  pub checking-start : (x : Result Target) → x ≡ accepted any → Checking σ h s n start 0 start x
+  checking-start x e = record { done = omega arith; kept = rw (sub-zero, e) }
 
-  module _ (m at : ℕ) (w : Target) (v : Checking σ h s n start m at w) where
-    pub checking-end : n ≤ m → closing w ≡ clientsIn σ h s n start any
-    checking-end b = sym (turn-last σ h s n m at w b) ∙ v .kept
+  module _ (m at : ℕ) (x : Result Target) (v : Checking σ h s n start m at x) where
+    pub checking-end : n ≤ m → follow x closing ≡ clientsIn σ h s n start any
+    checking-end b = follow-same x closing (λ w. clientsIn σ h s (n - m) at w) (λ w. sym (turn-last σ h s n m at w b)) ∙ v .kept
+
+    pub checking-halts : (f : Rejection) → x ≡ refused f → refusedCheck f ≡ checkedOf (clientsIn σ h s n start any)
+    unfolding checkedOf
+    checking-halts f e = ap checkedOf (sym (ap (λ (y : Result Target). follow y (λ w. clientsIn σ h s (n - m) at w)) e) ∙ v .kept)
 
     module _ (b : m < n) where
-      pub checking-short : (number place : ℕ) → looseLeaf Layout.Bump s at ≡ bad number place → refused (carrying NOT-LISTED 0) ≡ clientsIn σ h s n start any
-      checking-short number place e = sym (turn-short σ h s n m at w b number place e) ∙ v .kept
+      pub checking-short : (number place : ℕ) → looseLeaf Layout.Bump s at ≡ bad number place → follow x (λ w. refused (carrying NOT-LISTED 0)) ≡ clientsIn σ h s n start any
+      checking-short number place e =
+          follow-same x (λ w. refused (carrying NOT-LISTED 0)) (λ w. clientsIn σ h s (n - m) at w) (λ w. sym (turn-short σ h s n m at w b number place e)) ∙ v .kept
 
-      module _ (leaf : Leaf) (next : ℕ) (e : looseLeaf Layout.Bump s at ≡ got leaf next) (r : Want) (f : wantSays r ≡ afterLeaf σ h s w leaf) where
-        pub checking-halts : (g : Rejection) → r .status ≡ Unread g → refusedCheck g ≡ checkedOf (clientsIn σ h s n start any)
-        checking-halts g i = told-halts r (afterLeaf σ h s w leaf) g _ f i ∙ ap checkedOf (sym (turn-leaf σ h s n m at w b leaf next e) ∙ v .kept)
-
-        pub checking-goes : r .status ≡ Read → Checking σ h s n start (m + 1) next (targetOf (r .bound) (r .root))
-        checking-goes i =
-            record {
-              done = omega arith;
-              kept = ap (λ (x : Result Target). follow x (λ w′. clientsIn σ h s (n - (m + 1)) next w′)) (sym (told-goes r (afterLeaf σ h s w leaf) f i))
-                  ∙ sym (turn-leaf σ h s n m at w b leaf next e) ∙ v .kept;
-            }
+      pub checking-goes : (leaf : Leaf) (next : ℕ) → looseLeaf Layout.Bump s at ≡ got leaf next → (y : Result Target) → y ≡ follow x (λ w. afterLeaf σ h s w leaf) → Checking σ h s n start (m + 1) next y
+      checking-goes leaf next e y f =
+          record {
+            done = omega arith;
+            kept = ap (λ (z : Result Target). follow z (λ w. clientsIn σ h s (n - (m + 1)) next w)) f
+                ∙ follow-twice x (λ w. afterLeaf σ h s w leaf) (λ w. clientsIn σ h s (n - (m + 1)) next w)
+                ∙ follow-same x (λ w. follow (afterLeaf σ h s w leaf) (λ w′. clientsIn σ h s (n - (m + 1)) next w′)) (λ w. clientsIn σ h s (n - m) at w) (λ w. sym (turn-leaf σ h s n m at w b leaf next e))
+                ∙ v .kept;
+          }

@@ -28,9 +28,13 @@ use Rattle.spv.specs.ReadingsLaws.{prove-same, bump-layers, bump-leads}
 use Rattle.spv.specs.Clients.{wantedBy, afterKind, afterLeaf, closing, clients, bumpClients}
 use Rattle.spv.specs.ClientsShapes.{clientsIn, clientsOfLevel}
 
-follow-same : (x : Result Target) (f g : Target → Result (List ℕ)) → ((w : Target) → f w ≡ g w) → follow x f ≡ follow x g
-follow-same (accepted w) f g e = e w
+pub follow-same : {A B : Type 0} (x : Result A) (f g : A → Result B) → ((a : A) → f a ≡ g a) → follow x f ≡ follow x g
+follow-same (accepted a) f g e = e a
 follow-same (refused why) f g e = refl
+
+pub follow-twice : {A B C : Type 0} (x : Result A) (f : A → Result B) (g : B → Result C) → follow (follow x f) g ≡ follow x (λ a. follow (f a) g)
+follow-twice (accepted a) f g = refl
+follow-twice (refused why) f g = refl
 
 after-same : (σ τ : Siblings) (h : ℕ) (s : List ℕ) (w : Target) (offset : ℕ) (kind : Kind) → ((k q : ℕ) → k < h → σ k q ≡ τ k q) → afterKind σ h s w offset kind ≡ afterKind τ h s w offset kind
 unfolding afterKind

@@ -30,6 +30,8 @@ pub mod Clients
 pub mod ClientsShapes
 pub mod ClientsLaws
 pub mod ClientsShapesLaws
+pub mod Gathered
+pub mod GatheredLaws
 pub mod ClientsTheorems
 pub mod Surplus
 pub mod AsBefore

@@ -1,26 +1,31 @@
-use mathlib.Core.Path.{ap, sym, _∙_}
-use mathlib.Core.Bool.{Bool}
+use mathlib.Core.Path.{ap, _∙_}
 use borrow.Author.Needs.{needs}
 use Rattle.spv.specs.Clients.{closing}
-use Rattle.spv.specs.Compare.{targetOf}
 use Rattle.spv.specs.ClientsShapes.{checkedOf}
+use Rattle.spv.specs.ClientsShapesLaws.{goes-on, halts}
 use Rattle.spv.proofs.clients.close_check.Statement.{statement}
 use Rattle.spv.proofs.clients.close_check.Tie as tie
 
-returns : tie.Need-returns
-unfolding closing targetOf checkedOf
-returns c =
-    let a = c .before .args in
-    sym (ap (λ (b : Bool). checkedOf (closing (targetOf b (a .root)))) (c .if1 .taken))
+enum-known-status : tie.Need-enum-known-status
+enum-known-status c = search needs
 
-unlisted-requires : tie.Need-unlisted-requires
-unlisted-requires c κs = search needs
+refused-check-requires : tie.Need-refused-check-requires
+refused-check-requires c κs = search needs
+
+enum-told : tie.Need-enum-told
+enum-told c = search needs
+
+agreed-requires : tie.Need-agreed-requires
+agreed-requires c κs = search needs
+
+returns : tie.Need-returns
+unfolding checkedOf
+returns c = c .refused-check .ensures ∙ ap checkedOf (halts (c .before .before .before .before .before .args .want) closing _ (c .before .before .status .given .1))
 
 returns-2 : tie.Need-returns-2
-unfolding closing targetOf
-returns-2 c =
-    let a = c .before .before .args in
-    c .unlisted .ensures ∙ sym (ap (λ (b : Bool). checkedOf (closing (targetOf b (a .root)))) (c .before .if1 .left))
+returns-2 c = c .agreed .ensures ∙ ap checkedOf (goes-on (c .before .before .before .before .args .want) closing (c .before .enum-told .given .1))
 
 pub close-check-spec : {M : Type 1} → statement M
-close-check-spec = tie.close (tie.spec returns unlisted-requires returns-2)
+close-check-spec =
+    tie.close
+    (tie.spec enum-known-status refused-check-requires enum-told agreed-requires returns returns-2)
