@@ -11,7 +11,7 @@ use barrowtide::{Bump, Tsc, BUMP_TO_TSC_ROOM, MAX_INPUT, TSC_TO_BUMP_ROOM};
 use common::{expected, plain, FILL, GUARDED};
 use reference::convert;
 use reference::generate::damage::{field_edits, random_edit, truncations};
-use reference::generate::path::{Leaf, Plan};
+use reference::generate::path::Plan;
 use reference::generate::random::{rounds, Random};
 use reference::generate::tally::Tally;
 use reference::generate::tree::Tree;
@@ -519,15 +519,8 @@ fn surplus_is_left_out() {
 #[test]
 fn copies_of_copies() {
     let id = [0xaa; 32];
-    let position = 1 << 63;
-    let leaf = |offset, flags| Leaf { offset, flags, hash: [0xbb; 32] };
-    let mut plan = Plan { block_height: 0, levels: vec![Vec::new(); 64] };
-    plan.levels[0] = vec![leaf(0, 0), Leaf { hash: id, ..leaf(position, 2) }];
-    for layer in 0..63 {
-        plan.levels[layer].extend([leaf(1, 1), leaf((position >> layer) + 1, 1)]);
-    }
     let copied = |hash| (0..63).fold(hash, |hash, _| join(&hash, &hash));
-    let made = to_tsc(&plan.bump().bytes, &id).expect("a sound path");
+    let made = to_tsc(&Plan::copies(id).bump().bytes, &id).expect("a sound path");
     let top = copied([0xbb; 32]);
     let root = parent(&top, &copied(id));
     let proof = format!("04 ff 00{{7}} 80 [aa] {root} 40 01{{63}} 00 {}", encode(&top));

@@ -158,6 +158,34 @@ fn sound_bundles() {
     }
 }
 
+/// Transactions whose lengths are far apart and lie about the ends of SHA-256's blocks: hashed side
+/// by side, each has its own id.
+#[test]
+fn transactions_of_many_lengths() {
+    let mut random = Random::of("transactions_of_many_lengths");
+    for _ in 0..rounds() / 10 {
+        let count = random.within(1..=13);
+        let mut plan = Plan::random(&mut random, count);
+        let count = plan.entries.len();
+        // The last ones, from which nobody spends.
+        for entry in count.saturating_sub(6)..count {
+            let transaction = &mut plan.entries[entry].0;
+            let spent = transaction.id();
+            let blocks = if random.one_in(20) { 2_000 } else { random.within(0..=9) as usize };
+            let shortest = transaction.draft().bytes.len();
+            let length = 64 * blocks + random.within(50..=66) as usize;
+            transaction.outputs.push((1, random.bytes(length.saturating_sub(shortest + 11))));
+            let id = transaction.id();
+            for later in &mut plan.entries[entry + 1..] {
+                for input in later.0.inputs.iter_mut().filter(|input| input.0 == spent) {
+                    input.0 = id;
+                }
+            }
+        }
+        let _ = check_plan(&plan);
+    }
+}
+
 /// Tables of every size, and lists of roots of every shape.
 #[test]
 fn tables_and_lists() {

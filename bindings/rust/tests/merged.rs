@@ -330,14 +330,8 @@ fn other_leaves_are_ignored() {
 /// nothing.
 #[test]
 fn tall_paths() {
-    let id = [0xaa; 32];
-    let position = 1 << 63;
-    let leaf = |offset, flags| Leaf { offset, flags, hash: [0xbb; 32] };
-    let mut plan = Plan { block_height: 0, levels: vec![Vec::new(); 64] };
-    plan.levels[0] = vec![leaf(0, 0), Leaf { hash: id, ..leaf(position, 2) }];
-    for layer in 0..63 {
-        plan.levels[layer].extend([leaf(1, 1), leaf((position >> layer) + 1, 1)]);
-    }
+    let (id, position) = ([0xaa; 32], 1 << 63);
+    let mut plan = Plan::copies(id);
     let copied = |hash| (0..63).fold(hash, |hash, _| join(&hash, &hash));
     let proof = check_bump(&plan.bump().bytes, &id).expect("a sound path");
     assert_eq!(proof.root, join(&copied([0xbb; 32]), &copied(id)));
@@ -349,6 +343,28 @@ fn tall_paths() {
     // Every sibling but the lowest is far above what is written.
     plan.levels[1..].iter_mut().for_each(Vec::clear);
     assert_eq!(check_bump(&plan.bump().bytes, &id), missing(1, (position >> 1) + 1));
+}
+
+/// Many clients of one path, whose siblings are the same again and again, and sometimes are not:
+/// the check of all of them, and of some.
+#[test]
+fn many_clients() {
+    let mut random = Random::of("many_clients");
+    let mut tally = Tally::default();
+    for _ in 0..rounds() {
+        let mut plan = Plan::merged(&mut random, 40);
+        tally.note(check_clients(&plan.bump().bytes));
+        for leaf in &mut plan.levels[0] {
+            if leaf.flags == 2 && random.one_in(3) {
+                leaf.flags = 0;
+            }
+        }
+        tally.note(check_clients(&plan.bump().bytes));
+        let _ = check_clients(&random_edit(&mut random, &plan.bump()));
+    }
+    if rounds() >= 1_000 {
+        tally.assert_met(&[0, 13, 14, 15, 16]);
+    }
 }
 
 /// As many clients as a level holds, and nothing else.
@@ -370,5 +386,9 @@ fn clients_alone() {
         if count <= 128 {
             assert_eq!(check_clients(&plan.bump().bytes), Ok(tree.root()));
         }
+        // In rising order no sibling is worked out twice, and the reference is not asked.
+        plan.levels[0].sort_by_key(|leaf| leaf.offset);
+        let root = barrowtide::check_clients(&plan.bump().bytes).expect("sound clients");
+        assert_eq!(root.stored(), &tree.root());
     }
 }

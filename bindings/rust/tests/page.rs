@@ -154,6 +154,29 @@ fn some_ids(random: &mut Random, plan: &Plan) -> Vec<Hash> {
     (0..random.within(0..=most)).map(|_| id(random)).collect()
 }
 
+/// Pages about merged paths, whose siblings are the same again and again, and sometimes are not.
+#[test]
+fn merged_paths() {
+    let mut random = Random::of("merged_paths");
+    let mut rows = Tally::default();
+    for _ in 0..rounds() {
+        let plan = Plan::merged(&mut random, 40);
+        let mut ids: Vec<Hash> = plan.levels[0].iter().map(|leaf| leaf.hash).collect();
+        for _ in 0..random.within(0..=3) {
+            ids.insert(random.index(ids.len() + 1), random.hash());
+        }
+        if random.one_in(3) {
+            random.shuffle(&mut ids);
+        }
+        for answer in check_ids(&plan.bump().bytes, &ids).unwrap_or_default() {
+            rows.note(answer.proof(&barrowtide::Hash::default()).map_err(plain));
+        }
+    }
+    if rounds() >= 1_000 {
+        rows.assert_met(&[0, 13, 14, 15]);
+    }
+}
+
 /// Every change of one field and every truncation of a path.
 #[test]
 fn damaged_fields() {

@@ -23,7 +23,7 @@ spanOf e = record { start = e .transaction .start; end = e .transaction .end }
 
 -- the place in lane l
 unfoldable pub span : ℕ → Spans → Span
-span l x = L.pick l (x .a) (x .b) (x .c) (x .d)
+span l x = L.inLane l (x .a) (x .b) (x .c) (x .d)
 
 abbrev pub entryAt : ℕ → List ℕ → ℕ → Parse EntryHead
 entryAt count s at = each entryHeadOf (entryField count s at)

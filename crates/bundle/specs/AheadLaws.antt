@@ -85,7 +85,7 @@ ahead-made count s at k z x four e f m b =
 -- four places, each from where the one before was read
 pub spans-made : (count : ℕ) (s : List ℕ) (at : ℕ) (a b c d : Span) → a ≡ spanFrom count s at true 0 → b ≡ spanFrom count s at true 1 → c ≡ spanFrom count s at true 2 → d ≡ spanFrom count s at true 3
     → (l : ℕ) → l < 4 → span l (record { a = a; b = b; c = c; d = d }) ≡ spanFrom count s at true l
-unfolding span L.pick
+unfolding span L.inLane
 spans-made count s at a b c d ea eb ec ed zero h = ea
 spans-made count s at a b c d ea eb ec ed (suc zero) h = eb
 spans-made count s at a b c d ea eb ec ed (suc (suc zero)) h = ec
@@ -95,7 +95,7 @@ spans-made count s at a b c d ea eb ec ed (suc (suc (suc (suc l)))) h = absurd (
 -- ids made at these places one by one
 pub ids-made : (s : List ℕ) (x : Spans) (a b c d : List ℕ) → a ≡ spanHash s (x .a .start) (x .a .end) → b ≡ spanHash s (x .b .start) (x .b .end) → c ≡ spanHash s (x .c .start) (x .c .end) → d ≡ spanHash s (x .d .start) (x .d .end)
     → (l : ℕ) → L.node l (record { a = a; b = b; c = c; d = d }) ≡ spanId s (span l x)
-unfolding L.node L.pick span spanId
+unfolding L.node L.inLane span spanId
 ids-made s x a b c d ea eb ec ed zero = ea
 ids-made s x a b c d ea eb ec ed (suc zero) = eb
 ids-made s x a b c d ea eb ec ed (suc (suc zero)) = ec
@@ -106,8 +106,8 @@ abbrev pub part : List ℕ → Span → List ℕ
 part s x = take (x .end - x .start) (drop (x .start) s)
 
 pub four-made : (s : List ℕ) (x : Spans) (four : Nodes) → Inside s (x .a) → Inside s (x .b) → Inside s (x .c) → Inside s (x .d)
-    → ((l : ℕ) → L.node l four ≡ hashed (L.pick l (part s (x .a)) (part s (x .b)) (part s (x .c)) (part s (x .d))) .digest) → (l : ℕ) → L.node l four ≡ spanId s (span l x)
-unfolding L.pick span spanId
+    → ((l : ℕ) → L.node l four ≡ hashed (L.inLane l (part s (x .a)) (part s (x .b)) (part s (x .c)) (part s (x .d))) .digest) → (l : ℕ) → L.node l four ≡ spanId s (span l x)
+unfolding L.inLane span spanId
 four-made s x four a b c d e zero = e 0 ∙ sym (span-inside s (x .a .start) (x .a .end) (a .0) (a .1))
 four-made s x four a b c d e (suc zero) = e 1 ∙ sym (span-inside s (x .b .start) (x .b .end) (b .0) (b .1))
 four-made s x four a b c d e (suc (suc zero)) = e 2 ∙ sym (span-inside s (x .c .start) (x .c .end) (c .0) (c .1))
@@ -116,19 +116,19 @@ four-made s x four a b c d e (suc (suc (suc l))) = e (suc (suc (suc l))) ∙ sym
 -- the hash in lane k
 module _ (k : ℕ) (four : Nodes) where
   pub in-first : k ≡ 0 → four .a ≡ L.node k four
-  unfolding L.node L.pick
+  unfolding L.node L.inLane
   in-first e = rw e
 
   pub in-second : k ≡ 1 → four .b ≡ L.node k four
-  unfolding L.node L.pick
+  unfolding L.node L.inLane
   in-second e = rw e
 
   pub in-third : k ≡ 2 → four .c ≡ L.node k four
-  unfolding L.node L.pick
+  unfolding L.node L.inLane
   in-third e = rw e
 
 pub in-fourth : (k : ℕ) (four : Nodes) → (k ≡ 0 → ⊥) → (k ≡ 1 → ⊥) → (k ≡ 2 → ⊥) → four .d ≡ L.node k four
-unfolding L.node L.pick
+unfolding L.node L.inLane
 in-fourth zero four p q r = absurd (p refl)
 in-fourth (suc zero) four p q r = absurd (q refl)
 in-fourth (suc (suc zero)) four p q r = absurd (r refl)

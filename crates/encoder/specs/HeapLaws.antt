@@ -170,7 +170,7 @@ module _ (n h w : ℕ) (e : w ≡ 2 ^ h) (f : (g : ℕ) → g < h → 2 ^ g < n)
 
 -- what four lanes hold, in each of them
 pub four-in : (f : ℕ → List ℕ) (j : ℕ) (n : Nodes) → n .a ≡ f j → n .b ≡ f (j + 1) → n .c ≡ f (j + 2) → n .d ≡ f (j + 3) → (i : ℕ) → i < 4 → L.node i n ≡ f (j + i)
-unfolding L.node L.pick
+unfolding L.node L.inLane
 four-in f j n ea eb ec ed zero h = let z : j ≡ j + 0 = omega arith in ea ∙ ap f z
 four-in f j n ea eb ec ed (suc zero) h = eb
 four-in f j n ea eb ec ed (suc (suc zero)) h = ec
@@ -240,7 +240,7 @@ module _ (list heap₀ : List ℕ) (base : Bool) (width count : ℕ) (heap : Lis
   pub raising-four : (even : width % 2 ≡ 0) (low : width ≤ 1024) (inside : count ≤ width) (room : length heap₀ ≡ 32768) (more : j + 4 ≤ (count + 1) / 2)
       (four : Nodes) (heap′ : List ℕ) → ((i : ℕ) → i < 4 → L.node i four ≡ pairIn list heap base width count (j + i))
       → heap′ ≡ setFour heap (width / 2 + j) four → Raising list heap₀ base width count heap′ (j + 4)
-  unfolding setFour L.node L.pick
+  unfolding setFour L.node L.inLane
   raising-four even low inside room more four heap′ e eh =
       let is : (i : ℕ) → i < 4 → L.node i four ≡ pairIn list heap₀ base width count (j + i) = λ i h. e i h ∙ pair-kept list heap heap₀ base width count (j + i) (r .kept) in
       let h1 : List ℕ = setHash heap (width / 2 + j) (four .a) in

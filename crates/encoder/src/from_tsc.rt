@@ -187,7 +187,7 @@ fn node_count_at(head: TscHead) -> usize
 }
 
 // The BUMP of a TSC proof that was read and proved.
-fn write_read(s: &[u8], head: TscHead, id: [u8; 32], block: u32, out: &mut [u8]) -> Written
+fn write_proved(s: &[u8], head: TscHead, id: [u8; 32], block: u32, out: &mut [u8]) -> Written
     requires { ⌜ Proved (now s) head id ⌝ }
     ensures { λ r. ⌜ (r ≡ writtenOf (tscToBump (now (s .entry)) block (length (now (out .entry)))))
         × (now (out .exit) ≡ outputAfter (tscToBump (now (s .entry)) block (length (now (out .entry)))) (now (out .entry))) ⌝ }
@@ -229,6 +229,6 @@ pub fn tsc_to_bump(s: &[u8], block: u32, out: &mut [u8]) -> Written
         Outcome::Accepted {
             position: _,
             layers: _,
-        } => write_read(s, head, id, block, out),
+        } => write_proved(s, head, id, block, out),
     }
 }

@@ -18,50 +18,50 @@ use Rattle.hash.proofs.Digests.{digest-block, digest-hashed, joined}
 use Rattle.lanes.specs.declared.compress.Four.{Four}
 use Rattle.lanes.specs.declared.compress.State4.{State4}
 use Rattle.lanes.specs.declared.Nodes.{Nodes}
-use Rattle.lanes.specs.Lanes.{pick, at, node, nodes, lane, lanes, value, digestWords, all, each, each2, each3}
+use Rattle.lanes.specs.Lanes.{inLane, at, node, nodes, lane, lanes, value, digestWords, all, each, each2, each3}
 
 pub at-all : (i k : ℕ) → at i (all k) ≡ k
-unfolding at pick all
+unfolding at inLane all
 at-all zero k = refl
 at-all (suc zero) k = refl
 at-all (suc (suc zero)) k = refl
 at-all (suc (suc (suc i))) k = refl
 
 pub at-each : (i : ℕ) (f : ℕ → ℕ) (x : Four) → at i (each f x) ≡ f (at i x)
-unfolding at pick each
+unfolding at inLane each
 at-each zero f x = refl
 at-each (suc zero) f x = refl
 at-each (suc (suc zero)) f x = refl
 at-each (suc (suc (suc i))) f x = refl
 
 pub at-each2 : (i : ℕ) (f : ℕ → ℕ → ℕ) (x y : Four) → at i (each2 f x y) ≡ f (at i x) (at i y)
-unfolding at pick each2
+unfolding at inLane each2
 at-each2 zero f x y = refl
 at-each2 (suc zero) f x y = refl
 at-each2 (suc (suc zero)) f x y = refl
 at-each2 (suc (suc (suc i))) f x y = refl
 
 pub at-each3 : (i : ℕ) (f : ℕ → ℕ → ℕ → ℕ) (x y z : Four) → at i (each3 f x y z) ≡ f (at i x) (at i y) (at i z)
-unfolding at pick each3
+unfolding at inLane each3
 at-each3 zero f x y z = refl
 at-each3 (suc zero) f x y z = refl
 at-each3 (suc (suc zero)) f x y z = refl
 at-each3 (suc (suc (suc i))) f x y z = refl
 
 -- What holds in each lane holds in lane i; what is made in each lane is made in lane i.
-pub pick-all : {A : Type 0} (P : A → Type 0) (i : ℕ) {a b c d : A} → P a → P b → P c → P d → P (pick i a b c d)
-unfolding pick
-pick-all P zero p q r s = p
-pick-all P (suc zero) p q r s = q
-pick-all P (suc (suc zero)) p q r s = r
-pick-all P (suc (suc (suc i))) p q r s = s
+pub lane-all : {A : Type 0} (P : A → Type 0) (i : ℕ) {a b c d : A} → P a → P b → P c → P d → P (inLane i a b c d)
+unfolding inLane
+lane-all P zero p q r s = p
+lane-all P (suc zero) p q r s = q
+lane-all P (suc (suc zero)) p q r s = r
+lane-all P (suc (suc (suc i))) p q r s = s
 
-pub pick-map : {A B : Type 0} (f : A → B) (i : ℕ) (a b c d : A) → pick i (f a) (f b) (f c) (f d) ≡ f (pick i a b c d)
-unfolding pick
-pick-map f zero a b c d = refl
-pick-map f (suc zero) a b c d = refl
-pick-map f (suc (suc zero)) a b c d = refl
-pick-map f (suc (suc (suc i))) a b c d = refl
+pub lane-map : {A B : Type 0} (f : A → B) (i : ℕ) (a b c d : A) → inLane i (f a) (f b) (f c) (f d) ≡ f (inLane i a b c d)
+unfolding inLane
+lane-map f zero a b c d = refl
+lane-map f (suc zero) a b c d = refl
+lane-map f (suc (suc zero)) a b c d = refl
+lane-map f (suc (suc (suc i))) a b c d = refl
 
 -- A list of fours.
 pub lanes-length : (i : ℕ) (m : List Four) → length (lanes i m) ≡ length m
@@ -155,7 +155,7 @@ four-known s r0 r1 r2 r3 z e e0 e1 e2 e3 =
 pub at-words : (j i p q r s : ℕ) (n : Nodes) → p ≡ word (n .a) i → q ≡ word (n .b) i → r ≡ word (n .c) i → s ≡ word (n .d) i
     → at j (record { a = p; b = q; c = r; d = s }) ≡ word (node j n) i
 unfolding at node
-at-words j i p q r s n ep eq er es = rw (ep, eq, er, es) (pick-map (λ (l : List ℕ). word l i) j (n .a) (n .b) (n .c) (n .d))
+at-words j i p q r s n ep eq er es = rw (ep, eq, er, es) (lane-map (λ (l : List ℕ). word l i) j (n .a) (n .b) (n .c) (n .d))
 
 -- One word more of each lane.
 pub words-on : (i o : ℕ) (p : List ℕ) (w : List Four) (t : ℕ) (x : Four) → t < length w → take t (lanes i w) ≡ words p o t → at i x ≡ word p (o + 4 * t)
@@ -204,14 +204,14 @@ pub lane-joined : (l r m : List ℕ) (x y z : State) → length l ≡ 32 → len
 lane-joined l r m x y z hl hr em ex ey ez =
     cc (compress-block x (words (padding 64) 0 16), digest-hashed y, joined l r hl hr)
 
-pub pick-lanes : (i : ℕ) (s : State4) → pick i (digest (lane 0 s)) (digest (lane 1 s)) (digest (lane 2 s)) (digest (lane 3 s)) ≡ digest (lane i s)
-unfolding pick lane at
-pick-lanes zero s = refl
-pick-lanes (suc zero) s = refl
-pick-lanes (suc (suc zero)) s = refl
-pick-lanes (suc (suc (suc i))) s = refl
+pub lane-digest : (i : ℕ) (s : State4) → inLane i (digest (lane 0 s)) (digest (lane 1 s)) (digest (lane 2 s)) (digest (lane 3 s)) ≡ digest (lane i s)
+unfolding inLane lane at
+lane-digest zero s = refl
+lane-digest (suc zero) s = refl
+lane-digest (suc (suc zero)) s = refl
+lane-digest (suc (suc (suc i))) s = refl
 
 pub lanes-digests : (i : ℕ) (s : State4) (a b c d : List ℕ) (n : Nodes) → a ≡ digest (lane 0 s) → b ≡ digest (lane 1 s) → c ≡ digest (lane 2 s) → d ≡ digest (lane 3 s)
     → n ≡ nodes a b c d → node i n ≡ digest (lane i s)
 unfolding node nodes
-lanes-digests i s a b c d n ea eb ec ed e = rw (e, ea, eb, ec, ed) (pick-lanes i s)
+lanes-digests i s a b c d n ea eb ec ed e = rw (e, ea, eb, ec, ed) (lane-digest i s)

@@ -20,8 +20,8 @@ use Rattle.lanes.specs.declared.compress.Four.{Four}
 use Rattle.lanes.specs.declared.compress.State4.{State4}
 use Rattle.lanes.specs.declared.Nodes.{Nodes}
 use Rattle.lanes.specs.declared.messages.Counts.{Counts}
-use Rattle.lanes.specs.Lanes.{pick, at, node, nodes, lane, lanes, value, digestWords, count, onward, larger, after}
-use Rattle.lanes.proofs.SideBySide.{pick-all, pick-map, lanes-length, lanes-set, compress-block}
+use Rattle.lanes.specs.Lanes.{inLane, at, node, nodes, lane, lanes, value, digestWords, four, count, onward, larger, after}
+use Rattle.lanes.proofs.SideBySide.{lane-all, lane-map, lanes-length, lanes-set, compress-block}
 
 -- The larger of two, and of four.
 pub larger-right : (x y : ℕ) → x ≤ y → y ≡ larger x y
@@ -57,7 +57,7 @@ onward-old n i x y h = simp (le-leb n i h)
 
 pub at-onward : (l i p q r s : ℕ) (n : Counts) (x y : Four) → p ≡ onward (n .a) i (x .a) (y .a) → q ≡ onward (n .b) i (x .b) (y .b)
     → r ≡ onward (n .c) i (x .c) (y .c) → s ≡ onward (n .d) i (x .d) (y .d) → at l (record { a = p; b = q; c = r; d = s }) ≡ onward (count l n) i (at l x) (at l y)
-unfolding at count pick
+unfolding at count inLane
 at-onward zero i p q r s n x y ep eq er es = ep
 at-onward (suc zero) i p q r s n x y ep eq er es = eq
 at-onward (suc (suc zero)) i p q r s n x y ep eq er es = er
@@ -87,35 +87,42 @@ lane-onward l i n x y z ea eb ec ed ee ef eg eh =
 
 pub all-onward : (l i : ℕ) (n : Counts) (x y : State) → i < n .a → i < n .b → i < n .c → i < n .d → x ≡ onward (count l n) i x y
 unfolding count
-all-onward l i n x y ha hb hc hd = onward-new (count l n) i x y (pick-all (λ (k : ℕ). i < k) l ha hb hc hd)
+all-onward l i n x y ha hb hc hd = onward-new (count l n) i x y (lane-all (λ (k : ℕ). i < k) l ha hb hc hd)
 
-pub lane-values : (l : ℕ) (p q x y : State)
-    → lane l (record { a = record { a = p .a; b = q .a; c = x .a; d = y .a }; b = record { a = p .b; b = q .b; c = x .b; d = y .b }; c = record { a = p .c; b = q .c; c = x .c; d = y .c }; d = record { a = p .d; b = q .d; c = x .d; d = y .d }; e = record { a = p .e; b = q .e; c = x .e; d = y .e }; f = record { a = p .f; b = q .f; c = x .f; d = y .f }; g = record { a = p .g; b = q .g; c = x .g; d = y .g }; h = record { a = p .h; b = q .h; c = x .h; d = y .h } }) ≡ pick l p q x y
-unfolding lane value at pick
-lane-values zero p q x y = refl
-lane-values (suc zero) p q x y = refl
-lane-values (suc (suc zero)) p q x y = refl
-lane-values (suc (suc (suc l))) p q x y = refl
+values-of : (l : ℕ) (p q x y : State)
+    → value (at l (four (p .a) (q .a) (x .a) (y .a))) (at l (four (p .b) (q .b) (x .b) (y .b))) (at l (four (p .c) (q .c) (x .c) (y .c))) (at l (four (p .d) (q .d) (x .d) (y .d))) (at l (four (p .e) (q .e) (x .e) (y .e))) (at l (four (p .f) (q .f) (x .f) (y .f))) (at l (four (p .g) (q .g) (x .g) (y .g))) (at l (four (p .h) (q .h) (x .h) (y .h))) ≡ inLane l p q x y
+unfolding value at inLane four
+values-of zero p q x y = refl
+values-of (suc zero) p q x y = refl
+values-of (suc (suc zero)) p q x y = refl
+values-of (suc (suc (suc l))) p q x y = refl
+
+pub lane-values : (l : ℕ) (p q x y : State) (z : State4) → z .a ≡ four (p .a) (q .a) (x .a) (y .a) → z .b ≡ four (p .b) (q .b) (x .b) (y .b)
+    → z .c ≡ four (p .c) (q .c) (x .c) (y .c) → z .d ≡ four (p .d) (q .d) (x .d) (y .d) → z .e ≡ four (p .e) (q .e) (x .e) (y .e)
+    → z .f ≡ four (p .f) (q .f) (x .f) (y .f) → z .g ≡ four (p .g) (q .g) (x .g) (y .g) → z .h ≡ four (p .h) (q .h) (x .h) (y .h)
+    → lane l z ≡ inLane l p q x y
+unfolding lane
+lane-values l p q x y z ea eb ec ed ee ef eg eh = rw (ea, eb, ec, ed, ee, ef, eg, eh) (values-of l p q x y)
 
 -- Four blocks, side by side.
 pub column-on : (l t : ℕ) (a b c d : List ℕ) (w : List Four) → t < length w → length a ≡ 16 → length b ≡ 16 → length c ≡ 16 → length d ≡ 16 → t < 16
-    → take t (lanes l w) ≡ take t (pick l a b c d)
-    → take (t + 1) (lanes l (set w t (record { a = getD a t 0; b = getD b t 0; c = getD c t 0; d = getD d t 0 }))) ≡ take (t + 1) (pick l a b c d)
+    → take t (lanes l w) ≡ take t (inLane l a b c d)
+    → take (t + 1) (lanes l (set w t (record { a = getD a t 0; b = getD b t 0; c = getD c t 0; d = getD d t 0 }))) ≡ take (t + 1) (inLane l a b c d)
 unfolding at
 column-on l t a b c d w h ha hb hc hd ht q =
     let n = lanes-length l w in
-    let p : length (pick l a b c d) ≡ 16 = pick-all (λ (m : List ℕ). length m ≡ 16) l ha hb hc hd in
-    let e = pick-map (λ (m : List ℕ). getD m t 0) l a b c d in
-    let g = grow (lanes l w) t (pick l (getD a t 0) (getD b t 0) (getD c t 0) (getD d t 0)) (omega arith) in
-    rw lanes-set (g ∙ ap₂ (λ (u : List ℕ) (v : ℕ). u ++ v ∷ []) q e ∙ rw add-one (sym (take-suc (pick l a b c d) t 0 (omega arith))))
+    let p : length (inLane l a b c d) ≡ 16 = lane-all (λ (m : List ℕ). length m ≡ 16) l ha hb hc hd in
+    let e = lane-map (λ (m : List ℕ). getD m t 0) l a b c d in
+    let g = grow (lanes l w) t (inLane l (getD a t 0) (getD b t 0) (getD c t 0) (getD d t 0)) (omega arith) in
+    rw lanes-set (g ∙ ap₂ (λ (u : List ℕ) (v : ℕ). u ++ v ∷ []) q e ∙ rw add-one (sym (take-suc (inLane l a b c d) t 0 (omega arith))))
 
 pub columns-done : (l t : ℕ) (a b c d : List ℕ) (w : List Four) → t ≡ 16 → length w ≡ 16 → length a ≡ 16 → length b ≡ 16 → length c ≡ 16 → length d ≡ 16
-    → take t (lanes l w) ≡ take t (pick l a b c d) → lanes l w ≡ pick l a b c d
+    → take t (lanes l w) ≡ take t (inLane l a b c d) → lanes l w ≡ inLane l a b c d
 columns-done l t a b c d w et h ha hb hc hd q =
     let n = lanes-length l w in
-    let p : length (pick l a b c d) ≡ 16 = pick-all (λ (m : List ℕ). length m ≡ 16) l ha hb hc hd in
-    let e : take 16 (lanes l w) ≡ take 16 (pick l a b c d) = rw et at q in
-    sym (take-all 16 (lanes l w) (omega arith)) ∙ e ∙ take-all 16 (pick l a b c d) (omega arith)
+    let p : length (inLane l a b c d) ≡ 16 = lane-all (λ (m : List ℕ). length m ≡ 16) l ha hb hc hd in
+    let e : take 16 (lanes l w) ≡ take 16 (inLane l a b c d) = rw et at q in
+    sym (take-all 16 (lanes l w) (omega arith)) ∙ e ∙ take-all 16 (inLane l a b c d) (omega arith)
 
 -- A block that lies within the message.
 pub block-in : (m : List ℕ) (i : ℕ) → length m ≤ MAX-INPUT → i < length m / 64 → words m (64 * i) 16 ≡ blockOf m i
@@ -172,12 +179,12 @@ hashed-twice m y z ey ez =
     let f = compress-block (H (pad m) ((length m + 72) / 64 - 1)) (words (pad m) (64 * ((length m + 72) / 64 - 1)) 16) in
     cc (e, f, digest-hashed y)
 
-pub one-by-one : (l : ℕ) (a b c d : List ℕ) → node l (nodes ((hashed a) .digest) ((hashed b) .digest) ((hashed c) .digest) ((hashed d) .digest)) ≡ (hashed (pick l a b c d)) .digest
+pub one-by-one : (l : ℕ) (a b c d : List ℕ) → node l (nodes ((hashed a) .digest) ((hashed b) .digest) ((hashed c) .digest) ((hashed d) .digest)) ≡ (hashed (inLane l a b c d)) .digest
 unfolding node nodes
-one-by-one l a b c d = pick-map (λ (m : List ℕ). (hashed m) .digest) l a b c d
+one-by-one l a b c d = lane-map (λ (m : List ℕ). (hashed m) .digest) l a b c d
 
 pub lane-accepted : (l : ℕ) (a b c d : List ℕ) → length a ≤ MAX-INPUT → length b ≤ MAX-INPUT → length c ≤ MAX-INPUT → length d ≤ MAX-INPUT
-    → sha256d (pick l a b c d) ≡ (hashed (pick l a b c d)) .digest
+    → sha256d (inLane l a b c d) ≡ (hashed (inLane l a b c d)) .digest
 lane-accepted l a b c d ha hb hc hd =
-    let h : length (pick l a b c d) ≤ MAX-INPUT = pick-all (λ (m : List ℕ). length m ≤ MAX-INPUT) l ha hb hc hd in
-    rw (hashed-accepted (pick l a b c d) h)
+    let h : length (inLane l a b c d) ≤ MAX-INPUT = lane-all (λ (m : List ℕ). length m ≤ MAX-INPUT) l ha hb hc hd in
+    rw (hashed-accepted (inLane l a b c d) h)

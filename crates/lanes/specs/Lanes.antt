@@ -1,10 +1,11 @@
 -- Four words side by side, and the hash values, blocks and nodes that stand in their lanes. Assumes nothing.
 use mathlib.Core.Bool.{cond}
 use mathlib.Core.List.{List, [], _∷_, map}
-use Prim.Native.Nat.{ℕ, zero, suc}
+use Prim.Native.Nat.{ℕ, zero, suc, _≤_}
 use lib.Dec.{leb}
+use lib.ListN.{length}
 use Rattle.hash.specs.declared.compress.State.{State}
-use Rattle.hash.specs.Sha256.{pad, H}
+use Rattle.hash.specs.Sha256.{pad, H, MAX-INPUT}
 use Rattle.hash.specs.Parts.{blocks}
 use Rattle.lanes.specs.declared.compress.Four.{Four}
 use Rattle.lanes.specs.declared.compress.State4.{State4}
@@ -12,18 +13,18 @@ use Rattle.lanes.specs.declared.Nodes.{Nodes}
 use Rattle.lanes.specs.declared.messages.Counts.{Counts}
 
 -- What stands in lane i, which is 0, 1, 2 or 3; a number above is taken for 3. So the node in a lane, which public contracts cite.
-unfoldable pub pick : {A : Type 0} → ℕ → A → A → A → A → A
-pick zero a b c d = a
-pick (suc zero) a b c d = b
-pick (suc (suc zero)) a b c d = c
-pick (suc (suc (suc i))) a b c d = d
+unfoldable pub inLane : {A : Type 0} → ℕ → A → A → A → A → A
+inLane zero a b c d = a
+inLane (suc zero) a b c d = b
+inLane (suc (suc zero)) a b c d = c
+inLane (suc (suc (suc i))) a b c d = d
 
 unfoldable pub node : ℕ → Nodes → List ℕ
-node i n = pick i (n .a) (n .b) (n .c) (n .d)
+node i n = inLane i (n .a) (n .b) (n .c) (n .d)
 
 -- The word, the block and the hash value in lane i.
 unfoldable pub at : ℕ → Four → ℕ
-at i x = pick i (x .a) (x .b) (x .c) (x .d)
+at i x = inLane i (x .a) (x .b) (x .c) (x .d)
 
 unfoldable pub lanes : ℕ → List Four → List ℕ
 lanes i m = map (at i) m
@@ -34,9 +35,12 @@ value a b c d e f g h = record { a = a; b = b; c = c; d = d; e = e; f = f; g = g
 unfoldable pub lane : ℕ → State4 → State
 lane i s = value (at i (s .a)) (at i (s .b)) (at i (s .c)) (at i (s .d)) (at i (s .e)) (at i (s .f)) (at i (s .g)) (at i (s .h))
 
--- A word in all lanes, an operation in each lane, and four nodes in their lanes.
+-- A word in all lanes, four words, an operation in each lane, and four nodes in their lanes.
 unfoldable pub all : ℕ → Four
 all k = record { a = k; b = k; c = k; d = k }
+
+unfoldable pub four : ℕ → ℕ → ℕ → ℕ → Four
+four a b c d = record { a = a; b = b; c = c; d = d }
 
 unfoldable pub each : (ℕ → ℕ) → Four → Four
 each f x = record { a = f (x .a); b = f (x .b); c = f (x .c); d = f (x .d) }
@@ -54,9 +58,13 @@ nodes a b c d = record { a = a; b = b; c = c; d = d }
 unfoldable pub digestWords : State → List ℕ
 digestWords s = s .a ∷ s .b ∷ s .c ∷ s .d ∷ s .e ∷ s .f ∷ s .g ∷ s .h ∷ 0x8000_0000 ∷ 0 ∷ 0 ∷ 0 ∷ 0 ∷ 0 ∷ 0 ∷ 256 ∷ []
 
--- Messages side by side: the number in lane i; the new value, or the old one where i has reached n; the larger number.
+-- Four messages, none over the input size.
+abbrev pub Fit : List ℕ → List ℕ → List ℕ → List ℕ → Type 0
+Fit a b c d = (length a ≤ MAX-INPUT) × (length b ≤ MAX-INPUT) × (length c ≤ MAX-INPUT) × (length d ≤ MAX-INPUT)
+
+-- Of four messages: the number in lane i; the new value, or the old one where i has reached n; the larger number.
 unfoldable pub count : ℕ → Counts → ℕ
-count i n = pick i (n .a) (n .b) (n .c) (n .d)
+count i n = inLane i (n .a) (n .b) (n .c) (n .d)
 
 unfoldable pub onward : {A : Type 0} → ℕ → ℕ → A → A → A
 onward n i new old = cond (leb n i) old new

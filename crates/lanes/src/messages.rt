@@ -47,8 +47,8 @@ fn count(s: &[u8]) -> usize
 }
 
 fn count4(a: &[u8], b: &[u8], c: &[u8], d: &[u8]) -> Counts
-    requires { ⌜ (length (now a) ≤ F.MAX-INPUT) × (length (now b) ≤ F.MAX-INPUT) × (length (now c) ≤ F.MAX-INPUT) × (length (now d) ≤ F.MAX-INPUT) ⌝ }
-    ensures { λ r. ⌜ ((l : ℕ) → L.count l r ≡ P.blocks (L.pick l (now (a .entry)) (now (b .entry)) (now (c .entry)) (now (d .entry)))) ⌝ }
+    requires { ⌜ L.Fit (now a) (now b) (now c) (now d) ⌝ }
+    ensures { λ r. ⌜ ((l : ℕ) → L.count l r ≡ P.blocks (L.inLane l (now (a .entry)) (now (b .entry)) (now (c .entry)) (now (d .entry)))) ⌝ }
 {
     Counts {
         a: count(a),
@@ -58,17 +58,17 @@ fn count4(a: &[u8], b: &[u8], c: &[u8], d: &[u8]) -> Counts
     }
 }
 
-// The second largest: of four messages at most one goes on alone.
+// The third largest: in lanes two messages take as long as one by one.
 fn shared(n: Counts) -> usize {
-    larger(
-        smaller(larger(n.a, n.b), larger(n.c, n.d)),
+    smaller(
         larger(smaller(n.a, n.b), smaller(n.c, n.d)),
+        smaller(larger(n.a, n.b), larger(n.c, n.d)),
     )
 }
 
 // Four blocks, side by side.
 fn columns(a: [u32; 16], b: [u32; 16], c: [u32; 16], d: [u32; 16]) -> [Four; 16]
-    ensures { λ r. ⌜ ((l : ℕ) → L.lanes l r ≡ L.pick l a b c d) ⌝ }
+    ensures { λ r. ⌜ ((l : ℕ) → L.lanes l r ≡ L.inLane l a b c d) ⌝ }
 {
     let none = all(0);
     let mut w = [none; 16];
@@ -93,7 +93,7 @@ fn word_in(s: &[u8], at: usize) -> u32
 
 fn words_in(a: &[u8], b: &[u8], c: &[u8], d: &[u8], at: usize) -> Four
     requires { ⌜ (at + 4 ≤ length (now a)) × (at + 4 ≤ length (now b)) × (at + 4 ≤ length (now c)) × (at + 4 ≤ length (now d)) ⌝ }
-    ensures { λ r. ⌜ ((l : ℕ) → L.at l r ≡ F.word (L.pick l (now (a .entry)) (now (b .entry)) (now (c .entry)) (now (d .entry))) at) ⌝ }
+    ensures { λ r. ⌜ ((l : ℕ) → L.at l r ≡ F.word (L.inLane l (now (a .entry)) (now (b .entry)) (now (c .entry)) (now (d .entry))) at) ⌝ }
 {
     Four {
         a: word_in(a, at),
@@ -105,7 +105,7 @@ fn words_in(a: &[u8], b: &[u8], c: &[u8], d: &[u8], at: usize) -> Four
 
 fn blocks_in(a: &[u8], b: &[u8], c: &[u8], d: &[u8], at: usize) -> [Four; 16]
     requires { ⌜ (at + 64 ≤ length (now a)) × (at + 64 ≤ length (now b)) × (at + 64 ≤ length (now c)) × (at + 64 ≤ length (now d)) ⌝ }
-    ensures { λ r. ⌜ ((l : ℕ) → L.lanes l r ≡ F.words (L.pick l (now (a .entry)) (now (b .entry)) (now (c .entry)) (now (d .entry))) at 16) ⌝ }
+    ensures { λ r. ⌜ ((l : ℕ) → L.lanes l r ≡ F.words (L.inLane l (now (a .entry)) (now (b .entry)) (now (c .entry)) (now (d .entry))) at 16) ⌝ }
 {
     let none = all(0);
     let mut w = [none; 16];
@@ -117,8 +117,8 @@ fn blocks_in(a: &[u8], b: &[u8], c: &[u8], d: &[u8], at: usize) -> [Four; 16]
 
 // Block i of each message: zeros past the blocks. Blocks that lie within all messages are read where they lie.
 fn blocks(a: &[u8], b: &[u8], c: &[u8], d: &[u8], i: usize) -> [Four; 16]
-    requires { ⌜ (length (now a) ≤ F.MAX-INPUT) × (length (now b) ≤ F.MAX-INPUT) × (length (now c) ≤ F.MAX-INPUT) × (length (now d) ≤ F.MAX-INPUT) ⌝ }
-    ensures { λ r. ⌜ ((l : ℕ) → L.lanes l r ≡ P.blockOf (L.pick l (now (a .entry)) (now (b .entry)) (now (c .entry)) (now (d .entry))) i) ⌝ }
+    requires { ⌜ L.Fit (now a) (now b) (now c) (now d) ⌝ }
+    ensures { λ r. ⌜ ((l : ℕ) → L.lanes l r ≡ P.blockOf (L.inLane l (now (a .entry)) (now (b .entry)) (now (c .entry)) (now (d .entry))) i) ⌝ }
 {
     if i < a.len() / 64 {
         if i < b.len() / 64 {
@@ -189,8 +189,8 @@ fn kept_where_done(new: State4, old: State4, n: Counts, i: usize) -> State4
 
 // The hash values after so many blocks of each message, or after all where it has fewer.
 fn together(a: &[u8], b: &[u8], c: &[u8], d: &[u8], common: usize) -> State4
-    requires { ⌜ (length (now a) ≤ F.MAX-INPUT) × (length (now b) ≤ F.MAX-INPUT) × (length (now c) ≤ F.MAX-INPUT) × (length (now d) ≤ F.MAX-INPUT) ⌝ }
-    ensures { λ r. ⌜ ((l : ℕ) → L.lane l r ≡ L.after (L.pick l (now (a .entry)) (now (b .entry)) (now (c .entry)) (now (d .entry))) common) ⌝ }
+    requires { ⌜ L.Fit (now a) (now b) (now c) (now d) ⌝ }
+    ensures { λ r. ⌜ ((l : ℕ) → L.lane l r ≡ L.after (L.inLane l (now (a .entry)) (now (b .entry)) (now (c .entry)) (now (d .entry))) common) ⌝ }
 {
     let n = count4(a, b, c, d);
     let mut h = initial();
@@ -229,65 +229,37 @@ fn value(a: u32, b: u32, c: u32, d: u32, e: u32, f: u32, g: u32, h: u32) -> Stat
     }
 }
 
-// Four hash values, side by side.
-fn values(p: State, q: State, x: State, y: State) -> State4
-    ensures { λ r. ⌜ ((l : ℕ) → L.lane l r ≡ L.pick l p q x y) ⌝ }
+fn row(p: u32, q: u32, x: u32, y: u32) -> Four
+    ensures { λ r. ⌜ r ≡ L.four p q x y ⌝ }
 {
-    State4 {
-        a: Four {
-            a: p.a,
-            b: q.a,
-            c: x.a,
-            d: y.a,
-        },
-        b: Four {
-            a: p.b,
-            b: q.b,
-            c: x.b,
-            d: y.b,
-        },
-        c: Four {
-            a: p.c,
-            b: q.c,
-            c: x.c,
-            d: y.c,
-        },
-        d: Four {
-            a: p.d,
-            b: q.d,
-            c: x.d,
-            d: y.d,
-        },
-        e: Four {
-            a: p.e,
-            b: q.e,
-            c: x.e,
-            d: y.e,
-        },
-        f: Four {
-            a: p.f,
-            b: q.f,
-            c: x.f,
-            d: y.f,
-        },
-        g: Four {
-            a: p.g,
-            b: q.g,
-            c: x.g,
-            d: y.g,
-        },
-        h: Four {
-            a: p.h,
-            b: q.h,
-            c: x.h,
-            d: y.h,
-        },
+    Four {
+        a: p,
+        b: q,
+        c: x,
+        d: y,
     }
 }
 
+// Four hash values, side by side.
+fn values(p: State, q: State, x: State, y: State) -> State4
+    ensures { λ r. ⌜ ((l : ℕ) → L.lane l r ≡ L.inLane l p q x y) ⌝ }
+{
+    State4 {
+        a: row(p.a, q.a, x.a, y.a),
+        b: row(p.b, q.b, x.b, y.b),
+        c: row(p.c, q.c, x.c, y.c),
+        d: row(p.d, q.d, x.d, y.d),
+        e: row(p.e, q.e, x.e, y.e),
+        f: row(p.f, q.f, x.f, y.f),
+        g: row(p.g, q.g, x.g, y.g),
+        h: row(p.h, q.h, x.h, y.h),
+    }
+}
+
+// The same in each lane.
 fn finish4(a: &[u8], b: &[u8], c: &[u8], d: &[u8], from: usize, h: State4) -> State4
-    requires { ⌜ (length (now a) ≤ F.MAX-INPUT) × (length (now b) ≤ F.MAX-INPUT) × (length (now c) ≤ F.MAX-INPUT) × (length (now d) ≤ F.MAX-INPUT) × ((l : ℕ) → L.lane l h ≡ L.after (L.pick l (now a) (now b) (now c) (now d)) from) ⌝ }
-    ensures { λ r. ⌜ ((l : ℕ) → L.lane l r ≡ F.hashValue (L.pick l (now (a .entry)) (now (b .entry)) (now (c .entry)) (now (d .entry)))) ⌝ }
+    requires { ⌜ L.Fit (now a) (now b) (now c) (now d) × ((l : ℕ) → L.lane l h ≡ L.after (L.inLane l (now a) (now b) (now c) (now d)) from) ⌝ }
+    ensures { λ r. ⌜ ((l : ℕ) → L.lane l r ≡ F.hashValue (L.inLane l (now (a .entry)) (now (b .entry)) (now (c .entry)) (now (d .entry)))) ⌝ }
 {
     let p = finish(
         a,
@@ -312,18 +284,19 @@ fn finish4(a: &[u8], b: &[u8], c: &[u8], d: &[u8], from: usize, h: State4) -> St
     values(p, q, x, y)
 }
 
-// The double hashes of messages that are not over the input size.
+// The double hashes of messages, none over the input size.
 fn hashes(a: &[u8], b: &[u8], c: &[u8], d: &[u8]) -> Nodes
-    requires { ⌜ (length (now a) ≤ F.MAX-INPUT) × (length (now b) ≤ F.MAX-INPUT) × (length (now c) ≤ F.MAX-INPUT) × (length (now d) ≤ F.MAX-INPUT) ⌝ }
-    ensures { λ r. ⌜ ((l : ℕ) → L.node l r ≡ F.sha256d (L.pick l (now (a .entry)) (now (b .entry)) (now (c .entry)) (now (d .entry)))) ⌝ }
+    requires { ⌜ L.Fit (now a) (now b) (now c) (now d) ⌝ }
+    ensures { λ r. ⌜ ((l : ℕ) → L.node l r ≡ F.sha256d (L.inLane l (now (a .entry)) (now (b .entry)) (now (c .entry)) (now (d .entry)))) ⌝ }
 {
     let common = shared(count4(a, b, c, d));
     let inner = finish4(a, b, c, d, common, together(a, b, c, d, common));
     digests(compress4(initial(), digest_block(inner)))
 }
 
+// Of any size, without lanes.
 fn one_by_one(a: &[u8], b: &[u8], c: &[u8], d: &[u8]) -> Nodes
-    ensures { λ r. ⌜ ((l : ℕ) → L.node l r ≡ (F.hashed (L.pick l (now (a .entry)) (now (b .entry)) (now (c .entry)) (now (d .entry)))) .digest) ⌝ }
+    ensures { λ r. ⌜ ((l : ℕ) → L.node l r ≡ (F.hashed (L.inLane l (now (a .entry)) (now (b .entry)) (now (c .entry)) (now (d .entry)))) .digest) ⌝ }
 {
     let p = sha256d(a);
     let q = sha256d(b);
@@ -338,7 +311,7 @@ fn one_by_one(a: &[u8], b: &[u8], c: &[u8], d: &[u8]) -> Nodes
 
 // The double hashes of four messages; zeros for one over the input size.
 pub fn sha256d4(a: &[u8], b: &[u8], c: &[u8], d: &[u8]) -> Nodes
-    ensures { λ r. ⌜ ((l : ℕ) → L.node l r ≡ (F.hashed (L.pick l (now (a .entry)) (now (b .entry)) (now (c .entry)) (now (d .entry)))) .digest) ⌝ }
+    ensures { λ r. ⌜ ((l : ℕ) → L.node l r ≡ (F.hashed (L.inLane l (now (a .entry)) (now (b .entry)) (now (c .entry)) (now (d .entry)))) .digest) ⌝ }
 {
     if larger(larger(a.len(), b.len()), larger(c.len(), d.len())) <= MAX_INPUT {
         hashes(a, b, c, d)

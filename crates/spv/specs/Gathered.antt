@@ -38,7 +38,7 @@ gatherSays σ h g = pending (leads σ h (g .climbs)) (g .count) (wantSays (g .wa
 -- a climb put in lane l
 unfoldable pub putLane : ℕ → Rising → Risings → Risings
 putLane l y x =
-    record { a = L.pick l y (x .a) (x .a) (x .a); b = L.pick l (x .b) y (x .b) (x .b); c = L.pick l (x .c) (x .c) y (x .c); d = L.pick l (x .d) (x .d) (x .d) y }
+    record { a = L.inLane l y (x .a) (x .a) (x .a); b = L.inLane l (x .b) y (x .b) (x .b); c = L.inLane l (x .c) (x .c) y (x .c); d = L.inLane l (x .d) (x .d) (x .d) y }
 
 unfoldable pub noneGathered : Want → Gathered
 noneGathered want = record { want = want; count = 0; climbs = record { a = notBegun; b = notBegun; c = notBegun; d = notBegun } }

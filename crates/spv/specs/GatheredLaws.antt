@@ -90,14 +90,14 @@ pending-refused v (suc m) why = ap (λ (z : Result Target). follow z (λ w. want
 -- ---- lanes
 
 pub lane-put : (m : ℕ) (y : Rising) (x : Risings) → riser m (putLane m y x) ≡ y
-unfolding riser putLane L.pick
+unfolding riser putLane L.inLane
 lane-put zero y x = refl
 lane-put (suc zero) y x = refl
 lane-put (suc (suc zero)) y x = refl
 lane-put (suc (suc (suc m))) y x = refl
 
 pub lane-kept : (m i : ℕ) (y : Rising) (x : Risings) → m < 4 → i < m → riser i (putLane m y x) ≡ riser i x
-unfolding riser putLane L.pick
+unfolding riser putLane L.inLane
 lane-kept zero i y x b c = absurd (omega arith)
 lane-kept (suc zero) zero y x b c = refl
 lane-kept (suc zero) (suc i) y x b c = absurd (omega arith)
@@ -111,14 +111,14 @@ lane-kept (suc (suc (suc zero))) (suc (suc (suc i))) y x b c = absurd (omega ari
 lane-kept (suc (suc (suc (suc m)))) i y x b c = absurd (omega arith)
 
 pub lane-last : (l : ℕ) (x : Risings) → (l ≡ 0 → ⊥) → (l ≡ 1 → ⊥) → (l ≡ 2 → ⊥) → x .d ≡ riser l x
-unfolding riser L.pick
+unfolding riser L.inLane
 lane-last zero x e f g = absurd (e refl)
 lane-last (suc zero) x e f g = absurd (f refl)
 lane-last (suc (suc zero)) x e f g = absurd (g refl)
 lane-last (suc (suc (suc l))) x e f g = refl
 
 pub put-last : (l : ℕ) (y : Rising) (x : Risings) → (l ≡ 0 → ⊥) → (l ≡ 1 → ⊥) → (l ≡ 2 → ⊥) → _≡_ {A = Risings} (record { a = x .a; b = x .b; c = x .c; d = y }) (putLane l y x)
-unfolding putLane L.pick
+unfolding putLane L.inLane
 put-last zero y x e f g = absurd (e refl)
 put-last (suc zero) y x e f g = absurd (f refl)
 put-last (suc (suc zero)) y x e f g = absurd (g refl)

@@ -21,7 +21,7 @@ use Rattle.spv.specs.declared.together.Risings.{Risings}
 
 -- the climb in lane i
 unfoldable pub riser : ℕ → Risings → Rising
-riser i x = L.pick i (x .a) (x .b) (x .c) (x .d)
+riser i x = L.inLane i (x .a) (x .b) (x .c) (x .d)
 
 unfoldable pub notBegun : Rising
 notBegun = record { end = Stop (carrying NOT-LISTED 0); position = 0; hash = replicate 32 0 }

@@ -37,7 +37,7 @@ use Rattle.spv.specs.declared.together.Risings.{Risings}
 
 -- what holds of two climbs in each lane holds of them in lane i
 pub riser-all : (P : Rising → Rising → Type 0) (i : ℕ) (x y : Risings) → P (x .a) (y .a) → P (x .b) (y .b) → P (x .c) (y .c) → P (x .d) (y .d) → P (riser i x) (riser i y)
-unfolding riser L.pick
+unfolding riser L.inLane
 riser-all P zero x y a b c d = a
 riser-all P (suc zero) x y a b c d = b
 riser-all P (suc (suc zero)) x y a b c d = c

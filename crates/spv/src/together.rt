@@ -141,7 +141,7 @@ fn risen(x: Rising, t: Joined, layer: usize, parent: [u8; 32]) -> Rising
 
 // The parents of what four climbs hash.
 fn parents(a: Joined, b: Joined, c: Joined, d: Joined) -> Nodes
-    ensures { λ r. ⌜ ((i : ℕ) → L.node i r ≡ sha256d (L.pick i (a .left) (b .left) (c .left) (d .left) ++ L.pick i (a .right) (b .right) (c .right) (d .right))) ⌝ }
+    ensures { λ r. ⌜ ((i : ℕ) → L.node i r ≡ sha256d (L.inLane i (a .left) (b .left) (c .left) (d .left) ++ L.inLane i (a .right) (b .right) (c .right) (d .right))) ⌝ }
 {
     let la = a.left;
     let lb = b.left;

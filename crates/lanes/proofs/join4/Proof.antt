@@ -5,7 +5,7 @@ use Prim.Native.Nat.{ℕ}
 use lib.ListN.{length}
 use borrow.Author.Needs.{needs}
 use Rattle.lanes.specs.Lanes.{node, lane, lanes}
-use Rattle.lanes.proofs.SideBySide.{pick-all, lane-joined}
+use Rattle.lanes.proofs.SideBySide.{lane-all, lane-joined}
 use Rattle.lanes.proofs.join4.Statement.{statement}
 use Rattle.lanes.proofs.join4.Tie as tie
 use Rattle.lanes.proofs.join4.Reads as reads
@@ -57,7 +57,7 @@ long-left : (c : lts.Start (
 ) reads.Pre reads.Post)
     (i : ℕ) → length (node i (c .args .left)) ≡ 32
 unfolding node
-long-left c i = pick-all (λ (l : List ℕ). length l ≡ 32) i (search needs) (search needs) (search needs) (search needs)
+long-left c i = lane-all (λ (l : List ℕ). length l ≡ 32) i (search needs) (search needs) (search needs) (search needs)
 
 long-right : (c : lts.Start (
   initial-reads.Asked,
@@ -75,7 +75,7 @@ long-right : (c : lts.Start (
 ) reads.Pre reads.Post)
     (i : ℕ) → length (node i (c .args .right)) ≡ 32
 unfolding node
-long-right c i = pick-all (λ (l : List ℕ). length l ≡ 32) i (search needs) (search needs) (search needs) (search needs)
+long-right c i = lane-all (λ (l : List ℕ). length l ≡ 32) i (search needs) (search needs) (search needs) (search needs)
 
 returns : tie.Need-returns
 returns c i =

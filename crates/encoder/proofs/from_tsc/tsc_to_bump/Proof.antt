@@ -46,8 +46,8 @@ refuse-requires-2 c κs = search needs
 enum-told-2 : tie.Need-enum-told-2
 enum-told-2 c = search needs
 
-write-read-requires : tie.Need-write-read-requires
-write-read-requires c κs =
+write-proved-requires : tie.Need-write-proved-requires
+write-proved-requires c κs =
     let s = c .before .before .before .before .before .before .before .before .before .before .before .args .s .now in
     let e = each-got tscHeadOf (tscWhole s) (answered tscAnswer (c .before .before .before .before .before .before .before .before .read-tsc .ensures) (c .before .before .before .before .before .before .answer .given .1)) in
     let p = told-accepted (c .before .before .before .before .prove-tsc .result) _ _ _ (c .before .before .before .before .prove-tsc .ensures) (c .before .enum-told2 .given .1) in
@@ -80,7 +80,7 @@ tsc-to-bump-spec =
     enum-known-outcome
     refuse-requires-2
     enum-told-2
-    write-read-requires
+    write-proved-requires
     returns-2
     same-length
     returns-3)

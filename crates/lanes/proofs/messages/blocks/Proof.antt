@@ -5,7 +5,7 @@ use Prim.Native.Nat.{ℕ, _*_}
 use native.Mathlib.Omega.{arith}
 use Rattle.hash.specs.Sha256.{words}
 use Rattle.hash.specs.Parts.{blockOf}
-use Rattle.lanes.proofs.SideBySide.{pick-all, pick-map}
+use Rattle.lanes.proofs.SideBySide.{lane-all, lane-map}
 use Rattle.lanes.proofs.Turns.{block-in}
 use borrow.Author.Needs.{needs}
 use Rattle.lanes.proofs.messages.blocks.Statement.{statement}
@@ -22,7 +22,7 @@ returns c =
     let b = c .before .before .before .before .before .before .before .before .before in
     let a = b .args in
     λ l. c .blocks-in .ensures l
-    ∙ pick-all (λ (m : List ℕ). words m (64 * a .i) 16 ≡ blockOf m (a .i)) l (block-in (a .a .now) (a .i) (b .pre .0) (omega arith)) (block-in (a .b .now) (a .i) (b .pre .1) (omega arith)) (block-in (a .c .now) (a .i) (b .pre .2) (omega arith)) (block-in (a .d .now) (a .i) (b .pre .3) (omega arith))
+    ∙ lane-all (λ (m : List ℕ). words m (64 * a .i) 16 ≡ blockOf m (a .i)) l (block-in (a .a .now) (a .i) (b .pre .0) (omega arith)) (block-in (a .b .now) (a .i) (b .pre .1) (omega arith)) (block-in (a .c .now) (a .i) (b .pre .2) (omega arith)) (block-in (a .d .now) (a .i) (b .pre .3) (omega arith))
 
 block-of-requires : tie.Need-block-of-requires
 block-of-requires c κs = search needs
@@ -43,7 +43,7 @@ returns-2 : tie.Need-returns-2
 returns-2 c =
     let a = c .before .before .before .before .before .before .before .before .before .before .args in
     λ l. c .columns .ensures l
-    ∙ rw (c .before .before .before .before .block-of .ensures, c .before .before .before .block-of2 .ensures, c .before .before .block-of3 .ensures, c .before .block-of4 .ensures) (pick-map (λ (m : List ℕ). blockOf m (a .i)) l (a .a .now) (a .b .now) (a .c .now) (a .d .now))
+    ∙ rw (c .before .before .before .before .block-of .ensures, c .before .before .before .block-of2 .ensures, c .before .before .block-of3 .ensures, c .before .block-of4 .ensures) (lane-map (λ (m : List ℕ). blockOf m (a .i)) l (a .a .now) (a .b .now) (a .c .now) (a .d .now))
 
 pub blocks-spec : {M : Type 1} → statement M
 blocks-spec =

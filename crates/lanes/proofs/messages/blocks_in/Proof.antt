@@ -5,14 +5,14 @@ use native.Mathlib.Omega.{arith}
 use lib.ListN.{length, take, length-set}
 use Rattle.hash.specs.Sha256.{words}
 use Rattle.hash.proofs.Words.{words-done}
-use Rattle.lanes.specs.Lanes.{lanes, pick}
+use Rattle.lanes.specs.Lanes.{lanes, inLane}
 use Rattle.lanes.proofs.SideBySide.{words-on, lanes-length}
 use borrow.Author.Needs.{needs}
 use Rattle.lanes.proofs.messages.blocks_in.Statement.{statement}
 use Rattle.lanes.proofs.messages.blocks_in.Tie as tie
 
 abbrev Inv-loop : tie.InvT-loop
-Inv-loop a b c d at w₀ t₀ w t = (t ≤ 16) × (length w ≡ 16) × ((l : ℕ) → take t (lanes l w) ≡ words (pick l a b c d) at t)
+Inv-loop a b c d at w₀ t₀ w t = (t ≤ 16) × (length w ≡ 16) × ((l : ℕ) → take t (lanes l w) ≡ words (inLane l a b c d) at t)
 
 abbrev μ-loop : tie.MeasureT-loop
 μ-loop a b c d at w₀ t₀ w t = 16 - t
@@ -49,13 +49,13 @@ loop-again : tie.Need-loop-again Inv-loop μ-loop
 loop-again c =
     let p = c .before .before .loop in
     let a = c .before .before .before .before .before .before .before .before .args in
-    (omega arith, simp length-set (p .inv .1), λ l. words-on l (a .at) (pick l (a .a .now) (a .b .now) (a .c .now) (a .d .now)) (p .w) (p .t) (c .words-in .result) (omega arith) (p .inv .2 l) (c .words-in .ensures l))
+    (omega arith, simp length-set (p .inv .1), λ l. words-on l (a .at) (inLane l (a .a .now) (a .b .now) (a .c .now) (a .d .now)) (p .w) (p .t) (c .words-in .result) (omega arith) (p .inv .2 l) (c .words-in .ensures l))
 
 returns : tie.Need-returns Inv-loop μ-loop
 returns c =
     let p = c .before .loop in
     let a = c .before .before .before .before .before .before .before .args in
-    λ l. words-done (pick l (a .a .now) (a .b .now) (a .c .now) (a .d .now)) (lanes l (p .w)) (a .at) 16 (p .t) (omega arith) (lanes-length l (p .w) ∙ p .inv .1) (p .inv .2 l)
+    λ l. words-done (inLane l (a .a .now) (a .b .now) (a .c .now) (a .d .now)) (lanes l (p .w)) (a .at) 16 (p .t) (omega arith) (lanes-length l (p .w) ∙ p .inv .1) (p .inv .2 l)
 
 pub blocks-in-spec : {M : Type 1} → statement M
 blocks-in-spec =

@@ -3,14 +3,14 @@ use mathlib.Core.Path.{_≡_, refl}
 use Prim.Native.Nat.{ℕ, _-_, _≤_}
 use native.Mathlib.Omega.{arith}
 use lib.ListN.{length, take, length-set}
-use Rattle.lanes.specs.Lanes.{lanes, pick}
+use Rattle.lanes.specs.Lanes.{lanes, inLane}
 use Rattle.lanes.proofs.Turns.{column-on, columns-done}
 use borrow.Author.Needs.{needs}
 use Rattle.lanes.proofs.messages.columns.Statement.{statement}
 use Rattle.lanes.proofs.messages.columns.Tie as tie
 
 abbrev Inv-loop : tie.InvT-loop
-Inv-loop a b c d w₀ t₀ w t = (t ≤ 16) × (length w ≡ 16) × ((l : ℕ) → take t (lanes l w) ≡ take t (pick l a b c d))
+Inv-loop a b c d w₀ t₀ w t = (t ≤ 16) × (length w ≡ 16) × ((l : ℕ) → take t (lanes l w) ≡ take t (inLane l a b c d))
 
 abbrev μ-loop : tie.MeasureT-loop
 μ-loop a b c d w₀ t₀ w t = 16 - t
@@ -19,7 +19,7 @@ all-requires : tie.Need-all-requires Inv-loop μ-loop
 all-requires c κs = search needs
 
 loop-holds : tie.Need-loop-holds Inv-loop μ-loop
-unfolding lanes pick
+unfolding lanes inLane
 loop-holds c = (omega arith, refl, λ l. refl)
 
 mul-t13 : tie.Need-mul-t13 Inv-loop μ-loop

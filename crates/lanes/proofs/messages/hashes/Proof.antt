@@ -1,6 +1,6 @@
 -- A lane's message, and then its digest.
 use mathlib.Core.Path.{_∙_}
-use Rattle.lanes.specs.Lanes.{pick, lane}
+use Rattle.lanes.specs.Lanes.{inLane, lane}
 use Rattle.lanes.proofs.Turns.{hashed-twice}
 use borrow.Author.Needs.{needs}
 use Rattle.lanes.proofs.messages.hashes.Statement.{statement}
@@ -34,7 +34,7 @@ returns : tie.Need-returns
 returns c =
     let a = c .before .before .before .before .before .before .before .before .before .before .before .before .args in
     λ l. c .digests .ensures l
-    ∙ hashed-twice (pick l (a .a .now) (a .b .now) (a .c .now) (a .d .now)) (lane l (c .before .before .before .before .finish4 .result)) (lane l (c .before .compress4 .result)) (c .before .before .before .before .finish4 .ensures l)
+    ∙ hashed-twice (inLane l (a .a .now) (a .b .now) (a .c .now) (a .d .now)) (lane l (c .before .before .before .before .finish4 .result)) (lane l (c .before .compress4 .result)) (c .before .before .before .before .finish4 .ensures l)
     (rw (c .before .before .before .initial .ensures l, c .before .before .digest-block .ensures l) at (c .before .compress4 .ensures l))
 
 pub hashes-spec : {M : Type 1} → statement M

@@ -5,15 +5,15 @@ use Prim.Native.Nat.{ℕ, _-_, _^_, _≤_, _<_}
 use native.Mathlib.Omega.{arith}
 use lib.ListN.{length}
 use Rattle.hash.specs.Sha256.{MAX-INPUT}
-use Rattle.lanes.specs.Lanes.{lane, pick, after}
-use Rattle.lanes.proofs.SideBySide.{pick-all}
+use Rattle.lanes.specs.Lanes.{lane, inLane, after}
+use Rattle.lanes.proofs.SideBySide.{lane-all}
 use Rattle.lanes.proofs.Turns.{after-none, after-on}
 use borrow.Author.Needs.{needs}
 use Rattle.lanes.proofs.messages.together.Statement.{statement}
 use Rattle.lanes.proofs.messages.together.Tie as tie
 
 abbrev Inv-loop : tie.InvT-loop
-Inv-loop a b c d common n h₀ i₀ h i = (i ≤ common) × ((l : ℕ) → lane l h ≡ after (pick l a b c d) i)
+Inv-loop a b c d common n h₀ i₀ h i = (i ≤ common) × ((l : ℕ) → lane l h ≡ after (inLane l a b c d) i)
 
 abbrev μ-loop : tie.MeasureT-loop
 μ-loop a b c d common n h₀ i₀ h i = common - i
@@ -25,7 +25,7 @@ initial-requires : tie.Need-initial-requires Inv-loop μ-loop
 initial-requires c κs = search needs
 
 loop-holds : tie.Need-loop-holds Inv-loop μ-loop
-loop-holds c = let a = c .before .before .before .before .before .before .args in (omega arith, λ l. c .initial .ensures l ∙ after-none (pick l (a .a .now) (a .b .now) (a .c .now) (a .d .now)))
+loop-holds c = let a = c .before .before .before .before .before .before .args in (omega arith, λ l. c .initial .ensures l ∙ after-none (inLane l (a .a .now) (a .b .now) (a .c .now) (a .d .now)))
 
 blocks-requires : tie.Need-blocks-requires Inv-loop μ-loop
 blocks-requires c κs = search needs
@@ -54,7 +54,7 @@ loop-again c =
       omega arith,
       λ l. c .kept-where-done .ensures l
           ∙ rw (c .before .before .before .before .before .before .count4 .ensures l, c .before .compress4 .ensures l, c .before .before .blocks2 .ensures l, p .inv .1 l)
-          (after-on (pick l (a .a .now) (a .b .now) (a .c .now) (a .d .now)) (p .i) (pick-all (λ (m : List ℕ). length m ≤ MAX-INPUT) l (b .pre .0) (b .pre .1) (b .pre .2) (b .pre .3))),
+          (after-on (inLane l (a .a .now) (a .b .now) (a .c .now) (a .d .now)) (p .i) (lane-all (λ (m : List ℕ). length m ≤ MAX-INPUT) l (b .pre .0) (b .pre .1) (b .pre .2) (b .pre .3))),
     )
 
 returns : tie.Need-returns Inv-loop μ-loop

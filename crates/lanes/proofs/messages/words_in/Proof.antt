@@ -2,7 +2,7 @@ use mathlib.Core.List.{List}
 use Prim.Native.Nat.{ℕ}
 use Rattle.hash.specs.Sha256.{word}
 use Rattle.lanes.specs.Lanes.{at}
-use Rattle.lanes.proofs.SideBySide.{pick-map}
+use Rattle.lanes.proofs.SideBySide.{lane-map}
 use borrow.Author.Needs.{needs}
 use Rattle.lanes.proofs.messages.words_in.Statement.{statement}
 use Rattle.lanes.proofs.messages.words_in.Tie as tie
@@ -23,7 +23,7 @@ returns : tie.Need-returns
 unfolding at
 returns c =
     let a = c .before .before .before .before .before .before .before .before .args in
-    λ l. rw (c .before .before .before .word-in .ensures, c .before .before .word-in2 .ensures, c .before .word-in3 .ensures, c .word-in4 .ensures) (pick-map (λ (m : List ℕ). word m (a .at)) l (a .a .now) (a .b .now) (a .c .now) (a .d .now))
+    λ l. rw (c .before .before .before .word-in .ensures, c .before .before .word-in2 .ensures, c .before .word-in3 .ensures, c .word-in4 .ensures) (lane-map (λ (m : List ℕ). word m (a .at)) l (a .a .now) (a .b .now) (a .c .now) (a .d .now))
 
 pub words-in-spec : {M : Type 1} → statement M
 words-in-spec =

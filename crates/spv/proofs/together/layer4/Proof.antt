@@ -11,19 +11,19 @@ use Rattle.spv.proofs.together.layer4.Statement.{statement}
 use Rattle.spv.proofs.together.layer4.Tie as tie
 
 next-of-requires : tie.Need-next-of-requires
-unfolding riser L.pick
+unfolding riser L.inLane
 next-of-requires c κs = c .before .before .before .before .before .before .before .before .before .pre 0
 
 next-of-requires-2 : tie.Need-next-of-requires-2
-unfolding riser L.pick
+unfolding riser L.inLane
 next-of-requires-2 c κs = c .before .before .before .before .before .before .before .before .before .before .before .before .before .before .before .before .pre 1
 
 next-of-requires-3 : tie.Need-next-of-requires-3
-unfolding riser L.pick
+unfolding riser L.inLane
 next-of-requires-3 c κs = c .before .before .before .before .before .before .before .before .before .before .before .before .before .before .before .before .before .before .before .before .before .before .before .pre 2
 
 next-of-requires-4 : tie.Need-next-of-requires-4
-unfolding riser L.pick
+unfolding riser L.inLane
 next-of-requires-4 c κs = c .before .before .before .before .before .before .before .before .before .before .before .before .before .before .before .before .before .before .before .before .before .before .before .before .before .before .before .before .before .before .pre 3
 
 parents-requires : tie.Need-parents-requires
@@ -48,7 +48,7 @@ same-length-2 : tie.Need-same-length-2
 same-length-2 c = c .before .before .before .before .before .before .before .before .before .before .before .before .before .next-of4 .kept .1 .1 .1 .1 .1 .0 ∙ c .before .before .before .before .before .before .before .before .before .before .before .before .before .before .before .before .before .before .before .before .next-of3 .kept .1 .1 .1 .1 .1 .0 ∙ c .before .before .before .before .before .before .before .before .before .before .before .before .before .before .before .before .before .before .before .before .before .before .before .before .before .before .before .next-of2 .kept .1 .1 .1 .1 .1 .0 ∙ c .before .before .before .before .before .before .before .before .before .before .before .before .before .before .before .before .before .before .before .before .before .before .before .before .before .before .before .before .before .before .before .before .before .before .next-of .kept .1 .1 .1 .1 .1 .0
 
 returns : tie.Need-returns
-unfolding L.node L.pick
+unfolding L.node L.inLane
 returns c =
     let e = c .before .before .before .before .before .before .before .before .before .before .before .before .before .before .before .before .before .before .before .before .before .before .before .before .before .before .before .before .before .before .before .before .before .before .before .before .before .before .before .before .before .before .before .before in
     let a = e .args in

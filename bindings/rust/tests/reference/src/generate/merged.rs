@@ -25,6 +25,19 @@ impl Plan {
         plan
     }
 
+    /// The tallest path, of a client at position 2^63: every sibling below the top is a copy, and
+    /// so is every right child below the top sibling, which is worked out from a leaf of `bb`s.
+    pub fn copies(id: Hash) -> Self {
+        let position = 1 << 63;
+        let leaf = |offset, flags| Leaf { offset, flags, hash: [0xbb; 32] };
+        let mut plan = Self { block_height: 0, levels: vec![Vec::new(); 64] };
+        plan.levels[0] = vec![leaf(0, 0), Leaf { hash: id, ..leaf(position, 2) }];
+        for layer in 0..63 {
+            plan.levels[layer].extend([leaf(1, 1), leaf((position >> layer) + 1, 1)]);
+        }
+        plan
+    }
+
     /// Some inner nodes of a path of a tree are left out; where its other leaves don't give such a
     /// node, nodes below it are written instead. All climbs keep their root.
     pub fn thin(&mut self, random: &mut Random, tree: &Tree) {
@@ -124,6 +137,27 @@ impl Plan {
         let flags = u8::from(offset % 2 == 1 && random.one_in(2));
         let hash = random.hash();
         self.levels[level].push(Leaf { offset, flags, hash });
+    }
+
+    /// A path of a block of up to `most` ids, which are its clients, with inner nodes left out;
+    /// every second one is in no order, and every second one has changes by which worked-out
+    /// values may be lost or become others.
+    pub fn merged(random: &mut Random, most: u64) -> Self {
+        let count = random.within(2..=most) as usize;
+        let tree = Tree::random(random, count);
+        let mut plan = Self::whole(&tree);
+        if random.one_in(3) {
+            plan.levels[1..].iter_mut().for_each(Vec::clear);
+        } else {
+            plan.thin(random, &tree);
+        }
+        if random.one_in(2) {
+            plan.levels.iter_mut().for_each(|level| random.shuffle(level));
+        }
+        if random.one_in(2) {
+            (0..random.within(1..=3)).for_each(|_| plan.unsettle(random));
+        }
+        plan
     }
 
     /// A change by which a worked-out value may be lost or become another.

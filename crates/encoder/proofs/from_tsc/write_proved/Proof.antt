@@ -6,8 +6,8 @@ use Rattle.encoder.specs.CallLaws.{fits-in}
 use Rattle.encoder.specs.OutputLaws.{refused-so, written-whole}
 use Rattle.encoder.specs.ConvertLaws.{read-target, read-few, read-none, read-short, read-writes, read-size}
 use borrow.Author.Needs.{needs}
-use Rattle.encoder.proofs.from_tsc.write_read.Statement.{statement}
-use Rattle.encoder.proofs.from_tsc.write_read.Tie as tie
+use Rattle.encoder.proofs.from_tsc.write_proved.Statement.{statement}
+use Rattle.encoder.proofs.from_tsc.write_proved.Tie as tie
 
 node-count-at-requires : tie.Need-node-count-at-requires
 node-count-at-requires c κs = read-target _ _ _ (c .before .before .before .before .pre)
@@ -67,8 +67,8 @@ returns-3 c =
     let fits = fits-in size (c .before .before .before .before .before .before .before .before .before .before .before .before .if2 .left) in
     written-whole _ _ fits (read-writes _ _ _ v _ _ (c .before .before .before .before .before .before .before .before .before .before .before .before .before .before .before .if1 .left) fits) (wrote-hashed _ _ _ refl (c .before .before .before .before .before .before .before .before .before .before .write-varint .ensures) (c .before .before .before .before .before .before .put .ensures) (c .before .before .write-client-levels .ensures))
 
-pub write-read-spec : {M : Type 1} → statement M
-write-read-spec =
+pub write-proved-spec : {M : Type 1} → statement M
+write-proved-spec =
     tie.close
     (tie.spec
     node-count-at-requires
