@@ -35,3 +35,8 @@ answerUnder s ids path row (Paged.Refused why) = blankAnswer
 
 unfoldable pub answerAt : List ℕ → List ℕ → Opening → ℕ → Answer
 answerAt s ids o row = answerUnder s ids (o .path) row (o .paged)
+
+-- how many answers a page has
+abbrev pub countOf : Paged → ℕ
+countOf (Paged.Answered n) = n
+countOf (Paged.Refused why) = 0

@@ -5,9 +5,10 @@ use mathlib.Core.Bool.{Bool, true, false}
 use mathlib.Core.List.{List, []}
 use native.Mathlib.Nat.{sub-zero}
 use native.Mathlib.Omega.{arith}
-use lib.Dec.{ltb, leb}
+use lib.Dec.{ltb, leb, eqb}
 use lib.ListN.{length, getD, replicate, length-map, List·getD-eq-default}
 use borrow.Author.Tests.{le-leb, lt-leb, leb-true, eq-eqb, ne-eqb, ltb-true, ltb-false}
+use Rattle.format.specs.Basics.{and-true}
 use Rattle.format.specs.Parse.{Parse, got, bad, pick}
 use Rattle.format.specs.Bump.{Bump, bumpWhole}
 use Rattle.format.specs.Path.{bumpPath}
@@ -49,15 +50,20 @@ module _ (s ids : List ℕ) (room : ℕ) where
       unfolding bumpFor allowed
       page-asked h = rw (eq-eqb (length ids % 32) 0 whole, le-leb (length ids / 32) MAX-PAGE few, le-leb (length ids / 32) room h)
 
-  -- a page that is answered has room, and its BUMP was read
-  page-told : (b : Bump) (q : ℕ) → bumpFor s ids room ≡ got b q → (length ids / 32 ≤ room) × (bumpWhole s ≡ got b q)
+  -- a page that is answered is not over the limit, it has room, and its BUMP was read
+  page-told : (b : Bump) (q : ℕ) → bumpFor s ids room ≡ got b q → (allowed ids ≡ true) × (length ids / 32 ≤ room) × (bumpWhole s ≡ got b q)
   unfolding bumpFor
-  page-told b q e = go (allowed ids) (leb (length ids / 32) room) refl e
+  page-told b q e = go (allowed ids) (leb (length ids / 32) room) refl refl e
     where
-      go : (t u : Bool) → leb (length ids / 32) room ≡ u → pick t (pick u (bumpWhole s) (bad NO-ROOM 0)) (bad OVER-LIMIT 0) ≡ got b q → (length ids / 32 ≤ room) × (bumpWhole s ≡ got b q)
-      go true true h f = (leb-true (length ids / 32) room h, f)
-      go true false h f = let z : _≡_ {A = ℕ} 0 1 = cc in absurd (omega arith)
-      go false u h f = let z : _≡_ {A = ℕ} 0 1 = cc in absurd (omega arith)
+      go : (t u : Bool) → allowed ids ≡ t → leb (length ids / 32) room ≡ u → pick t (pick u (bumpWhole s) (bad NO-ROOM 0)) (bad OVER-LIMIT 0) ≡ got b q
+          → (allowed ids ≡ true) × (length ids / 32 ≤ room) × (bumpWhole s ≡ got b q)
+      go true true g h f = (g, leb-true (length ids / 32) room h, f)
+      go true false g h f = let z : _≡_ {A = ℕ} 0 1 = cc in absurd (omega arith)
+      go false u g h f = let z : _≡_ {A = ℕ} 0 1 = cc in absurd (omega arith)
+
+  pub page-few : (b : Bump) (q : ℕ) → bumpFor s ids room ≡ got b q → length ids / 32 ≤ MAX-PAGE
+  unfolding allowed
+  page-few b q e = leb-true (length ids / 32) MAX-PAGE (and-true (eqb (length ids % 32) 0) (leb (length ids / 32) MAX-PAGE) (page-told b q e .0) .1)
 
 -- ---- an answer for each id
 
@@ -102,7 +108,7 @@ module _ (s ids : List ℕ) (room : ℕ) where
       go : (p : Parse Bump) → bumpFor s ids room ≡ p → rows (answerAt s ids (openingOf s (length ids / 32) p)) room ≡ rowOf (afterReading p (λ _. accepted (answers s ids))) room
       go (got b q) e =
           let told = page-told s ids room b q e in
-          rows-list (answerAt s ids (openingOf s (length ids / 32) (got b q))) blankAnswer (answers s ids) room (row-at b q (told .1)) (omega (arith, told .0, answers-length s ids))
+          rows-list (answerAt s ids (openingOf s (length ids / 32) (got b q))) blankAnswer (answers s ids) room (row-at b q (told .2)) (omega (arith, told .1, answers-length s ids))
       go (bad number place) e =
           rows-list (answerAt s ids (openingOf s (length ids / 32) (bad number place))) blankAnswer [] room (λ i. refl) zero-le ∙ ap (λ (k : ℕ). replicate k blankAnswer) (sub-zero room)
 

@@ -8,16 +8,28 @@ use format::refusal::OVER_LIMIT;
 use spv::Outcome;
 use spv::Proved;
 use spv::Rejection;
+use spv::Rising;
+use spv::Risings;
+use spv::SLOTS;
+use spv::SLOTS_ROOM;
 ghost use mathlib.Core.Path.{_≡_};
 ghost use lib.ListN.{length};
-ghost use Prim.Native.Nat.{_/_};
+ghost use Prim.Native.Nat.{_+_, _/_, _≤_, _<_};
 ghost use Rattle.spv.specs.Rows.{rows};
+ghost use Rattle.spv.specs.Kept.{Keeps};
+ghost use Rattle.spv.specs.Together.{cameTo, provedBy};
 ghost use Rattle.format.specs.Bump.{bumpWhole};
-ghost use Rattle.page.specs.Page.{blankAnswer, answerOf, bumpFor, page, pagedOf, rowOf};
-ghost use Rattle.page.specs.Opening.{unopened, openingOf, answerAt};
+ghost use Rattle.page.specs.Page.{MAX-PAGE, blankAnswer, answerOf, bumpFor, page, pagedOf, rowOf};
+ghost use Rattle.page.specs.Opening.{unopened, openingOf, countOf};
+ghost use Rattle.page.specs.Flat.{ROOTS-ROOM, NUMBERS-ROOM, flatAnswer, Puts, PutsFour, startFor, FourRight, AllRight};
 
 // The most ids that a page has.
 pub const MAX_PAGE: usize = 256;
+
+// The room of the flat form: a root and six numbers for each id.
+const ROOTS_ROOM: usize = 8192;
+
+const NUMBERS_ROOM: usize = 1536;
 
 // What asking for one id answers: the number of its refusal, what that carries and the layer and sibling that it names, or the id's position, the number
 // of layers and the root. What is not said is zero. Any bytes are a value of each field, so that a caller may lend any memory, and no byte lies between the fields.
@@ -30,6 +42,14 @@ pub struct Answer {
     pub position: u64,
     pub layers: u64,
     pub root: [u8; 32],
+}
+
+// The answers of four rows.
+struct Answers {
+    a: Answer,
+    b: Answer,
+    c: Answer,
+    d: Answer,
 }
 
 // What a page answers: for how many ids, or why for none.
@@ -132,43 +152,176 @@ fn open_page(s: &[u8], ids: &[u8], room: usize) -> Opening
     read_page(s, count)
 }
 
-// The answer for a row.
-fn answer_at(s: &[u8], ids: &[u8], opening: Opening, row: usize) -> Answer
-    ensures { λ r. ⌜ r ≡ answerAt (now (s .entry)) (now (ids .entry)) opening row ⌝ }
+// The climb of a row's id, or none past the ids.
+fn start_at(s: &[u8], ids: &[u8], path: Path, row: usize) -> Rising
+    ensures { λ r. ⌜ r ≡ startFor (now (s .entry)) (now (ids .entry)) path row ⌝ }
 {
+    if ids.len() / 32 <= row {
+        return spv::not_begun();
+    }
+    spv::begin(s, path, format::hash_at(ids, row * 32))
+}
+
+// What a climb from x to y answers.
+fn answer_by(layers: usize, x: Rising, y: Rising) -> Answer
+    ensures { λ r. ⌜ r ≡ answerOf (provedBy layers x (cameTo y)) ⌝ }
+{
+    answer_of(spv::proved_by(layers, x, y))
+}
+
+// The answers of four rows, with what earlier climbs worked out.
+fn answers_from(
+    s: &[u8],
+    ids: &[u8],
+    path: Path,
+    row: usize,
+    marks: &mut [u64],
+    hashes: &mut [u8],
+) -> Answers
+    requires { ⌜ row < MAX-PAGE ⌝ }
+    ensures { λ r. ⌜ (Keeps (now (s .entry)) path (now (marks .entry)) (now (hashes .entry)) → FourRight (now (s .entry)) (now (ids .entry)) path row r × Keeps (now (s .entry)) path (now (marks .exit)) (now (hashes .exit))) ⌝ }
+{
+    let x = Risings {
+        a: start_at(s, ids, path, row),
+        b: start_at(s, ids, path, row + 1),
+        c: start_at(s, ids, path, row + 2),
+        d: start_at(s, ids, path, row + 3),
+    };
+    let y = spv::climb_together(s, path, x, marks, hashes);
+    let h = path.layers;
+    Answers {
+        a: answer_by(h, x.a, y.a),
+        b: answer_by(h, x.b, y.b),
+        c: answer_by(h, x.c, y.c),
+        d: answer_by(h, x.d, y.d),
+    }
+}
+
+// A row's answer in flat form: six numbers, and its root.
+fn put_answer(numbers: &mut [u64], roots: &mut [u8], row: usize, answer: Answer)
+    requires { ⌜ row < MAX-PAGE ⌝ }
+    requires { ⌜ NUMBERS-ROOM ≤ length (now numbers) ⌝ }
+    requires { ⌜ ROOTS-ROOM ≤ length (now roots) ⌝ }
+    ensures { λ _. ⌜ Puts (now (roots .entry)) (now (numbers .entry)) row answer (now (roots .exit)) (now (numbers .exit)) ⌝ }
+{
+    let at = 6 * row;
+    let root = answer.root;
+    numbers[at] = answer.refusal;
+    numbers[at + 1] = answer.carried;
+    numbers[at + 2] = answer.layer;
+    numbers[at + 3] = answer.sibling;
+    numbers[at + 4] = answer.position;
+    numbers[at + 5] = answer.layers;
+    format::set_hash(roots, row, root);
+}
+
+// Four rows' answers in flat form.
+fn put_four(numbers: &mut [u64], roots: &mut [u8], row: usize, four: Answers)
+    requires { ⌜ row + 3 < MAX-PAGE ⌝ }
+    requires { ⌜ NUMBERS-ROOM ≤ length (now numbers) ⌝ }
+    requires { ⌜ ROOTS-ROOM ≤ length (now roots) ⌝ }
+    ensures { λ _. ⌜ PutsFour (now (roots .entry)) (now (numbers .entry)) row four (now (roots .exit)) (now (numbers .exit)) ⌝ }
+{
+    let a = four.a;
+    let b = four.b;
+    let c = four.c;
+    let d = four.d;
+    put_answer(numbers, roots, row, a);
+    put_answer(numbers, roots, row + 1, b);
+    put_answer(numbers, roots, row + 2, c);
+    put_answer(numbers, roots, row + 3, d);
+}
+
+// All ids' answers in flat form, four at a time.
+fn answer_all(s: &[u8], ids: &[u8], path: Path, numbers: &mut [u64], roots: &mut [u8])
+    requires { ⌜ length (now ids) / 32 ≤ MAX-PAGE ⌝ }
+    requires { ⌜ NUMBERS-ROOM ≤ length (now numbers) ⌝ }
+    requires { ⌜ ROOTS-ROOM ≤ length (now roots) ⌝ }
+    ensures { λ _. ⌜ AllRight (now (s .entry)) (now (ids .entry)) path (length (now (ids .entry)) / 32) (now (roots .exit)) (now (numbers .exit)) ⌝ }
+{
+    let mut marks = [0u64; SLOTS];
+    let mut hashes = [0u8; SLOTS_ROOM];
+    let count = ids.len() / 32;
+    let mut row = 0;
+    while row < count {
+        let four = answers_from(s, ids, path, row, &mut marks, &mut hashes);
+        put_four(numbers, roots, row, four);
+        row = row + 4;
+    }
+}
+
+// A page as it is asked for, with its answers in flat form. The caller lends room for them; the tests of it stand for a `requires`, which a walk by hand
+// would have to meet.
+fn answer_flat(s: &[u8], ids: &[u8], room: usize, roots: &mut [u8], numbers: &mut [u64]) -> Paged
+    ensures { λ r. ⌜ (ROOTS-ROOM ≤ length (now (roots .entry)) → NUMBERS-ROOM ≤ length (now (numbers .entry)) → (r ≡ pagedOf (page (now (s .entry)) (now (ids .entry)) room)) × (rows (flatAnswer (now (roots .exit)) (now (numbers .exit)) (countOf r)) room ≡ rowOf (page (now (s .entry)) (now (ids .entry)) room) room)) ⌝ }
+{
+    if roots.len() < ROOTS_ROOM {
+        return Paged::Refused(spv::reject(NO_ROOM));
+    }
+    if numbers.len() < NUMBERS_ROOM {
+        return Paged::Refused(spv::reject(NO_ROOM));
+    }
+    let opening = open_page(s, ids, room);
     let paged = opening.paged;
     let path = opening.path;
     let Paged::Answered(_) = paged else {
-        return blank();
+        return paged;
     };
-    if ids.len() / 32 <= row {
-        return blank();
-    }
-    answer_of(spv::prove_in(s, path, format::hash_at(ids, row * 32)))
+    answer_all(s, ids, path, numbers, roots);
+    paged
 }
 
-// The row gets an answer for each id, and past them it is blank.
-fn fill(row: &mut [Answer], s: &[u8], ids: &[u8], opening: Opening)
-    ensures { λ _. ⌜ now (row .exit) ≡ rows (answerAt (now (s .entry)) (now (ids .entry)) opening) (length (now (row .entry))) ⌝ }
+// The answer for a row, by the flat form of so many.
+fn flat_answer(roots: &[u8], numbers: &[u64], count: usize, row: usize) -> Answer
+    ensures { λ r. ⌜ r ≡ flatAnswer (now (roots .entry)) (now (numbers .entry)) count row ⌝ }
+{
+    if count <= row {
+        return blank();
+    }
+    if numbers.len() / 6 <= row {
+        return blank();
+    }
+    let at = 6 * row;
+    let root = format::hash_at(roots, 32 * row);
+    Answer {
+        refusal: numbers[at],
+        carried: numbers[at + 1],
+        layer: numbers[at + 2],
+        sibling: numbers[at + 3],
+        position: numbers[at + 4],
+        layers: numbers[at + 5],
+        root,
+    }
+}
+
+// How many answers a page has.
+fn count_of(paged: Paged) -> usize
+    ensures { λ r. ⌜ r ≡ countOf paged ⌝ }
+{
+    match paged {
+        Paged::Answered(n) => n,
+        Paged::Refused(_) => 0,
+    }
+}
+
+// The row gets the answers, and past them it is blank.
+fn fill(row: &mut [Answer], roots: &[u8], numbers: &[u64], count: usize)
+    ensures { λ _. ⌜ now (row .exit) ≡ rows (flatAnswer (now (roots .entry)) (now (numbers .entry)) count) (length (now (row .entry))) ⌝ }
 {
     let mut i = 0;
     while i < row.len() {
-        row[i] = answer_at(s, ids, opening, i);
+        row[i] = flat_answer(roots, numbers, count, i);
         i = i + 1;
     }
-}
-
-fn paged_of(opening: Opening) -> Paged
-    ensures { λ r. ⌜ r ≡ opening .paged ⌝ }
-{
-    opening.paged
 }
 
 // Prove a page of lent ids, end to end, by a BUMP. The row gets an answer for each id, past the ids it is zero, and on a refusal it is zero throughout.
 pub fn prove_page(s: &[u8], ids: &[u8], row: &mut [Answer]) -> Paged
     ensures { λ r. ⌜ (r ≡ pagedOf (page (now (s .entry)) (now (ids .entry)) (length (now (row .entry))))) × (now (row .exit) ≡ rowOf (page (now (s .entry)) (now (ids .entry)) (length (now (row .entry)))) (length (now (row .entry)))) ⌝ }
 {
-    let opening = open_page(s, ids, row.len());
-    fill(row, s, ids, opening);
-    paged_of(opening)
+    let mut roots = [0u8; ROOTS_ROOM];
+    let mut numbers = [0u64; NUMBERS_ROOM];
+    let paged = answer_flat(s, ids, row.len(), &mut roots, &mut numbers);
+    fill(row, &roots, &numbers, count_of(paged));
+    paged
 }

@@ -30,6 +30,11 @@ rows-at f (suc n) i d h = go (ltb i n) refl (rows-at f n i d)
         let last : n ≡ i = omega (arith, ltb-false i n e) in
         getD-at (rows f n) (f n) [] d i (rows-length f n ∙ last) ∙ ap f last
 
+pub rows-same : {A : Type 0} (f g : ℕ → A) (n : ℕ) → ((i : ℕ) → f i ≡ g i) → rows f n ≡ rows g n
+unfolding rows
+rows-same f g zero e = refl
+rows-same f g (suc n) e = ap (λ l. l ++ (f n ∷ [])) (rows-same f g n e) ∙ ap (λ x. rows g n ++ (x ∷ [])) (e n)
+
 getD-replicate-same : {A : Type 0} (n i : ℕ) (d : A) → getD (replicate n d) i d ≡ d
 getD-replicate-same zero i d = refl
 getD-replicate-same (suc n) zero d = refl

@@ -1,9 +1,10 @@
--- `fill` meets its contract: a walk of its MIR, by hand. The borrow of the row is opened before the loop and closed after it. A turn calls `answer_at`, stores what it returns to the element at i, and goes on at i + 1.
+-- `fill` meets its contract: a walk of its MIR, by hand. The borrow of the row is opened before the loop and closed after it. A turn calls `flat_answer`, stores what it returns to the element at i, and goes on at i + 1.
 -- The loop's invariant: the row is `upTo f ys i`, the first i answers and then what was there. The measure is what is left of the row.
 -- No line names a field of the answer. Assumes nothing.
 use mathlib.Core.Path.{_≡_, refl, sym, ap, subst}
-use Prim.Native.Nat.{ℕ, _<_, _≤_, _^_, _+_, _-_, _*_, zero-le}
+use Prim.Native.Nat.{ℕ, _<_, _≤_, _^_, _+_, _-_, _*_}
 use native.Mathlib.Nat.{le-antisymm}
+use Prim.Native.Nat.{zero-le}
 use native.Mathlib.Omega.{arith}
 use mathlib.Core.List.{[], _∷_, List}
 use mathlib.Core.WellFounded.{WellFounded, InvImage·wf}
@@ -29,8 +30,8 @@ use sound.WpLaws.{fmOf, WpFn-mono}
 use denote.RattleType.{RattleType, owns}
 use denote.Shadow.{pureI}
 use denote.Laws.{Is, shows}
-use denote.Plain.{uint-makes}
-use denote.Builtin.{u8, usize}
+use denote.Plain.{uint-makes, uint-vals, uint-tells}
+use denote.Builtin.{u8, u64, usize}
 use denote.Ref.{RefT}
 use denote.Slice.{sliceVal, MutSlice, ShrSlice, Room, heres, codedHoleys, at-slice, slice-vals, mut-slice-tells, shr-slice-tells, shr-slice-copy}
 use denote.Lend.{Held}
@@ -49,16 +50,13 @@ use denote.Exit.{yes}
 use Rattle.spv.specs.Rows.{rows}
 use Rattle.spv.proofs.Filled.{upTo, upTo-none, upTo-more, upTo-all, upTo-length}
 use Rattle.page.specs.declared.Answer.{Answer}
-use Rattle.page.specs.declared.Opening.{Opening}
-use Rattle.page.specs.Opening.{answerAt}
+use Rattle.page.specs.Flat.{flatAnswer}
 use Rattle.page.proofs.Answer as T
 use Rattle.page.proofs.Answer.Laws as T′
-use Rattle.page.proofs.Opening as F
-use Rattle.page.proofs.Opening.Laws as F′
-use Rattle.page.proofs.answer_at as g
-use Rattle.page.proofs.answer_at.Symbol as g-def
-use Rattle.page.proofs.answer_at.Symbol.{name as #page·answer-at}
-use Rattle.page.proofs.answer_at.Met as g-thm
+use Rattle.page.proofs.flat_answer as g
+use Rattle.page.proofs.flat_answer.Symbol as g-def
+use Rattle.page.proofs.flat_answer.Symbol.{name as #page·flat-answer}
+use Rattle.page.proofs.flat_answer.Met as g-thm
 use Rattle.page.proofs.fill.Key.{name as #page·fill}
 use Rattle.page.proofs.fill as f
 use Rattle.page.proofs.fill.Statement as stated
@@ -68,12 +66,9 @@ use Rattle.page.proofs.fill.Code.Mir as parts
 abbrev R : RattleType
 R = T.the-row
 
--- the machine values of an answer and of an opened page
+-- an answer's machine value
 abbrev mach : Answer → Val
 mach r = LL.val T.the-type T′.the-laws r
-
-abbrev opening-mach : Opening → Val
-opening-mach p = LL.val F.the-type F′.the-laws p
 
 -- the type of the local k
 abbrev local-type : Local → Ty
@@ -96,7 +91,7 @@ after return = skip
 after (call f xs d) = skip
 
 abbrev stayed : Stays (f.ended .signature .params) (f.ended .kept)
-stayed = (stay-slice (0 ∷ []) tt (plain (λ _. R)), (stay-none-slice (1 ∷ []) tt (plain (λ _. u8)) yes, (stay-none-slice (2 ∷ []) tt (plain (λ _. u8)) yes, (stay-none (λ _. F.the-row) yes, tt))))
+stayed = (stay-slice (0 ∷ []) tt (plain (λ _. R)), (stay-none-slice (1 ∷ []) tt (plain (λ _. u8)) yes, (stay-none-slice (2 ∷ []) tt (plain (λ _. u64)) yes, (stay-none (λ _. usize) yes, tt))))
 
 -- how many bytes an answer takes
 abbrev size : ℕ
@@ -110,15 +105,15 @@ abbrev G : {M : Type 1} (𝓤 : URA M) (H : Heap 𝓤) (A : Atoms 𝓤) (mem : M
 G 𝓤 H A mem run = tripleOf 𝓤 H A g.signature (g.spec 𝓤 H A mem run)
 
 module _ {M : Type 1} (𝓤 : URA M) (H : Heap 𝓤) (A : Atoms 𝓤) (W : Given 𝓤 H A) (mem : Memory → SProp 𝓤) (run : Routine → Fun 𝓤) (κ κ₁ κ₂ : Lft) (q q₁ q₂ : Share)
-    (b o : ℕ) (γ : GName) (ys : List Answer) (input ids : RefT (List ℕ)) (p : Opening) (room : Room R (length ys)) (gp : Is F.the-row p (opening-mach p ∷ [])) where
+    (b o : ℕ) (γ : GName) (ys : List Answer) (roots : RefT (List ℕ)) (numbers : RefT (List ℕ)) (n : ℕ) (room : Room R (length ys)) (n-fits : n < 2 ^ 64) where
   abbrev x : List Answer → RefT (List Answer)
   x l = record { ptr = (b, o); name = γ; now = l }
 
   abbrev Arg : Type 0
-  Arg = RefT (List Answer) × (RefT (List ℕ) × (RefT (List ℕ) × (Opening × Unit {0})))
+  Arg = RefT (List Answer) × (RefT (List ℕ) × (RefT (List ℕ) × (ℕ × Unit {0})))
 
   abbrev a : Arg
-  a = (x ys, (input, (ids, (p, tt))))
+  a = (x ys, (roots, (numbers, (n, tt))))
 
   abbrev len : ℕ
   len = length ys
@@ -127,27 +122,27 @@ module _ {M : Type 1} (𝓤 : URA M) (H : Heap 𝓤) (A : Atoms 𝓤) (W : Given
   s = sliceVal (b, o) len
 
   abbrev s₁ : Val
-  s₁ = sliceVal (input .ptr) (length (input .now))
+  s₁ = sliceVal (roots .ptr) (length (roots .now))
 
   abbrev s₂ : Val
-  s₂ = sliceVal (ids .ptr) (length (ids .now))
+  s₂ = sliceVal (numbers .ptr) (length (numbers .now))
 
   abbrev vals : List Val × (List Val × (List Val × (List Val × Unit {0})))
-  vals = (s ∷ [], (s₁ ∷ [], (s₂ ∷ [], (opening-mach p ∷ [], tt))))
+  vals = (s ∷ [], (s₁ ∷ [], (s₂ ∷ [], (vint w64 n ∷ [], tt))))
 
   -- the answer at each place, and the row after i turns
   abbrev rec : ℕ → Answer
-  rec = answerAt (input .now) (ids .now) p
+  rec = flatAnswer (roots .now) (numbers .now) n
 
   abbrev L : ℕ → List Answer
   L = upTo rec ys
 
-  -- what the two slices own
+  -- what the slices of the flat form own
   abbrev N : Fml
-  N = ShrSlice (named 1) κ₁ u8 .own input (s₁ ∷ [])
+  N = ShrSlice (named 1) κ₁ u8 .own roots (s₁ ∷ [])
 
   abbrev I : Fml
-  I = ShrSlice (named 2) κ₂ u8 .own ids (s₂ ∷ [])
+  I = ShrSlice (named 2) κ₂ u64 .own numbers (s₂ ∷ [])
 
   abbrev Post : Val → SProp 𝓤
   Post = walkOf 𝓤 H A f.ended stayed (f.clauses 𝓤 H A mem run) .post (((κ, (κ₁, (κ₂, tt))), (q, (q₁, (q₂, tt))), tt, a, vals), tt)
@@ -157,25 +152,25 @@ module _ {M : Type 1} (𝓤 : URA M) (H : Heap 𝓤) (A : Atoms 𝓤) (W : Given
       qed W (‵ (fobs γ (codedHoleys R .code (heres R zs))) ∷ ‵ (fbor κ (Held R (length zs) b o γ)) ∷ ‵ (flft κ q) ∷ ‵ (flft κ₁ q₁) ∷ ‵ (flft κ₂ q₂) ∷ ‵ N ∷ ‵ I ∷ []) ∵
       suffices ! _ (ends-at 𝓤 H A f.ended stayed (f.clauses 𝓤 H A mem run) W (((κ, (κ₁, (κ₂, tt))), (q, (q₁, (q₂, tt))), tt, a, vals), tt) vunit tt (zs, (tt, (tt, (tt, tt)))) (l, (tt, (tt, (tt, tt))))) $ says ! e $
       nothing ! $ move ! (5 ∷ 0 ∷ []) $ join ! $ move ! (4 ∷ 0 ∷ []) $ join ! $ move ! (3 ∷ 0 ∷ []) $ join ! $ frame ! $
-      -- [obs; the borrow; input; ids]
+      -- [obs; the borrow; roots; numbers]
       fjoin ! $ pureI ! (at-slice R (x zs) (s ∷ [])) (tt, (tt, tt)) (ap (λ (m : ℕ). sliceVal (b, o) m ∷ []) (sym l), subst (Room R) (sym l) room) $ fjoin ! $
-      nothing ! $ owned ! F.the-row (Is F.the-row) (LL.makes F.the-type F′.the-plain 𝓤 H A) p _ gp $ fjoin ! $ move ! (3 ∷ 0 ∷ []) $ fjoin ! $ move ! (2 ∷ 0 ∷ []) $ fjoin ! $
+      nothing ! $ owned ! usize (Is usize) (uint-makes 𝓤 H A W w64) n _ (refl, n-fits) $ fjoin ! $ move ! (3 ∷ 0 ∷ []) $ fjoin ! $ move ! (2 ∷ 0 ∷ []) $ fjoin ! $
       move ! (1 ∷ 0 ∷ []) $ fjoin ! $ feqI ! (List Val) (vunit ∷ []) (vunit ∷ []) refl $ move ! (1 ∷ 0 ∷ []) $ done !
 
-  -- ---- the call of `answer_at`
+  -- ---- the call of `flat_answer`
   abbrev Arg′ : Type 0
-  Arg′ = RefT (List ℕ) × (RefT (List ℕ) × (Opening × (ℕ × Unit {0})))
+  Arg′ = RefT (List ℕ) × (RefT (List ℕ) × (ℕ × (ℕ × Unit {0})))
 
   abbrev a′ : ℕ → Arg′
-  a′ i = (input, (ids, (p, (i, tt))))
+  a′ i = (roots, (numbers, (n, (i, tt))))
 
   abbrev to : ℕ → G 𝓤 H A mem run .Ghost
-  to i = (((κ₁, (κ₂, tt)), (q₁, (q₂, tt)), tt, a′ i, (s₁ ∷ [], (s₂ ∷ [], (opening-mach p ∷ [], (vint w64 i ∷ [], tt))))), tt)
+  to i = (((κ₁, (κ₂, tt)), (q₁, (q₂, tt)), tt, a′ i, (s₁ ∷ [], (s₂ ∷ [], (vint w64 n ∷ [], (vint w64 i ∷ [], tt))))), tt)
 
   asks : (i : ℕ) → i < 2 ^ 64 → ent 𝓤 (⋆ 𝓤 H A (‵ (flft κ₁ q₁) ∷ ‵ (flft κ₂ q₂) ∷ ‵ N ∷ ‵ I ∷ [])) (G 𝓤 H A mem run .pre (to i))
   asks i i-fits =
       qed W (‵ (flft κ₁ q₁) ∷ ‵ (flft κ₂ q₂) ∷ ‵ N ∷ ‵ I ∷ []) ∵ nothing ! $ move ! (2 ∷ 0 ∷ []) $ join ! $ move ! (1 ∷ 0 ∷ []) $ join ! $
-      nothing ! $ owned ! usize (Is usize) (uint-makes 𝓤 H A W w64) i _ (refl, i-fits) $ fjoin ! $ owned ! F.the-row (Is F.the-row) (LL.makes F.the-type F′.the-plain 𝓤 H A) p _ gp $ fjoin ! $
+      nothing ! $ owned ! usize (Is usize) (uint-makes 𝓤 H A W w64) i _ (refl, i-fits) $ fjoin ! $ owned ! usize (Is usize) (uint-makes 𝓤 H A W w64) n _ (refl, n-fits) $ fjoin ! $
       move ! (3 ∷ 0 ∷ []) $ fjoin ! $ move ! (2 ∷ 0 ∷ []) $ fjoin ! $ move ! (1 ∷ 0 ∷ []) $ join ! $ nothing ! $ move ! (1 ∷ 0 ∷ []) $ done !
 
   -- ---- the loop
@@ -188,7 +183,7 @@ module _ {M : Type 1} (𝓤 : URA M) (H : Heap 𝓤) (A : Atoms 𝓤) (W : Given
   Nearer-wf : WellFounded Nearer
   Nearer-wf = InvImage·wf (λ (i : Upto). len - i .0) (Nat·lt-wfRel .wf)
 
-  module _ (𝓣 : Tables 𝓤 H) (known : Triple 𝓤 (𝓣 .C #page·answer-at) (G 𝓤 H A mem run)) (l₀ l₁ l₂ l₃ l₄ l₅ l₆ l₇ l₈ l₉ : ℕ) where
+  module _ (𝓣 : Tables 𝓤 H) (known : Triple 𝓤 (𝓣 .C #page·flat-answer) (G 𝓤 H A mem run)) (l₀ l₁ l₂ l₃ l₄ l₅ l₆ l₇ l₈ l₉ : ℕ) where
     abbrev C : Calls 𝓤 H
     C = 𝓣 .C
 
@@ -207,7 +202,7 @@ module _ {M : Type 1} (𝓤 : URA M) (H : Heap 𝓤) (A : Atoms 𝓤) (W : Given
     abbrev At : Upto → List (Item 𝓤)
     At i = ‵ (row R fullShare (L (i .0)) b o) ∷ ‵ (fobor κ q (Held R len b o γ)) ∷ ‵ (fobs γ (codedHoleys R .code (heres R ys))) ∷ ‵ (fauth γ (codedHoleys R .code (heres R ys)))
         ∷ ‵ (flft κ₁ q₁) ∷ ‵ (flft κ₂ q₂) ∷ ‵ N ∷ ‵ I
-        ∷ empty 9 l₉ (empty 8 l₈ (empty 7 l₇ (empty 6 l₆ (holds 5 l₅ (vint w64 (i .0)) (holds 4 l₄ (opening-mach p) (holds 3 l₃ s₂ (holds 2 l₂ s₁ (holds 1 l₁ s (empty 0 l₀ [])))))))))
+        ∷ empty 9 l₉ (empty 8 l₈ (empty 7 l₇ (empty 6 l₆ (holds 5 l₅ (vint w64 (i .0)) (holds 4 l₄ (vint w64 n) (holds 3 l₃ s₂ (holds 2 l₂ s₁ (holds 1 l₁ s (empty 0 l₀ [])))))))))
 
     -- a turn's postcondition: it ends nearer to the end, or the loop is left and the rest of the body runs
     abbrev Turned : Upto → Out → SProp 𝓤
@@ -216,16 +211,16 @@ module _ {M : Type 1} (𝓤 : URA M) (H : Heap 𝓤) (A : Atoms 𝓤) (W : Given
     turns : (i : Upto) → Sq W (At i) (runs C Λ En parts.turn-1 (anyQ (Turned i)))
     unfolding afterTurn
     turns i =
-        -- [the row; the open borrow; obs; auth; two tokens; input; ids; _9; …; _8; …; _7; …; _6; …; _5; …; _4; …; _3; …; _2; …; _1; …; _0; …]
+        -- [the row; the open borrow; obs; auth; two tokens; roots; numbers; _9; …; _8; …; _7; …; _6; …; _5; …; _4; …; _3; …; _2; …; _1; …; _0; …]
         assigns ! (of-opd ! (load ! (from ! (fld ! refl (stop !))) (look-in ! 24 (sub ! 1 refl (whole !))))) (from ! (stop !)) (init ! 14 refl (tt, record { fits = room .0 })) $
         assigns ! (bin ! (load ! (from ! (stop !)) (look ! 16 refl)) (load ! (from ! (stop !)) (look ! 14 refl)) tt) (from ! (stop !)) (init ! 12 refl (tt, tt)) $
         first ! $ branches ! (load ! (from ! (stop !)) (look ! 12 refl))
         (λ less. skips ! $ exec ! C Λ En (after (after (after parts.turn-1))) (anyQ (Turned i)) $
         -- the call: what a `&` owns is had twice
-        move ! (6 ∷ []) $ use1 W (‵ N ⊛ ‵ N) (shr-slice-copy 𝓤 H A W (named 1) κ₁ u8 .twice input (s₁ ∷ [])) $ split ! $
-        move ! (8 ∷ []) $ use1 W (‵ I ⊛ ‵ I) (shr-slice-copy 𝓤 H A W (named 2) κ₂ u8 .twice ids (s₂ ∷ [])) $ split ! $
+        move ! (6 ∷ []) $ use1 W (‵ N ⊛ ‵ N) (shr-slice-copy 𝓤 H A W (named 1) κ₁ u8 .twice roots (s₁ ∷ [])) $ split ! $
+        move ! (8 ∷ []) $ use1 W (‵ I ⊛ ‵ I) (shr-slice-copy 𝓤 H A W (named 2) κ₂ u64 .twice numbers (s₂ ∷ [])) $ split ! $
         move ! (8 ∷ 9 ∷ 2 ∷ 0 ∷ []) $ cut (‵ (flft κ₁ q₁) ∷ ‵ (flft κ₂ q₂) ∷ ‵ N ∷ ‵ I ∷ []) (raw (G 𝓤 H A mem run .pre (to (i .0))) ∷ []) _ (asks (i .0) (fits i)) $
-        -- [what the call asks; ids; input; the row; the open borrow; obs; auth; _9; …]
+        -- [what the call asks; numbers; roots; the row; the open borrow; obs; auth; _9; …]
         calls-at ! (fmOf 𝓤 H (W .laws) 𝓣) (G 𝓤 H A mem run) known (to (i .0)) (and-then ! (load ! (from ! (stop !)) (look ! 21 refl)) (and-then ! (load ! (from ! (stop !)) (look ! 19 refl)) (and-then ! (load ! (from ! (stop !)) (look ! 17 refl)) (and-then ! (load ! (from ! (stop !)) (look ! 15 refl)) (no-more !))))) (λ w.
         use1 W (later (some (λ (r : Answer). ((‵ (flft κ₁ q₁) ⊛ ‵ (flft κ₂ q₂) ⊛ ‵ ftrue) ⊛ ‵ (R .own r (w ∷ []))) ⊛ raw (ensured 𝓤 H A g.ended (g.clauses 𝓤 H A mem run) (κ₁, (κ₂, tt)) (a′ (i .0)) tt r)))) (id⊢ 𝓤 _) $ await ! tt $ pick ! (λ r. split ! $
         move ! (1 ∷ []) $ use1 W (some (λ (zs : Unit {0} × (Unit {0} × (Unit {0} × (Unit {0} × Unit {0})))). ‵ (lasts g.ended (κ₁, (κ₂, tt)) (a′ (i .0)) zs) ⊛ raw (fact 𝓤 (r ≡ rec (i .0))))) (id⊢ 𝓤 _) $ pick ! (λ zs. split ! $ drop ! $
@@ -246,7 +241,7 @@ module _ {M : Type 1} (𝓤 : URA M) (H : Heap 𝓤) (A : Atoms 𝓤) (W : Given
         forget ! 8 refl $ forget ! 10 refl $ forget ! 12 refl $ forget ! 14 refl $ again ! Nearer At i (next less) (nearer less))))))))
         (λ over. jumps ! $ exec ! C Λ En parts.t-3 (atRet En Post) $
         closes-slice ! tt R ys (L (i .0)) (upTo-length rec ys (i .0) (i .1)) b o $
-        -- [obs; the borrow; three tokens; input; ids; _9; …; _8; …; _7; …; _6; …; _5; …; _4; …; _3; …; _2; …; _1; …; _0; …]
+        -- [obs; the borrow; three tokens; roots; numbers; _9; …; _8; …; _7; …; _6; …; _5; …; _4; …; _3; …; _2; …; _1; …; _0; …]
         assigns ! (of-opd ! (unit-lit !)) (from ! (stop !)) (init ! 25 refl (tt, tt)) $
         returns ! (look ! 25 refl) $ forget ! 11 refl $ forget ! 13 refl $ forget ! 15 refl $ forget ! 17 refl $ forget ! 19 refl $ forget ! 21 refl $ forget ! 23 refl $ forget ! 25 refl $
         move ! (25 ∷ 26 ∷ []) $ free1 ! $ move ! (23 ∷ 24 ∷ []) $ free1 ! $ move ! (21 ∷ 22 ∷ []) $ free1 ! $ move ! (19 ∷ 20 ∷ []) $ free1 ! $ move ! (17 ∷ 18 ∷ []) $ free1 ! $
@@ -271,14 +266,14 @@ module _ {M : Type 1} (𝓤 : URA M) (H : Heap 𝓤) (A : Atoms 𝓤) (W : Given
         made : (r : Answer) (w : Val) → Is R r (w ∷ []) → Is R r (mach r ∷ [])
         made r w is = subst (Is R r) (LL.tells T.the-type T′.the-laws r (w ∷ []) is) is
 
-  walk : (𝓣 : Tables 𝓤 H) → Triple 𝓤 (𝓣 .C #page·answer-at) (G 𝓤 H A mem run) → length (input .now) < 2 ^ 64 → length (ids .now) < 2 ^ 64
-      → ent 𝓤 (onEntry 𝓤 H A f.signature (κ, (κ₁, (κ₂, tt))) (q, (q₁, (q₂, tt))) a vals) (WpFn 𝓤 H (𝓣 .C) (𝓣 .Λ) code.function (s ∷ s₁ ∷ s₂ ∷ opening-mach p ∷ []) Post)
-  walk 𝓣 known input-fits ids-fits =
-      qed W ((‵ (flft κ q) ⊛ ‵ (flft κ₁ q₁) ⊛ ‵ (flft κ₂ q₂) ⊛ ‵ ftrue) ∷ ‵ (owns (MutSlice (named 0) κ R ∷ ShrSlice (named 1) κ₁ u8 ∷ ShrSlice (named 2) κ₂ u8 ∷ F.the-row ∷ []) a vals) ∷ []) ∵
-      enter ! (𝓣 .C) (𝓣 .Λ) code.function (s ∷ s₁ ∷ s₂ ∷ opening-mach p ∷ []) _ $
+  walk : (𝓣 : Tables 𝓤 H) → Triple 𝓤 (𝓣 .C #page·flat-answer) (G 𝓤 H A mem run) → length (roots .now) < 2 ^ 64 → length (numbers .now) < 2 ^ 64
+      → ent 𝓤 (onEntry 𝓤 H A f.signature (κ, (κ₁, (κ₂, tt))) (q, (q₁, (q₂, tt))) a vals) (WpFn 𝓤 H (𝓣 .C) (𝓣 .Λ) code.function (s ∷ s₁ ∷ s₂ ∷ vint w64 n ∷ []) Post)
+  walk 𝓣 known roots-fits numbers-fits =
+      qed W ((‵ (flft κ q) ⊛ ‵ (flft κ₁ q₁) ⊛ ‵ (flft κ₂ q₂) ⊛ ‵ ftrue) ∷ ‵ (owns (MutSlice (named 0) κ R ∷ ShrSlice (named 1) κ₁ u8 ∷ ShrSlice (named 2) κ₂ u64 ∷ usize ∷ []) a vals) ∷ []) ∵
+      enter ! (𝓣 .C) (𝓣 .Λ) code.function (s ∷ s₁ ∷ s₂ ∷ vint w64 n ∷ []) _ $
       alloc1 ! (λ l₀. alloc1 ! (λ l₁. alloc1 ! (λ l₂. alloc1 ! (λ l₃. alloc1 ! (λ l₄. alloc1 ! (λ l₅. alloc1 ! (λ l₆. alloc1 ! (λ l₇. alloc1 ! (λ l₈. alloc1 ! (λ l₉. alloc0 ! $ params1 ! $
-      pass1 ! (init ! 16 refl (tt, (tt, (record { fits = room .0 }, tt)))) $ pass1 ! (init ! 14 refl (tt, (tt, (record { fits = input-fits }, tt)))) $ pass1 ! (init ! 12 refl (tt, (tt, (record { fits = ids-fits }, tt)))) $
-      pass1 ! (init ! 10 refl (LL.lawful F.the-type F′.the-laws 𝓤 H A W .typed p _ gp .0)) $ pass0 ! $
+      pass1 ! (init ! 16 refl (tt, (tt, (record { fits = room .0 }, tt)))) $ pass1 ! (init ! 14 refl (tt, (tt, (record { fits = roots-fits }, tt)))) $ pass1 ! (init ! 12 refl (tt, (tt, (record { fits = numbers-fits }, tt)))) $
+      pass1 ! (init ! 10 refl (tt, record { fits = n-fits })) $ pass0 ! $
       assigns ! (of-opd ! (lit ! tt)) (from ! (stop !)) (init ! 8 refl (tt, record { fits = lit< tt })) $
       -- the row's borrow is opened
       move ! (21 ∷ 20 ∷ []) $ fsplit ! $ fsplit ! $ drop ! $ fsplit ! $ move ! (3 ∷ []) $ split ! $ move ! (2 ∷ 3 ∷ 0 ∷ []) $ opens-slice ! tt R ys b o $ rewrite ! 0 (λ (l : List Answer). ‵ (row R fullShare l b o)) (upTo-none rec ys) refl $
@@ -288,16 +283,16 @@ module _ {M : Type 1} (𝓤 : URA M) (H : Heap 𝓤) (A : Atoms 𝓤) (W : Given
       first ! $ blocks ! $ loops ! 𝓣 Nearer Nearer-wf (At 𝓣 known l₀ l₁ l₂ l₃ l₄ l₅ l₆ l₇ l₈ l₉) (turns 𝓣 known l₀ l₁ l₂ l₃ l₄ l₅ l₆ l₇ l₈ l₉) (0, zero-le)))))))))))
 
 module _ {M : Type 1} (𝓤 : URA M) (H : Heap 𝓤) (A : Atoms 𝓤) (W : Given 𝓤 H A) (mem : Memory → SProp 𝓤) (run : Routine → Fun 𝓤) where
-  fill-walks : (𝓣 : Tables 𝓤 H) → Triple 𝓤 (𝓣 .C #page·answer-at) (G 𝓤 H A mem run) → Walks 𝓤 H A f.ended stayed (WpFn 𝓤 H (𝓣 .C) (𝓣 .Λ) code.function) (f.clauses 𝓤 H A mem run)
+  fill-walks : (𝓣 : Tables 𝓤 H) → Triple 𝓤 (𝓣 .C #page·flat-answer) (G 𝓤 H A mem run) → Walks 𝓤 H A f.ended stayed (WpFn 𝓤 H (𝓣 .C) (𝓣 .Λ) code.function) (f.clauses 𝓤 H A mem run)
   fill-walks 𝓣 known = walked 𝓤 H A f.ended stayed (f.clauses 𝓤 H A mem run) (WpFn 𝓤 H (𝓣 .C) (𝓣 .Λ) code.function)
-      (λ κs. (slice-vals, (slice-vals, (slice-vals, (LL.vals F.the-type F′.the-laws, tt))))) (λ κs. (mut-slice-tells (named 0) (κs .0) R, (shr-slice-tells (named 1) (κs .1 .0) u8, (shr-slice-tells (named 2) (κs .1 .1 .0) u8, (LL.tells F.the-type F′.the-laws, tt)))))
+      (λ κs. (slice-vals, (slice-vals, (slice-vals, (uint-vals w64, tt))))) (λ κs. (mut-slice-tells (named 0) (κs .0) R, (shr-slice-tells (named 1) (κs .1 .0) u8, (shr-slice-tells (named 2) (κs .1 .1 .0) u64, (uint-tells w64, tt)))))
       (λ κs qs bounds a g are. via 𝓤 _ (fst∗ 𝓤 _ (emp 𝓤))
-      (walk 𝓤 H A W mem run (κs .0) (κs .1 .0) (κs .1 .1 .0) (qs .0) (qs .1 .0) (qs .1 .1 .0) (a .0 .ptr .0) (a .0 .ptr .1) (a .0 .name) (a .0 .now) (a .1 .0) (a .1 .1 .0) (a .1 .1 .1 .0) (are .0 .0 .1) (are .1 .1 .1 .0) 𝓣 known (are .1 .0 .0 .1 .0) (are .1 .1 .0 .0 .1 .0)))
+      (walk 𝓤 H A W mem run (κs .0) (κs .1 .0) (κs .1 .1 .0) (qs .0) (qs .1 .0) (qs .1 .1 .0) (a .0 .ptr .0) (a .0 .ptr .1) (a .0 .name) (a .0 .now) (a .1 .0) (a .1 .1 .0) (a .1 .1 .1 .0) (are .0 .0 .1) (are .1 .1 .1 .0 .1) 𝓣 known (are .1 .0 .0 .1 .0) (are .1 .1 .0 .0 .1 .0)))
 
   goes : AllGo 𝓤 H A W 3 (f.signature .params) (f.ended .kept) stayed
-  goes = (goes-slice 𝓤 H A W 3 0 tt (plain (λ _. R)), (goes-none-slice 𝓤 H A W 3 (1 ∷ []) tt (plain (λ _. u8)) yes, (goes-none-slice 𝓤 H A W 3 (2 ∷ []) tt (plain (λ _. u8)) yes, (goes-none 𝓤 H A W 3 (λ _. F.the-row) yes (λ κs x f. refl), tt))))
+  goes = (goes-slice 𝓤 H A W 3 0 tt (plain (λ _. R)), (goes-none-slice 𝓤 H A W 3 (1 ∷ []) tt (plain (λ _. u8)) yes, (goes-none-slice 𝓤 H A W 3 (2 ∷ []) tt (plain (λ _. u64)) yes, (goes-none 𝓤 H A W 3 (λ _. usize) yes (λ κs x f. refl), tt))))
 
-fill-meets : {M : Type 1} (𝓤 : URA M) (H : Heap 𝓤) (A : Atoms 𝓤) → Given 𝓤 H A → (mem : Memory → SProp 𝓤) (run : Routine → Fun 𝓤) (𝓣 : Tables 𝓤 H) → Triple 𝓤 (𝓣 .C #page·answer-at) (G 𝓤 H A mem run)
+fill-meets : {M : Type 1} (𝓤 : URA M) (H : Heap 𝓤) (A : Atoms 𝓤) → Given 𝓤 H A → (mem : Memory → SProp 𝓤) (run : Routine → Fun 𝓤) (𝓣 : Tables 𝓤 H) → Triple 𝓤 (𝓣 .C #page·flat-answer) (G 𝓤 H A mem run)
     → Meets 𝓤 H A f.signature (WpFn 𝓤 H (𝓣 .C) (𝓣 .Λ) code.function) (f.spec 𝓤 H A mem run)
 fill-meets 𝓤 H A W mem run 𝓣 known = walk-meets 𝓤 H A f.ended stayed W (goes 𝓤 H A W mem run) (f.clauses 𝓤 H A mem run) (WpFn 𝓤 H (𝓣 .C) (𝓣 .Λ) code.function) (WpFn-mono 𝓤 H (W .laws) 𝓣 code.function) (fill-walks 𝓤 H A W mem run 𝓣 known)
 
@@ -307,4 +302,4 @@ fill-spec 𝓤 H 𝓜 𝓖 𝓡 =
     entered 𝓤 H (tripleOf 𝓤 H (𝓖 .A) f.signature (f.spec 𝓤 H (𝓖 .A) (𝓜 .mem) (𝓡 .run)))
     (tables 𝓤 H 𝓜 𝓡 code.env .C) (tables 𝓤 H 𝓜 𝓡 code.env .Λ) #page·fill code.function (code.unfolded 𝓤 H 𝓜 𝓡)
     (fill-meets 𝓤 H (𝓖 .A) (givenOf 𝓤 H 𝓜 𝓖) (𝓜 .mem) (𝓡 .run) (tablesOf 𝓤 H 𝓜 (tables 𝓤 H 𝓜 𝓡 code.env))
-    (cited 𝓤 H (G 𝓤 H (𝓖 .A) (𝓜 .mem) (𝓡 .run)) 𝓜 𝓡 code.env #page·answer-at g-def.routine code.calls-page·answer-at (g-thm.met 𝓤 H 𝓜 𝓖 𝓡)))
+    (cited 𝓤 H (G 𝓤 H (𝓖 .A) (𝓜 .mem) (𝓡 .run)) 𝓜 𝓡 code.env #page·flat-answer g-def.routine code.calls-page·flat-answer (g-thm.met 𝓤 H 𝓜 𝓖 𝓡)))

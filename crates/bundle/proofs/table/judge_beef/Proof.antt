@@ -52,7 +52,7 @@ use Rattle.bundle.specs.Table.{flatRecord}
 use Rattle.bundle.specs.Bundle.{Judgement, judgeBeef, verdictOf, tableOf}
 use Rattle.bundle.specs.BundleAnswer.{judgementOf, countOf}
 use Rattle.bundle.specs.BundleAnswerLaws.{flat-told}
-use Rattle.bundle.proofs.Local.{big-lit, row-out, row-in, row-lend, row-back, row-share, share-back}
+use Rattle.spv.proofs.Local.{big-lit, row-out, row-in, row-lend, row-back, row-share, share-back}
 use Rattle.bundle.proofs.table.Record as T
 use Rattle.bundle.proofs.judging.Verdict as E
 use Rattle.bundle.proofs.judging.Verdict.Laws as E′

@@ -1,0 +1,102 @@
+use native.Mathlib.Omega.{arith}
+use lib.ListN.{length-set}
+use Rattle.page.specs.FlatLaws.{put-row}
+use borrow.Author.Needs.{needs}
+use Rattle.page.proofs.put_answer.Statement.{statement}
+use Rattle.page.proofs.put_answer.Tie as tie
+
+mul-at : tie.Need-mul-at
+mul-at c = search needs
+
+mul-numbers : tie.Need-mul-numbers
+mul-numbers c = search needs
+
+slice-write-numbers : tie.Need-slice-write-numbers
+slice-write-numbers c = search needs
+
+add-numbers : tie.Need-add-numbers
+add-numbers c = search needs
+
+mul-numbers-2 : tie.Need-mul-numbers-2
+mul-numbers-2 c = search needs
+
+slice-write-numbers-2 : tie.Need-slice-write-numbers-2
+slice-write-numbers-2 c = simp length-set (omega arith)
+
+add-numbers-2 : tie.Need-add-numbers-2
+add-numbers-2 c = search needs
+
+mul-numbers-3 : tie.Need-mul-numbers-3
+mul-numbers-3 c = search needs
+
+slice-write-numbers-3 : tie.Need-slice-write-numbers-3
+slice-write-numbers-3 c = simp length-set (omega arith)
+
+add-numbers-3 : tie.Need-add-numbers-3
+add-numbers-3 c = search needs
+
+mul-numbers-4 : tie.Need-mul-numbers-4
+mul-numbers-4 c = search needs
+
+slice-write-numbers-4 : tie.Need-slice-write-numbers-4
+slice-write-numbers-4 c = simp length-set (omega arith)
+
+add-numbers-4 : tie.Need-add-numbers-4
+add-numbers-4 c = search needs
+
+mul-numbers-5 : tie.Need-mul-numbers-5
+mul-numbers-5 c = search needs
+
+slice-write-numbers-5 : tie.Need-slice-write-numbers-5
+slice-write-numbers-5 c = simp length-set (omega arith)
+
+add-numbers-5 : tie.Need-add-numbers-5
+add-numbers-5 c = search needs
+
+mul-numbers-6 : tie.Need-mul-numbers-6
+mul-numbers-6 c = search needs
+
+slice-write-numbers-6 : tie.Need-slice-write-numbers-6
+slice-write-numbers-6 c = simp length-set (omega arith)
+
+set-hash-requires : tie.Need-set-hash-requires
+set-hash-requires c κs = search needs
+
+same-length : tie.Need-same-length
+same-length c = search needs
+
+same-length-2 : tie.Need-same-length-2
+same-length-2 c = search needs
+
+returns : tie.Need-returns
+returns c =
+    let d = c .before .before .before .before .before .before .before in
+    let a = d .args in
+    rw (c .before .before .set-hash .ensures) (put-row (a .roots .now) (a .numbers .now) (a .row) (a .answer) (d .pre .0) (d .pre .1 .0) (d .pre .1 .1) (search needs))
+
+pub put-answer-spec : {M : Type 1} → statement M
+put-answer-spec =
+    tie.close
+    (tie.spec
+    mul-at
+    mul-numbers
+    slice-write-numbers
+    add-numbers
+    mul-numbers-2
+    slice-write-numbers-2
+    add-numbers-2
+    mul-numbers-3
+    slice-write-numbers-3
+    add-numbers-3
+    mul-numbers-4
+    slice-write-numbers-4
+    add-numbers-4
+    mul-numbers-5
+    slice-write-numbers-5
+    add-numbers-5
+    mul-numbers-6
+    slice-write-numbers-6
+    set-hash-requires
+    same-length
+    same-length-2
+    returns)
