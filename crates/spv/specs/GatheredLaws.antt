@@ -15,6 +15,7 @@ use Rattle.lanes.specs.Lanes as L
 use Rattle.spv.specs.Result.{Result, accepted, refused, carrying, follow}
 use Rattle.spv.specs.Climb.{Siblings, ascend, endOf}
 use Rattle.spv.specs.Compare.{Target, bound, targetOf, hits, read, settle, Proof, proofOf, proveBy, prove}
+use Rattle.spv.specs.Shapes.{climbedOf}
 use Rattle.spv.specs.Clients.{wantedBy, afterKind, afterLeaf}
 use Rattle.spv.specs.ClientsShapes.{wantSays}
 use Rattle.spv.specs.ClientsLaws.{follow-same}
@@ -23,6 +24,7 @@ use Rattle.spv.specs.Together.{riser, riseUnder, riseFrom, cameTo}
 use Rattle.spv.specs.Gathered.{wantedTo, pending, leads, ended, gatherSays, putLane, noneGathered, gathering}
 use Rattle.spv.specs.declared.rejection.Rejection.{Rejection}
 use Rattle.spv.specs.declared.prove.Status.the-variants.{Read, Unread}
+use Rattle.spv.specs.declared.climb.Climbed.{Climbed}
 use Rattle.spv.specs.declared.climb.End.{End}
 use Rattle.spv.specs.declared.climb.End.the-variants.{Root, Stop}
 use Rattle.spv.specs.declared.together.Rising.{Rising}
@@ -49,6 +51,25 @@ module _ (w : Target) (x : Rising) where
 
     pub wanted-miss : hits w (x .hash) ≡ false → refused (carrying ROOTS-DIFFER 0) ≡ wantedTo w (cameTo x)
     wanted-miss f = sym (wanted-root e false f)
+
+-- a climb that is made alone
+module _ (σ : Siblings) (h : ℕ) (x : Rising) where
+  pub alone-stop : (why : Rejection) → x .end ≡ Stop why → cameTo x ≡ riseFrom σ 0 h x
+  unfolding cameTo riseFrom riseUnder
+  alone-stop why e =
+      ap (riseUnder (accepted (x .hash))) e ∙ sym (ap (riseUnder (endOf (x .hash) (ascend σ 0 h (x .position) (x .hash)))) e)
+
+  pub alone-root : (r : Climbed) → x .end ≡ Root → r ≡ climbedOf (endOf (x .hash) (ascend σ 0 h (x .position) (x .hash)))
+      → cameTo (record { end = r .end; position = 0; hash = r .root }) ≡ riseFrom σ 0 h x
+  unfolding cameTo riseFrom riseUnder climbedOf
+  alone-root r e f =
+      ap (λ (c : Climbed). riseUnder (accepted (c .root)) (c .end)) f
+      ∙ go (endOf (x .hash) (ascend σ 0 h (x .position) (x .hash)))
+      ∙ sym (ap (riseUnder (endOf (x .hash) (ascend σ 0 h (x .position) (x .hash)))) e)
+    where
+      go : (v : Result (List ℕ)) → riseUnder (accepted (climbedOf v .root)) (climbedOf v .end) ≡ v
+      go (accepted c) = refl
+      go (refused why) = refl
 
 -- what a client leaf leaves wanted, by the end of its climb
 module _ (σ : Siblings) (h : ℕ) (s : List ℕ) (w : Target) (offset p : ℕ) where
@@ -127,6 +148,13 @@ put-last (suc (suc (suc l))) y x e f g = refl
 -- ---- what is gathered
 
 module _ (σ : Siblings) (h : ℕ) where
+  -- the only one
+  pub one-says : (g : Gathered) (y : Rising) → g .count ≡ 1 → cameTo y ≡ riseFrom σ 0 h (g .climbs .a) → follow (wantSays (g .want)) (λ w. wantedTo w (cameTo y)) ≡ gatherSays σ h g
+  unfolding gatherSays pending riser L.pick
+  one-says g y e f =
+      follow-same (wantSays (g .want)) (λ w. wantedTo w (cameTo y)) (λ w. wantedTo w (riseFrom σ 0 h (g .climbs .a))) (λ w. ap (wantedTo w) f)
+      ∙ sym (ap (λ (n : ℕ). pending (leads σ h (g .climbs)) n (wantSays (g .want))) e)
+
   pub none-says : (g : Gathered) (want : Want) → g ≡ noneGathered want → gatherSays σ h g ≡ wantSays want
   unfolding gatherSays noneGathered pending
   none-says g want e = ap (gatherSays σ h) e

@@ -1,5 +1,6 @@
 // A BUMP's all-clients check (01, "The climb").
 use super::climb::End;
+use super::climb::climb;
 use super::kept::SLOTS;
 use super::kept::SLOTS_ROOM;
 use super::prove::Status;
@@ -22,6 +23,7 @@ use format::Path;
 use format::refusal::NOT_LISTED;
 use format::refusal::ROOTS_DIFFER;
 ghost use mathlib.Core.Path.{_≡_};
+ghost use mathlib.Core.Bool.{true};
 ghost use Prim.Native.Nat.{_<_};
 ghost use Rattle.format.specs.Refusals.{NOT-LISTED};
 ghost use Rattle.spv.specs.Result.{accepted, refused, carrying, follow};
@@ -30,7 +32,7 @@ ghost use Rattle.spv.specs.Siblings.{pathSiblings};
 ghost use Rattle.spv.specs.Clients.{afterLeaf, closing, bumpClients};
 ghost use Rattle.spv.specs.ClientsShapes.{clientsIn, clientsOfLevel, wantSays, refusedCheck, checkedOf};
 ghost use Rattle.spv.specs.Kept.{Keeps};
-ghost use Rattle.spv.specs.Together.{riser, cameTo};
+ghost use Rattle.spv.specs.Together.{riser, riseFrom, cameTo};
 ghost use Rattle.spv.specs.Gathered.{wantedTo, pending, ended, gatherSays, putLane, noneGathered, gathering};
 
 pub enum Agreement {
@@ -204,6 +206,38 @@ fn gather(g: Gathered, y: Rising) -> Gathered
     }
 }
 
+// One climb to its end. No sibling is kept for another, which takes less time.
+fn climb_one(s: &[u8], path: Path, x: Rising) -> Rising
+    ensures { λ r. ⌜ cameTo r ≡ riseFrom (pathSiblings (now (s .entry)) path) 0 (path .layers) x ⌝ }
+{
+    let start = x.end;
+    let id = x.hash;
+    match start {
+        End::Stop(_) => x,
+        End::Root => {
+            let climbed = climb(s, path, x.position, id);
+            let end = climbed.end;
+            let hash = climbed.root;
+            Rising {
+                end,
+                position: 0,
+                hash,
+            }
+        }
+    }
+}
+
+// A client is gathered that is the only one so far.
+fn is_only(g: Gathered) -> bool
+    ensures { λ r. ⌜ (r ≡ true → g .count ≡ 1) ⌝ }
+{
+    let want = g.want;
+    if want.bound {
+        return false;
+    }
+    g.count == 1
+}
+
 // All gathered clients climbed.
 fn settle_gathered(s: &[u8], path: Path, g: Gathered, marks: &mut [u64], hashes: &mut [u8]) -> Want
     requires { ⌜ Keeps (now s) path (now marks) (now hashes) ⌝ }
@@ -211,6 +245,10 @@ fn settle_gathered(s: &[u8], path: Path, g: Gathered, marks: &mut [u64], hashes:
 {
     let want = g.want;
     let climbs = g.climbs;
+    if is_only(g) {
+        let first = climbs.a;
+        return want_after(want, climb_one(s, path, first));
+    }
     let ends = climb_together(s, path, climbs, marks, hashes);
     want_ends(want, g.count, ends)
 }
@@ -332,13 +370,31 @@ fn check_each(
     close_check(settle_gathered(s, path, g, marks, hashes))
 }
 
-// The same, with no sibling worked out yet.
-fn check_leaves(s: &[u8], path: Path, c: Cursor, count: u64) -> Checked
+// The same with no sibling worked out yet.
+fn check_many(s: &[u8], path: Path, c: Cursor, count: u64) -> Checked
     ensures { λ r. ⌜ r ≡ checkedOf (clientsIn (pathSiblings (now (s .entry)) path) (path .layers) (now (s .entry)) count (c .at) any) ⌝ }
 {
     let mut marks = [0u64; SLOTS];
     let mut hashes = [0u8; SLOTS_ROOM];
     check_each(s, path, c, count, &mut marks, &mut hashes)
+}
+
+// The same of two leaves at most: their climbs are too few for keeping siblings, and the slots too few to be used.
+fn check_few(s: &[u8], path: Path, c: Cursor, count: u64) -> Checked
+    ensures { λ r. ⌜ r ≡ checkedOf (clientsIn (pathSiblings (now (s .entry)) path) (path .layers) (now (s .entry)) count (c .at) any) ⌝ }
+{
+    let mut marks = [0u64; 1];
+    let mut hashes = [0u8; 32];
+    check_each(s, path, c, count, &mut marks, &mut hashes)
+}
+
+fn check_leaves(s: &[u8], path: Path, c: Cursor, count: u64) -> Checked
+    ensures { λ r. ⌜ r ≡ checkedOf (clientsIn (pathSiblings (now (s .entry)) path) (path .layers) (now (s .entry)) count (c .at) any) ⌝ }
+{
+    if count <= 2 {
+        return check_few(s, path, c, count);
+    }
+    check_many(s, path, c, count)
 }
 
 fn check_level(s: &[u8], path: Path, c: Cursor) -> Checked
