@@ -5,7 +5,6 @@ use mathlib.Core.Bool.{Bool, true, false}
 use mathlib.Core.List.{List}
 use native.Mathlib.Omega.{arith}
 use native.Mathlib.Numerals.{add-one}
-use Rattle.format.specs.declared.level.Kind.{Kind}
 use Rattle.format.specs.declared.level.Kind.the-variants.{Plain, Copy, Client}
 use Rattle.format.specs.declared.level.Leaf.{Leaf}
 use Rattle.format.specs.Parse.{pick}
@@ -14,16 +13,16 @@ use Rattle.format.specs.Search.{hashAt}
 use Rattle.lanes.specs.Lanes as L
 use Rattle.spv.specs.Result.{Result, accepted, refused, carrying, follow}
 use Rattle.spv.specs.Climb.{Siblings, ascend, endOf}
-use Rattle.spv.specs.Compare.{Target, bound, targetOf, hits, read, settle, Proof, proofOf, proveBy, prove}
+use Rattle.spv.specs.Compare.{Target, bound, hits, read, settle, proofOf, proveBy}
 use Rattle.spv.specs.Shapes.{climbedOf}
 use Rattle.spv.specs.Clients.{wantedBy, afterKind, afterLeaf}
 use Rattle.spv.specs.ClientsShapes.{wantSays}
 use Rattle.spv.specs.ClientsLaws.{follow-same}
 use Rattle.spv.specs.ClientsShapesLaws.{told-halts}
 use Rattle.spv.specs.Together.{riser, riseUnder, riseFrom, cameTo}
-use Rattle.spv.specs.Gathered.{wantedTo, pending, leads, ended, gatherSays, putLane, noneGathered, gathering}
+use Rattle.spv.specs.Gathered.{wantedTo, pending, leads, gatherSays, putLane, noneGathered, gathering}
 use Rattle.spv.specs.declared.rejection.Rejection.{Rejection}
-use Rattle.spv.specs.declared.prove.Status.the-variants.{Read, Unread}
+use Rattle.spv.specs.declared.prove.Status.the-variants.{Unread}
 use Rattle.spv.specs.declared.climb.Climbed.{Climbed}
 use Rattle.spv.specs.declared.climb.End.{End}
 use Rattle.spv.specs.declared.climb.End.the-variants.{Root, Stop}

@@ -1,11 +1,10 @@
-use Prim.Native.Nat.{_+_, _-_, _≤_}
+use Prim.Native.Nat.{_-_, _≤_}
 use mathlib.Core.Path.{_≡_, refl, ap, _∙_}
 use borrow.Author.Needs.{needs}
 use native.Mathlib.Omega.{arith}
-use Rattle.spv.specs.Result.{follow}
 use Rattle.spv.specs.Together.{cameTo}
 use Rattle.spv.specs.ClientsShapes.{wantSays}
-use Rattle.spv.specs.Gathered.{wantedTo, pending, ended}
+use Rattle.spv.specs.Gathered.{pending, ended}
 use Rattle.spv.specs.GatheredLaws.{pending-on}
 use Rattle.spv.proofs.clients.want_ends.Statement.{statement}
 use Rattle.spv.proofs.clients.want_ends.Tie as tie
