@@ -206,7 +206,7 @@ fn gather(g: Gathered, y: Rising) -> Gathered
     }
 }
 
-// One climb to its end. No sibling is kept for another, which takes less time.
+// One climb to its end. With no other climb after it there is nothing to keep siblings for.
 fn climb_one(s: &[u8], path: Path, x: Rising) -> Rising
     ensures { λ r. ⌜ cameTo r ≡ riseFrom (pathSiblings (now (s .entry)) path) 0 (path .layers) x ⌝ }
 {
@@ -253,7 +253,7 @@ fn settle_gathered(s: &[u8], path: Path, g: Gathered, marks: &mut [u64], hashes:
     want_ends(want, g.count, ends)
 }
 
-// A client climbs from its own offset, as soon as four are gathered.
+// One client more: four are climbed as soon as they are gathered.
 fn take_client(
     s: &[u8],
     path: Path,
@@ -272,7 +272,7 @@ fn take_client(
     none_gathered(settle_gathered(s, path, more, marks, hashes))
 }
 
-// Leaves that are no clients change nothing.
+// A client climbs from its own offset; other leaves change nothing.
 fn take_leaf(
     s: &[u8],
     path: Path,
@@ -379,7 +379,7 @@ fn check_many(s: &[u8], path: Path, c: Cursor, count: u64) -> Checked
     check_each(s, path, c, count, &mut marks, &mut hashes)
 }
 
-// The same of two leaves at most: their climbs are too few for keeping siblings, and the slots too few to be used.
+// The same of two leaves at most: slots would take longer to make than they can save, and so few are never used.
 fn check_few(s: &[u8], path: Path, c: Cursor, count: u64) -> Checked
     ensures { λ r. ⌜ r ≡ checkedOf (clientsIn (pathSiblings (now (s .entry)) path) (path .layers) (now (s .entry)) count (c .at) any) ⌝ }
 {
