@@ -13,7 +13,7 @@ use Rattle.format.specs.Search.{hashAt}
 use Rattle.lanes.specs.Lanes as L
 use Rattle.spv.specs.Result.{Result, accepted, refused, carrying, follow}
 use Rattle.spv.specs.Climb.{Siblings, ascend, endOf}
-use Rattle.spv.specs.Compare.{Target, bound, hits, read, settle, proofOf, proveBy}
+use Rattle.spv.specs.Compare.{Target, bound, hits, settle, proofOf, proveBy}
 use Rattle.spv.specs.Shapes.{climbedOf}
 use Rattle.spv.specs.Clients.{wantedBy, afterKind, afterLeaf}
 use Rattle.spv.specs.ClientsShapes.{wantSays}
@@ -147,13 +147,6 @@ put-last (suc (suc (suc l))) y x e f g = refl
 -- ---- what is gathered
 
 module _ (σ : Siblings) (h : ℕ) where
-  -- the only one
-  pub one-says : (g : Gathered) (y : Rising) → g .count ≡ 1 → cameTo y ≡ riseFrom σ 0 h (g .climbs .a) → follow (wantSays (g .want)) (λ w. wantedTo w (cameTo y)) ≡ gatherSays σ h g
-  unfolding gatherSays pending riser L.pick
-  one-says g y e f =
-      follow-same (wantSays (g .want)) (λ w. wantedTo w (cameTo y)) (λ w. wantedTo w (riseFrom σ 0 h (g .climbs .a))) (λ w. ap (wantedTo w) f)
-      ∙ sym (ap (λ (n : ℕ). pending (leads σ h (g .climbs)) n (wantSays (g .want))) e)
-
   pub none-says : (g : Gathered) (want : Want) → g ≡ noneGathered want → gatherSays σ h g ≡ wantSays want
   unfolding gatherSays noneGathered pending
   none-says g want e = ap (gatherSays σ h) e
@@ -185,6 +178,17 @@ module _ (σ : Siblings) (h : ℕ) (s : List ℕ) (leaf : Leaf) where
       ∙ follow-same (gatherSays σ h g) (λ w. wantedTo w (riseFrom σ 0 h (record { end = Root; position = leaf .offset; hash = hash }))) (λ w. afterLeaf σ h s w leaf)
       (λ w.
       ap (λ (c : List ℕ). wantedTo w (riseFrom σ 0 h (record { end = Root; position = leaf .offset; hash = c }))) f
+      ∙ client-wanted σ h s w (leaf .offset) p
+      ∙ sym (ap (afterKind σ h s w (leaf .offset)) e))
+
+  -- a client that climbs at once
+  pub alone-client : (x : Result Target) (y : Rising) (p : ℕ) (hash : List ℕ) → leaf .kind ≡ Client p → hash ≡ hashAt s p
+      → cameTo y ≡ riseFrom σ 0 h (record { end = Root; position = leaf .offset; hash = hash }) → follow x (λ w. wantedTo w (cameTo y)) ≡ follow x (λ w. afterLeaf σ h s w leaf)
+  alone-client x y p hash e f g =
+      follow-same x (λ w. wantedTo w (cameTo y)) (λ w. afterLeaf σ h s w leaf)
+      (λ w.
+      ap (wantedTo w) g
+      ∙ ap (λ (c : List ℕ). wantedTo w (riseFrom σ 0 h (record { end = Root; position = leaf .offset; hash = c }))) f
       ∙ client-wanted σ h s w (leaf .offset) p
       ∙ sym (ap (afterKind σ h s w (leaf .offset)) e))
 

@@ -23,7 +23,6 @@ use format::Path;
 use format::refusal::NOT_LISTED;
 use format::refusal::ROOTS_DIFFER;
 ghost use mathlib.Core.Path.{_≡_};
-ghost use mathlib.Core.Bool.{true};
 ghost use Prim.Native.Nat.{_<_};
 ghost use Rattle.format.specs.Refusals.{NOT-LISTED};
 ghost use Rattle.spv.specs.Result.{accepted, refused, carrying, follow};
@@ -206,38 +205,6 @@ fn gather(g: Gathered, y: Rising) -> Gathered
     }
 }
 
-// One climb to its end. With no other climb after it there is nothing to keep siblings for.
-fn climb_one(s: &[u8], path: Path, x: Rising) -> Rising
-    ensures { λ r. ⌜ cameTo r ≡ riseFrom (pathSiblings (now (s .entry)) path) 0 (path .layers) x ⌝ }
-{
-    let start = x.end;
-    let id = x.hash;
-    match start {
-        End::Stop(_) => x,
-        End::Root => {
-            let climbed = climb(s, path, x.position, id);
-            let end = climbed.end;
-            let hash = climbed.root;
-            Rising {
-                end,
-                position: 0,
-                hash,
-            }
-        }
-    }
-}
-
-// A client is gathered that is the only one so far.
-fn is_only(g: Gathered) -> bool
-    ensures { λ r. ⌜ (r ≡ true → g .count ≡ 1) ⌝ }
-{
-    let want = g.want;
-    if want.bound {
-        return false;
-    }
-    g.count == 1
-}
-
 // All gathered clients climbed.
 fn settle_gathered(s: &[u8], path: Path, g: Gathered, marks: &mut [u64], hashes: &mut [u8]) -> Want
     requires { ⌜ Keeps (now s) path (now marks) (now hashes) ⌝ }
@@ -245,10 +212,6 @@ fn settle_gathered(s: &[u8], path: Path, g: Gathered, marks: &mut [u64], hashes:
 {
     let want = g.want;
     let climbs = g.climbs;
-    if is_only(g) {
-        let first = climbs.a;
-        return want_after(want, climb_one(s, path, first));
-    }
     let ends = climb_together(s, path, climbs, marks, hashes);
     want_ends(want, g.count, ends)
 }
@@ -379,13 +342,64 @@ fn check_many(s: &[u8], path: Path, c: Cursor, count: u64) -> Checked
     check_each(s, path, c, count, &mut marks, &mut hashes)
 }
 
-// The same of two leaves at most: slots would take longer to make than they can save, and so few are never used.
+// A climb to its end that keeps nothing.
+fn climb_one(s: &[u8], path: Path, x: Rising) -> Rising
+    ensures { λ r. ⌜ cameTo r ≡ riseFrom (pathSiblings (now (s .entry)) path) 0 (path .layers) x ⌝ }
+{
+    let start = x.end;
+    let id = x.hash;
+    match start {
+        End::Stop(_) => x,
+        End::Root => {
+            let climbed = climb(s, path, x.position, id);
+            let end = climbed.end;
+            let hash = climbed.root;
+            Rising {
+                end,
+                position: 0,
+                hash,
+            }
+        }
+    }
+}
+
+// A client climbs at once.
+fn take_alone(s: &[u8], path: Path, want: Want, leaf: Leaf) -> Want
+    ensures { λ r. ⌜ wantSays r ≡ follow (wantSays want) (λ w. afterLeaf (pathSiblings (now (s .entry)) path) (path .layers) (now (s .entry)) w leaf) ⌝ }
+{
+    let kind = leaf.kind;
+    match kind {
+        Kind::Client(place) => {
+            let hash = format::hash_at(s, place);
+            let y = Rising {
+                end: End::Root,
+                position: leaf.offset,
+                hash,
+            };
+            want_after(want, climb_one(s, path, y))
+        }
+        Kind::Plain(_) => want,
+        Kind::Copy => want,
+    }
+}
+
+// The same of so few leaves that gathering would take longer than it saves.
 fn check_few(s: &[u8], path: Path, c: Cursor, count: u64) -> Checked
     ensures { λ r. ⌜ r ≡ checkedOf (clientsIn (pathSiblings (now (s .entry)) path) (path .layers) (now (s .entry)) count (c .at) any) ⌝ }
 {
-    let mut marks = [0u64; 1];
-    let mut hashes = [0u8; 32];
-    check_each(s, path, c, count, &mut marks, &mut hashes)
+    let mut want = unbound();
+    let mut next = c;
+    let mut i: u64 = 0;
+    while i < count {
+        let field = format::leaf_at(s, next, Layout::Bump);
+        let LeafAnswer::Value(leaf, after) = field else {
+            return close_short(want);
+        };
+        want = take_alone(s, path, want, leaf);
+        next = after;
+        i += 1;
+    }
+    close_check(want)
 }
 
 fn check_leaves(s: &[u8], path: Path, c: Cursor, count: u64) -> Checked

@@ -1,22 +1,82 @@
+use Prim.Native.Nat.{_-_}
+use mathlib.Core.Path.{ap, _∙_}
 use borrow.Author.Needs.{needs}
-use native.Mathlib.Omega.{arith}
-use Rattle.spv.specs.KeptLaws.{keeps-none}
+use Rattle.format.specs.ParseLaws.{answered}
+use Rattle.format.specs.LevelAnswer.{leafOf}
+use Rattle.spv.specs.Siblings.{pathSiblings}
+use Rattle.spv.specs.ClientsShapes.{wantSays, checkedOf}
+use Rattle.spv.proofs.Turns.{Checking, checking-start, checking-end, checking-short, checking-goes}
 use Rattle.spv.proofs.clients.check_few.Statement.{statement}
 use Rattle.spv.proofs.clients.check_few.Tie as tie
 
-slice-aggregate-check-each : tie.Need-slice-aggregate-check-each
-slice-aggregate-check-each c = search needs
+abbrev Inv-loop : tie.InvT-loop
+Inv-loop s path count want₀ next₀ i₀ want next i = Checking (pathSiblings s path) (path .layers) s count (next₀ .at) i (next .at) (wantSays want)
 
-slice-aggregate-check-each-2 : tie.Need-slice-aggregate-check-each-2
-slice-aggregate-check-each-2 c = search needs
+abbrev μ-loop : tie.MeasureT-loop
+μ-loop s path count want₀ next₀ i₀ want next i = count - i
 
-check-each-requires : tie.Need-check-each-requires
-check-each-requires c κs = keeps-none _ _ 1 32 (omega arith)
+unbound-requires : tie.Need-unbound-requires Inv-loop μ-loop
+unbound-requires c κs = search needs
 
-returns : tie.Need-returns
-returns c = search needs
+loop-holds : tie.Need-loop-holds Inv-loop μ-loop
+loop-holds c = checking-start _ _ _ _ _ _ (c .unbound .ensures)
+
+leaf-at-requires : tie.Need-leaf-at-requires Inv-loop μ-loop
+leaf-at-requires c κs = search needs
+
+enum-known-field : tie.Need-enum-known-field Inv-loop μ-loop
+enum-known-field c = search needs
+
+enum-told : tie.Need-enum-told Inv-loop μ-loop
+enum-told c = search needs
+
+close-short-requires : tie.Need-close-short-requires Inv-loop μ-loop
+close-short-requires c κs = search needs
+
+returns : tie.Need-returns Inv-loop μ-loop
+returns c =
+    let l = c .before .before .before .before .before .loop in
+    c .close-short .ensures
+    ∙ ap checkedOf (checking-short _ _ _ _ _ (l .i) (l .next .at) _ (l .inv) (c .before .before .before .before .loop-test .taken) _ _ (answered leafOf (c .before .before .before .leaf-at .ensures) (c .before .enum-told .given .1)))
+
+take-alone-requires : tie.Need-take-alone-requires Inv-loop μ-loop
+take-alone-requires c κs = search needs
+
+add-i : tie.Need-add-i Inv-loop μ-loop
+add-i c = search needs
+
+loop-less : tie.Need-loop-less Inv-loop μ-loop
+loop-less c = search needs
+
+loop-again : tie.Need-loop-again Inv-loop μ-loop
+loop-again c =
+    let l = c .before .before .before .before .before .before .loop in
+    checking-goes _ _ _ _ _ (l .i) (l .next .at) _ (l .inv) (c .before .before .before .before .before .loop-test .taken) _ _ (answered leafOf (c .before .before .before .before .leaf-at .ensures) (c .before .before .field .given .1)) _ (c .take-alone .ensures)
+
+close-check-requires : tie.Need-close-check-requires Inv-loop μ-loop
+close-check-requires c κs = search needs
+
+returns-2 : tie.Need-returns-2 Inv-loop μ-loop
+returns-2 c =
+    let l = c .before .before .loop in
+    c .close-check .ensures ∙ ap checkedOf (checking-end _ _ _ _ _ (l .i) (l .next .at) _ (l .inv) (c .before .loop-test .left))
 
 pub check-few-spec : {M : Type 1} → statement M
 check-few-spec =
     tie.close
-    (tie.spec slice-aggregate-check-each slice-aggregate-check-each-2 check-each-requires returns)
+    (tie.spec
+    Inv-loop
+    μ-loop
+    unbound-requires
+    loop-holds
+    leaf-at-requires
+    enum-known-field
+    enum-told
+    close-short-requires
+    returns
+    take-alone-requires
+    add-i
+    loop-less
+    loop-again
+    close-check-requires
+    returns-2)
