@@ -37,11 +37,10 @@
  * and so does the room past what is written.
  *
  * Stack. As built by the kit a call needs at most
- *   - 64 KiB  barrowtide_judge_beef
+ *   - 64 KiB  barrowtide_judge_beef, barrowtide_prove_page
  *   - 48 KiB  barrowtide_write_bump
- *   - 40 KiB  barrowtide_prove_bump, barrowtide_prove_cmp, barrowtide_prove_page,
- *             barrowtide_check_clients, barrowtide_compare, barrowtide_shorter,
- *             barrowtide_bump_to_tsc
+ *   - 40 KiB  barrowtide_prove_bump, barrowtide_prove_cmp, barrowtide_check_clients,
+ *             barrowtide_compare, barrowtide_shorter, barrowtide_bump_to_tsc
  *   - 24 KiB  barrowtide_differences
  *   - 16 KiB  barrowtide_read_bump, barrowtide_read_cmp, barrowtide_read_beef
  *   -  8 KiB  barrowtide_prove_tsc, barrowtide_tsc_to_bump
@@ -54,15 +53,18 @@
  * joins than its path has layers and leaves: fewer than 64 + n / 2 by a path of n bytes, and fewer
  * than 57,406 by any. Each node that is asked for is searched for among the leaves of its level;
  * where offsets rise this takes about as long as the joins, and else up to seven times as long.
- * Nothing is kept from one climb to the next: a page climbs once for each id, all clients once for
- * each client leaf, and a bundle once for each transaction that names a BUMP. Turning a proof into
- * the other form climbs once, and takes hardly longer than proving by it. The worst inputs known,
- * offsets in no order, on a machine where a join takes half a microsecond:
+ * A page climbs once for each id, all clients once for each client leaf, both four climbs at a
+ * time, and a bundle once for each transaction that names a BUMP. A page and all clients keep, from
+ * climb to climb, the sibling worked out last in each layer at an even and at an odd position, so
+ * ids and clients in the order of their offsets work out each once; a bundle keeps none. Turning a
+ * proof into the other form climbs once, and takes hardly longer than proving by it. The worst
+ * inputs known, offsets in no order, on a machine where a join takes half a microsecond:
  *   - one climb, by a BUMP of 480 KB that is mostly copies: 54,188 joins, 0.2 s;
- *   - a page of 256 ids by such a BUMP, or a bundle of 500 KB with 256 transactions in it: 14
- *     million joins, 45 s;
- *   - all clients of a BUMP of 2.3 MB: 55 million joins, 190 s; of one of 36 KB that has 1,024
- *     clients and nothing else: 1 million joins, 2 s.
+ *   - a bundle of 500 KB with 256 transactions in such a BUMP: 14 million joins, 45 s;
+ *   - a page or all clients of ids that take turns in two parts of such a tree, so that no sibling
+ *     is kept long enough: up to 7 and 28 million joins, 23 and 95 s, reckoned from one climb;
+ *   - all clients of a BUMP of 36 KB that has 1,024 clients and nothing else: 0.5 s in no order, and
+ *     16 ms where offsets rise.
  * A caller who has less time bounds the bytes that it takes, or the transactions that name a BUMP.
  */
 #ifndef BARROWTIDE_H
