@@ -1,4 +1,7 @@
 // A page of ids against one BUMP: the answers that asking for each id alone would give, from one reading (paper 02, Item 2).
+mod few;
+
+use few::prove_few;
 use format::BumpAnswer;
 use format::Form;
 use format::LAYERS;
@@ -315,8 +318,8 @@ fn fill(row: &mut [Answer], roots: &[u8], numbers: &[u64], count: usize)
     }
 }
 
-// Prove a page of lent ids, end to end, by a BUMP. The row gets an answer for each id, past the ids it is zero, and on a refusal it is zero throughout.
-pub fn prove_page(s: &[u8], ids: &[u8], row: &mut [Answer]) -> Paged
+// A page by the flat form, which lets climbs be made four at a time.
+fn prove_many(s: &[u8], ids: &[u8], row: &mut [Answer]) -> Paged
     ensures { λ r. ⌜ (r ≡ pagedOf (page (now (s .entry)) (now (ids .entry)) (length (now (row .entry))))) × (now (row .exit) ≡ rowOf (page (now (s .entry)) (now (ids .entry)) (length (now (row .entry)))) (length (now (row .entry)))) ⌝ }
 {
     let mut roots = [0u8; ROOTS_ROOM];
@@ -324,4 +327,15 @@ pub fn prove_page(s: &[u8], ids: &[u8], row: &mut [Answer]) -> Paged
     let paged = answer_flat(s, ids, row.len(), &mut roots, &mut numbers);
     fill(row, &roots, &numbers, count_of(paged));
     paged
+}
+
+// Prove a page of lent ids, end to end, by a BUMP. The row gets an answer for each id, past the ids it is zero, and on a refusal it is zero throughout.
+pub fn prove_page(s: &[u8], ids: &[u8], row: &mut [Answer]) -> Paged
+    ensures { λ r. ⌜ (r ≡ pagedOf (page (now (s .entry)) (now (ids .entry)) (length (now (row .entry))))) × (now (row .exit) ≡ rowOf (page (now (s .entry)) (now (ids .entry)) (length (now (row .entry)))) (length (now (row .entry)))) ⌝ }
+{
+    // One or two ids: the flat form would cost more than it saves.
+    if ids.len() < 96 {
+        return prove_few(s, ids, row);
+    }
+    prove_many(s, ids, row)
 }
