@@ -29,10 +29,10 @@ ghost use Rattle.page.specs.Flat.{ROOTS-ROOM, NUMBERS-ROOM, flatAnswer, 
 // The most ids that a page has.
 pub const MAX_PAGE: usize = 256;
 
-// The room of the flat form: a root and six numbers for each id.
+// The room of the flat form: a root and five numbers for each id.
 const ROOTS_ROOM: usize = 8192;
 
-const NUMBERS_ROOM: usize = 1536;
+const NUMBERS_ROOM: usize = 1280;
 
 // What asking for one id answers: the number of its refusal, what that carries and the layer and sibling that it names, or the id's position, the number
 // of layers and the root. What is not said is zero. Any bytes are a value of each field, so that a caller may lend any memory, and no byte lies between the fields.
@@ -200,21 +200,20 @@ fn answers_from(
     }
 }
 
-// A row's answer in flat form: six numbers, and its root.
+// A row's answer in flat form: five numbers, and its root. What it carries is left out, which is 0 for every id.
 fn put_answer(numbers: &mut [u64], roots: &mut [u8], row: usize, answer: Answer)
     requires { ⌜ row < MAX-PAGE ⌝ }
     requires { ⌜ NUMBERS-ROOM ≤ length (now numbers) ⌝ }
     requires { ⌜ ROOTS-ROOM ≤ length (now roots) ⌝ }
     ensures { λ _. ⌜ Puts (now (roots .entry)) (now (numbers .entry)) row answer (now (roots .exit)) (now (numbers .exit)) ⌝ }
 {
-    let at = 6 * row;
+    let at = 5 * row;
     let root = answer.root;
     numbers[at] = answer.refusal;
-    numbers[at + 1] = answer.carried;
-    numbers[at + 2] = answer.layer;
-    numbers[at + 3] = answer.sibling;
-    numbers[at + 4] = answer.position;
-    numbers[at + 5] = answer.layers;
+    numbers[at + 1] = answer.layer;
+    numbers[at + 2] = answer.sibling;
+    numbers[at + 3] = answer.position;
+    numbers[at + 4] = answer.layers;
     format::set_hash(roots, row, root);
 }
 
@@ -281,18 +280,18 @@ fn flat_answer(roots: &[u8], numbers: &[u64], count: usize, row: usize) -> Answe
     if count <= row {
         return blank();
     }
-    if numbers.len() / 6 <= row {
+    if numbers.len() / 5 <= row {
         return blank();
     }
-    let at = 6 * row;
+    let at = 5 * row;
     let root = format::hash_at(roots, 32 * row);
     Answer {
         refusal: numbers[at],
-        carried: numbers[at + 1],
-        layer: numbers[at + 2],
-        sibling: numbers[at + 3],
-        position: numbers[at + 4],
-        layers: numbers[at + 5],
+        carried: 0,
+        layer: numbers[at + 1],
+        sibling: numbers[at + 2],
+        position: numbers[at + 3],
+        layers: numbers[at + 4],
         root,
     }
 }

@@ -70,18 +70,9 @@ mul-t24 c = search needs
 shared-slice-read-t26 : tie.Need-shared-slice-read-t26
 shared-slice-read-t26 c = search needs
 
-add-t27 : tie.Need-add-t27
-add-t27 c = search needs
-
-mul-t28 : tie.Need-mul-t28
-mul-t28 c = search needs
-
-shared-slice-read-t30 : tie.Need-shared-slice-read-t30
-shared-slice-read-t30 c = search needs
-
 returns-3 : tie.Need-returns-3
 unfolding flatAnswer flatAt
-returns-3 c = rw (c .before .before .before .before .before .before .hash-at .ensures) (simp (lt-ltb _ _ (c .before .before .before .before .before .before .before .before .if1 .left), lt-ltb _ _ (c .before .before .before .before .before .before .before .if2 .left)))
+returns-3 c = rw (c .before .before .before .before .before .hash-at .ensures) (simp (lt-ltb _ _ (c .before .before .before .before .before .before .before .if1 .left), lt-ltb _ _ (c .before .before .before .before .before .before .if2 .left)))
 
 pub flat-answer-spec : {M : Type 1} → statement M
 flat-answer-spec =
@@ -108,7 +99,4 @@ flat-answer-spec =
     add-t23
     mul-t24
     shared-slice-read-t26
-    add-t27
-    mul-t28
-    shared-slice-read-t30
     returns-3)

@@ -50,15 +50,6 @@ mul-numbers-5 c = search needs
 slice-write-numbers-5 : tie.Need-slice-write-numbers-5
 slice-write-numbers-5 c = simp length-set (omega arith)
 
-add-numbers-5 : tie.Need-add-numbers-5
-add-numbers-5 c = search needs
-
-mul-numbers-6 : tie.Need-mul-numbers-6
-mul-numbers-6 c = search needs
-
-slice-write-numbers-6 : tie.Need-slice-write-numbers-6
-slice-write-numbers-6 c = simp length-set (omega arith)
-
 set-hash-requires : tie.Need-set-hash-requires
 set-hash-requires c κs = search needs
 
@@ -93,9 +84,6 @@ put-answer-spec =
     add-numbers-4
     mul-numbers-5
     slice-write-numbers-5
-    add-numbers-5
-    mul-numbers-6
-    slice-write-numbers-6
     set-hash-requires
     same-length
     same-length-2
