@@ -38,9 +38,9 @@
  *
  * Stack. As built by the kit a call needs at most
  *   - 64 KiB  barrowtide_judge_beef, barrowtide_prove_page
- *   - 48 KiB  barrowtide_write_bump
- *   - 40 KiB  barrowtide_prove_bump, barrowtide_prove_cmp, barrowtide_check_clients,
- *             barrowtide_compare, barrowtide_shorter, barrowtide_bump_to_tsc
+ *   - 48 KiB  barrowtide_write_bump, barrowtide_check_clients
+ *   - 40 KiB  barrowtide_prove_bump, barrowtide_prove_cmp, barrowtide_compare, barrowtide_shorter,
+ *             barrowtide_bump_to_tsc
  *   - 24 KiB  barrowtide_differences
  *   - 16 KiB  barrowtide_read_bump, barrowtide_read_cmp, barrowtide_read_beef
  *   -  8 KiB  barrowtide_prove_tsc, barrowtide_tsc_to_bump
@@ -63,8 +63,8 @@
  *   - a bundle of 500 KB with 256 transactions in such a BUMP: 14 million joins, 45 s;
  *   - a page or all clients of ids that take turns in two parts of such a tree, so that no sibling
  *     is kept long enough: up to 7 and 28 million joins, 23 and 95 s, reckoned from one climb;
- *   - all clients of a BUMP of 36 KB that has 1,024 clients and nothing else: 0.5 s in no order, and
- *     16 ms where offsets rise.
+ *   - all clients of a BUMP of 36 KB that has 1,024 clients and nothing else: 0.5 s in no order,
+ *     and 18 ms where offsets rise.
  * A caller who has less time bounds the bytes that it takes, or the transactions that name a BUMP.
  */
 #ifndef BARROWTIDE_H
