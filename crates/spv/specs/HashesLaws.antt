@@ -3,7 +3,6 @@ use Prim.Native.Nat.{ℕ, zero, suc, _+_, _-_, _*_, _/_, _<_, _≤_}
 use mathlib.Core.Path.{_≡_, refl, sym, ap, _∙_}
 use mathlib.Core.Bool.{Bool, true, false}
 use mathlib.Core.List.{List, [], _∷_, _++_}
-use native.Mathlib.Nat.{sub-zero, mul-zero}
 use native.Mathlib.Omega.{arith}
 use lib.ListN.{length, take, drop, getD, length-append, length-take, length-drop}
 use lib.Seq.{ext-getD, getD-take, getD-drop, drop-drop, take-append-le, drop-append-le, take-all, length-take-le}
@@ -44,10 +43,6 @@ unfoldable pub searching : List ℕ → List ℕ → ℕ → Bool
 searching x l i = among x (hashes (length l / 32 - i) (drop (32 * i) l))
 
 module _ (x l : List ℕ) where
-  pub search-start : searching x l 0 ≡ among x (hashesOf l)
-  unfolding searching hashesOf
-  search-start = simp (sub-zero, mul-zero)
-
   module _ (i : ℕ) where
     pub search-here : i < length l / 32 → same (take 32 (drop (32 * i) l)) x ≡ true → searching x l i ≡ true
     unfolding searching among hashes

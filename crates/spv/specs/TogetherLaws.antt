@@ -170,11 +170,6 @@ module _ (σ : Siblings) (h : ℕ) (x : Rising) where
 
 -- ---- what a climb proves
 
--- a climb from the start is the climb that proving makes
-pub rise-whole : (σ : Siblings) (h i : ℕ) (id : List ℕ) → riseFrom σ 0 h (record { end = Root; position = i; hash = id }) ≡ endOf id (ascend σ 0 h i id)
-unfolding riseFrom riseUnder
-rise-whole σ h i id = refl
-
 start-proves : (σ : Siblings) (h : ℕ) (id : List ℕ) (start : Start) → provedBy h (beginAt id start) (riseFrom σ 0 h (beginAt id start)) ≡ provedOf (prove (starting σ h id start))
 unfolding beginAt notBegun riseFrom riseUnder starting proveBy provedBy provedOf settle hits
 start-proves σ h id Nowhere = refl

@@ -405,7 +405,7 @@ fn check_few(s: &[u8], path: Path, c: Cursor, count: u64) -> Checked
 fn check_leaves(s: &[u8], path: Path, c: Cursor, count: u64) -> Checked
     ensures { λ r. ⌜ r ≡ checkedOf (clientsIn (pathSiblings (now (s .entry)) path) (path .layers) (now (s .entry)) count (c .at) any) ⌝ }
 {
-    if count <= 2 {
+    if count <= 4 {
         return check_few(s, path, c, count);
     }
     check_many(s, path, c, count)
