@@ -6,6 +6,9 @@
  *
  * Bytes. Ids, nodes and roots are 32 bytes in stored order; printed hex is the reverse.
  *
+ * Version. A header and an archive that are not of one version don't fit each other: structs and
+ * prototypes may be others. barrowtide_version() == BARROWTIDE_VERSION_NUMBER says that they are.
+ *
  * Answers. A call returns 0 if it accepts the input, and else the number of a refusal. What that
  * blames goes to *blame: the value that it carries, which is the place of a byte, counted from 0 at
  * the input's first, the number of a transaction, counted from 0, or 0; and for 14 and 15 the
@@ -56,13 +59,16 @@
  * A page climbs once for each id, all clients once for each client leaf, both four climbs at a
  * time, and a bundle once for each transaction that names a BUMP. A page and all clients keep, from
  * climb to climb, the sibling worked out last in each layer at an even and at an odd position, so
- * ids and clients in the order of their offsets work out each once; a bundle keeps none. Turning a
- * proof into the other form climbs once, and takes hardly longer than proving by it. The worst
- * inputs known, offsets in no order, on a machine where a join takes half a microsecond:
+ * ids and clients in the order of their offsets work out each once, but for one that can't be
+ * worked out, which is not kept; a bundle keeps none. Turning a proof into the other form climbs
+ * once, and takes hardly longer than proving by it. The worst inputs known, offsets in no order, on
+ * a machine where a join takes half a microsecond:
  *   - one climb, by a BUMP of 480 KB that is mostly copies: 54,188 joins, 0.2 s;
- *   - a bundle of 500 KB with 256 transactions in such a BUMP: 14 million joins, 45 s;
- *   - a page or all clients of ids that take turns in two parts of such a tree, so that no sibling
- *     is kept long enough: up to 7 and 28 million joins, 23 and 95 s, reckoned from one climb;
+ *   - a bundle of 522 KB with 256 transactions in such a BUMP: 14 million joins, 47.7 s;
+ *   - a page of 256 ids whose climbs all fail at the top sibling, each after trying to work it out:
+ *     49.8 s;
+ *   - all clients of a BUMP that has them in nested parts of the tree, so that no sibling is kept
+ *     long enough: 142 s;
  *   - all clients of a BUMP of 36 KB that has 1,024 clients and nothing else: 0.5 s in no order,
  *     and 18 ms where offsets rise.
  * A caller who has less time bounds the bytes that it takes, or the transactions that name a BUMP.
@@ -74,8 +80,10 @@
 #include <stdint.h>
 
 #define BARROWTIDE_VERSION_MAJOR 0
-#define BARROWTIDE_VERSION_MINOR 4
+#define BARROWTIDE_VERSION_MINOR 5
 #define BARROWTIDE_VERSION_PATCH 0
+#define BARROWTIDE_VERSION_NUMBER                                                                  \
+    (BARROWTIDE_VERSION_MAJOR * 65536U + BARROWTIDE_VERSION_MINOR * 256U + BARROWTIDE_VERSION_PATCH)
 
 /* ---- Sizes ---- */
 
@@ -162,6 +170,12 @@ static inline const char *barrowtide_refusal_name(uint32_t number)
     return number < sizeof names / sizeof names[0] ? names[number] : "UNKNOWN";
 }
 
+/* ---- The version ---- */
+
+/* The version of the archive: BARROWTIDE_VERSION_NUMBER, if this header is of the same. Ask before
+   the first call. */
+uint32_t barrowtide_version(void);
+
 /* ---- The hash ---- */
 
 /* The double SHA-256 of a message. Refused: 1. */
@@ -171,7 +185,8 @@ uint32_t barrowtide_sha256d(const uint8_t *data, size_t len, barrowtide_blame *b
 /* The parent of two nodes: the double SHA-256 of the left one's bytes, then the right one's. */
 void barrowtide_join(const uint8_t left[32], const uint8_t right[32], uint8_t parent[32]);
 
-/* ---- Reading. The input is one whole VarInt, path, transaction, proof or bundle. ---- */
+/* ---- Reading. The input is one whole path, transaction, proof or bundle, but after a VarInt more
+   may follow. ---- */
 
 /* The VarInt at the input's start, and how many bytes it takes; what follows is not looked at.
    Refused: 1, 2, 3. */
@@ -203,7 +218,11 @@ uint32_t barrowtide_read_tsc(const uint8_t *data, size_t len, barrowtide_blame *
 uint32_t barrowtide_read_beef(const uint8_t *data, size_t len, barrowtide_blame *blame,
                               uint64_t *bumps, uint64_t *transactions);
 
-/* ---- Proving. The input is read as above first, with the refusals of reading. ---- */
+/* ---- Proving. The input is read as above first, with the refusals of reading. A proof is worth as
+   much as its root is trusted. 15 rules out the twins that make a block look as if it held a
+   transaction twice; another forgery is not noticed yet: an inner node of the tree is accepted as
+   the id of a proof with fewer layers, and a transaction of 64 bytes, which has the form of a pair
+   of nodes, is read. ---- */
 
 /* Proves a lent id by a BUMP: its position in the block, the number of layers above it, and the
    Merkle root. The climb starts at the level-0 leaf that carries the id, of several at the least
@@ -221,7 +240,8 @@ uint32_t barrowtide_prove_cmp(const uint8_t *data, size_t len, const uint8_t id[
                               uint8_t root[32]);
 
 /* Proves a TSC proof's own id, the one written or its transaction's, and gives it, too. A header or
-   a root as target must hold the root. Refused after reading: 15, then 16. */
+   a root as target must hold the root; a block hash is compared with nothing, and a header's own
+   hash and work are not looked at. Refused after reading: 15, then 16. */
 uint32_t barrowtide_prove_tsc(const uint8_t *data, size_t len, barrowtide_blame *blame,
                               uint8_t id[32], uint64_t *position, uint64_t *layers,
                               uint8_t root[32]);
@@ -315,26 +335,53 @@ typedef struct {
     uint64_t position; /* its position in the block; 0 if not anchored */
 } barrowtide_record;
 
-/* Blames, records and answers have no padding. */
+/* Blames, records and answers have no padding, and each field its place. */
 #if defined(__cplusplus) && __cplusplus >= 201103L
-static_assert(sizeof(barrowtide_blame) == 24, "a blame takes 24 bytes");
-static_assert(sizeof(barrowtide_record) == 64, "a record takes 64 bytes");
-static_assert(sizeof(barrowtide_answer) == 80, "an answer takes 80 bytes");
+#define BARROWTIDE_TAKES(type, size) static_assert(sizeof(type) == size, #type " takes " #size)
+#define BARROWTIDE_AT(type, field, place)                                                          \
+    static_assert(offsetof(type, field) == place, #type " has " #field " at " #place)
 #elif defined(__STDC_VERSION__) && __STDC_VERSION__ >= 201112L
-_Static_assert(sizeof(barrowtide_blame) == 24, "a blame takes 24 bytes");
-_Static_assert(sizeof(barrowtide_record) == 64, "a record takes 64 bytes");
-_Static_assert(sizeof(barrowtide_answer) == 80, "an answer takes 80 bytes");
+#define BARROWTIDE_TAKES(type, size) _Static_assert(sizeof(type) == size, #type " takes " #size)
+#define BARROWTIDE_AT(type, field, place)                                                          \
+    _Static_assert(offsetof(type, field) == place, #type " has " #field " at " #place)
 #else
-typedef char barrowtide_blame_takes_24_bytes[sizeof(barrowtide_blame) == 24 ? 1 : -1];
-typedef char barrowtide_record_takes_64_bytes[sizeof(barrowtide_record) == 64 ? 1 : -1];
-typedef char barrowtide_answer_takes_80_bytes[sizeof(barrowtide_answer) == 80 ? 1 : -1];
+#define BARROWTIDE_TAKES(type, size) typedef char type##_takes_##size[sizeof(type) == size ? 1 : -1]
+#define BARROWTIDE_AT(type, field, place)                                                          \
+    typedef char type##_has_##field##_at_##place[offsetof(type, field) == place ? 1 : -1]
 #endif
+BARROWTIDE_TAKES(barrowtide_blame, 24);
+BARROWTIDE_AT(barrowtide_blame, carried, 0);
+BARROWTIDE_AT(barrowtide_blame, layer, 8);
+BARROWTIDE_AT(barrowtide_blame, sibling, 16);
+BARROWTIDE_TAKES(barrowtide_answer, 80);
+BARROWTIDE_AT(barrowtide_answer, refusal, 0);
+BARROWTIDE_AT(barrowtide_answer, carried, 8);
+BARROWTIDE_AT(barrowtide_answer, layer, 16);
+BARROWTIDE_AT(barrowtide_answer, sibling, 24);
+BARROWTIDE_AT(barrowtide_answer, position, 32);
+BARROWTIDE_AT(barrowtide_answer, layers, 40);
+BARROWTIDE_AT(barrowtide_answer, root, 48);
+BARROWTIDE_TAKES(barrowtide_record, 64);
+BARROWTIDE_AT(barrowtide_record, start, 0);
+BARROWTIDE_AT(barrowtide_record, length, 8);
+BARROWTIDE_AT(barrowtide_record, id, 16);
+BARROWTIDE_AT(barrowtide_record, bump, 48);
+BARROWTIDE_AT(barrowtide_record, anchored, 52);
+BARROWTIDE_AT(barrowtide_record, position, 56);
+#undef BARROWTIDE_TAKES
+#undef BARROWTIDE_AT
 
 /* Judges a BEEF bundle against trusted roots, which stand end to end in roots_len bytes, possibly
    none. Every transaction must climb in its BUMP to a trusted root, or have an earlier transaction
    of the bundle as parent of each input. The table has room for table_len records;
    BARROWTIDE_MAX_TRANSACTIONS are always enough. On acceptance *transactions is their number n, the
    first n records are filled and the others are zeroed; a refusal zeroes the whole table.
+   What acceptance does not say:
+   - Scripts and signatures are not run.
+   - Amounts, output numbers and double spends are not looked at.
+   - Until a block holds a transaction, what it spends can still be spent elsewhere.
+   - A BUMP's block height is the sender's word.
+   - Which transaction is the payment, and whom it pays, is not asked.
    Refused: 1; 21; 2 to 8, 10 to 12, 18 and 22 in the fields; 9; then transaction by transaction 19,
    and 13, 14 or 15, 17 if it names a BUMP, or else 20. */
 uint32_t barrowtide_judge_beef(const uint8_t *data, size_t len, const uint8_t *roots,

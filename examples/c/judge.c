@@ -114,6 +114,10 @@ static int judge(FILE *file, const uint8_t root[32])
 
 int main(int argc, char **argv)
 {
+    if (barrowtide_version() != BARROWTIDE_VERSION_NUMBER) {
+        fprintf(stderr, "header and libbarrowtide.a are of different versions\n");
+        return 2;
+    }
     uint8_t root[32];
     if (argc != 3 || !parse_root(argv[2], root)) {
         fprintf(stderr, "usage: judge BUNDLE ROOT\n");

@@ -52,17 +52,26 @@ impl Record {
 pub fn judge_beef(data: &[u8], roots: &[u8], table: &mut [Record]) -> Result<u64, Refusal> {
     let (mut blame, mut transactions) = (Blame::default(), 0);
     let number = ffi::judge_beef(data, roots, table, &mut blame, &mut transactions);
-    answer(number, blame, transactions)
+    answer(number, blame, transactions).map_err(Refusal::in_judging)
 }
 
 /// A bundle that was accepted.
 #[derive(Debug, Clone, PartialEq, Eq)]
 pub struct Verdict {
-    /// A record for each transaction, in the bundle's order; the last is the payment itself.
+    /// A record for each transaction, in the bundle's order. A sender puts the payment last, and
+    /// nothing checks that it does.
     pub records: Vec<Record>,
 }
 
 /// Judges a bundle against trusted roots, with a table of its own.
+///
+/// # What acceptance does not say
+///
+/// - Scripts and signatures are not run.
+/// - Amounts, output numbers and double spends are not looked at.
+/// - Until a block holds a transaction, what it spends can still be spent elsewhere.
+/// - A BUMP's block height is the sender's word.
+/// - Which transaction is the payment, and whom it pays, is not asked.
 ///
 /// ```
 /// use barrowtide::{hex, judge, Hash};

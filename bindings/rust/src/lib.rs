@@ -9,14 +9,23 @@
 //! - [`prove_bump`], [`prove_cmp`], [`prove_tsc`], [`check_clients`]: the root that a proof leads to
 //! - [`prove_page`], [`prove_page_into`]: the same for many ids of one BUMP
 //! - [`compare`]: two proofs under one root that disagree on the id hold two strings of one hash
-//! - [`judge`], [`judge_beef`]: does every payment of a BEEF bundle rest on a trusted root?
+//! - [`judge`], [`judge_beef`]: does every transaction of a BEEF bundle rest on a trusted root?
 //! - [`differences`], [`differences_into`], [`shorter`]: two BUMPs side by side
 //! - [`write_bump`], [`write_bump_into`]: the BUMP that proves some of a block's ids
 //! - [`tsc_to_bump`], [`bump_to_tsc`], and into lent room [`tsc_to_bump_into`],
 //!   [`bump_to_tsc_into`]: a TSC proof as a BUMP, and an id's climb in a BUMP as a TSC proof
+//! - [`version`]: is the library linked the one that this crate is for?
 //!
 //! Every call answers a value or a [`Refusal`] with 01's number and the place that it blames; if a
 //! sibling is missing or a twin, it says which.
+//!
+//! # What acceptance does not say
+//!
+//! - Scripts and signatures are not run.
+//! - Amounts, output numbers and double spends are not looked at.
+//! - Until a block holds a transaction, what it spends can still be spent elsewhere.
+//! - A BUMP's block height is the sender's word.
+//! - Which transaction is the payment, and whom it pays, is not asked.
 //!
 //! # Cost
 //!
@@ -27,10 +36,10 @@
 //! [`check_clients`] once for each client leaf, both four climbs at a time, and a bundle once for
 //! each transaction that names a BUMP. A page and [`check_clients`] keep, from climb to climb, the
 //! sibling worked out last in each layer at an even and at an odd position, so ids and clients in
-//! the order of their offsets work out each once; a bundle keeps none. Where a join takes half a
-//! microsecond, the worst inputs known take 0.2 s for one climb, 45 s for a bundle and, reckoned
-//! from one climb, 23 s for a page and 95 s for all clients. A caller who has less time bounds the
-//! bytes that it takes, or the transactions that name a BUMP.
+//! the order of their offsets work out each once, but for one that can't be worked out, which is
+//! not kept; a bundle keeps none. Where a join takes half a microsecond, the worst inputs known take
+//! 0.2 s for one climb, 47.7 s for a bundle, 49.8 s for a page and 142 s for all clients. A caller
+//! who has less time bounds the bytes that it takes, or the transactions that name a BUMP.
 //!
 //! # Byte order
 //!
@@ -56,6 +65,7 @@ mod refusal;
 mod transaction;
 mod tsc;
 mod varint;
+mod version;
 mod write;
 
 pub use beef::{read_beef, Beef};
@@ -71,8 +81,9 @@ pub use hash::{join, sha256d, Hash, ParseHashError, MAX_INPUT};
 pub use judge::{judge, judge_beef, Record, Verdict, MAX_TRANSACTIONS};
 pub use page::{prove_page, prove_page_into, Answer, MAX_PAGE};
 pub use prove::{check_clients, prove_bump, prove_cmp, prove_tsc, Proof};
-pub use refusal::{Reason, Refusal};
+pub use refusal::{Blames, Reason, Refusal};
 pub use transaction::{read_transaction, Transaction};
 pub use tsc::{read_tsc, Tsc};
 pub use varint::{read_varint, VarInt};
+pub use version::{version, Version, VERSION};
 pub use write::{write_bump, write_bump_into, MAX_IDS, WRITE_ROOM};

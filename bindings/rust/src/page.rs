@@ -65,7 +65,8 @@ impl Answer {
 pub fn prove_page_into(data: &[u8], ids: &[u8], row: &mut [Answer]) -> Result<(), Refusal> {
     let mut blame = Blame::default();
     let number = ffi::prove_page(data, ids, row, &mut blame);
-    answer(number, blame, ())
+    let whole = ids.len() % 32 == 0 && ids.len() <= 32 * MAX_PAGE;
+    answer(number, blame, ()).map_err(|refusal| if whole { refusal } else { refusal.of_caller() })
 }
 
 /// Asks one BUMP about a page of ids, up to [`MAX_PAGE`]; the answers are those that

@@ -5,6 +5,9 @@ use crate::refusal::{answer, Refusal};
 use crate::Hash;
 
 /// A proof that was accepted. It is worth as much as its root is trusted.
+///
+/// An inner node of the tree is accepted as the id of a proof with fewer layers: nothing shows that
+/// an id is a transaction's.
 #[derive(Debug, Clone, Copy, PartialEq, Eq)]
 pub struct Proof {
     /// The id that is proved.
@@ -72,6 +75,9 @@ fn prove_path(call: ProvePath, data: &[u8], id: &Hash) -> Result<Proof, Refusal>
 
 /// Proves a TSC proof's own id, the one written or its transaction's.
 ///
+/// A header or a root as target must hold the root. A block hash is compared with nothing, and a
+/// header's own hash and work are not looked at.
+///
 /// ```
 /// use barrowtide::{prove_tsc, Reason};
 /// // An id that is alone in its block is the root itself; here it is given as the target, too.
@@ -93,7 +99,7 @@ pub fn prove_tsc(data: &[u8]) -> Result<Proof, Refusal> {
 
 /// Climbs from every client leaf of a BUMP and gives the one root that all of them lead to.
 ///
-/// Each climb works its siblings out anew, so this is the call whose [cost](crate#cost) can grow the
+/// It climbs once for each client leaf, so this is the call whose [cost](crate#cost) can grow the
 /// most.
 ///
 /// ```

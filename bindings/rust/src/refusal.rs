@@ -5,9 +5,10 @@ use std::fmt;
 
 use crate::ffi::Blame;
 
-/// Why an input was refused; the numbers are 01's.
+/// Why an input was refused; the numbers are 01's. Later versions have more of them.
 #[derive(Debug, Clone, Copy, PartialEq, Eq, Hash)]
 #[repr(u32)]
+#[non_exhaustive]
 pub enum Reason {
     /// The input is over its size.
     TooLong = 1,
@@ -142,14 +143,28 @@ impl fmt::Display for Reason {
     }
 }
 
+/// What the number that a refusal carries stands for.
+#[derive(Debug, Clone, Copy, PartialEq, Eq, Hash)]
+pub enum Blames {
+    /// Nothing: the number is 0.
+    Nothing,
+    /// The place of a field or byte, counted from 0 at the input's first byte.
+    Place,
+    /// A transaction of the bundle, counted from 0.
+    Transaction,
+}
+
 /// A refusal: why, and what it blames.
 #[derive(Debug, Clone, Copy, PartialEq, Eq, Hash)]
+#[non_exhaustive]
 pub struct Refusal {
     /// Why.
     pub reason: Reason,
     /// The place that is blamed, counted from 0 at the input's first byte; or the number of the
-    /// transaction that is blamed, counted from 0; or 0. The reason and the call tell which.
+    /// transaction that is blamed, counted from 0; or 0.
     pub carried: u64,
+    /// Which of these it is, as the reason and the call tell.
+    pub blames: Blames,
     /// The layer of the sibling that is missing or a twin, counted from 0 at the ids; 0 unless the
     /// reason is [`Reason::Missing`] or [`Reason::Twin`].
     pub layer: u64,
@@ -173,9 +188,26 @@ impl Refusal {
             _ => reason.to_string(),
         }
     }
+
+    /// The same refusal, where a bundle is judged: some carry the number of a transaction, and 22
+    /// the place of the count.
+    pub(crate) fn in_judging(self) -> Self {
+        let blames = match self.reason {
+            Reason::NoRoom => Blames::Place,
+            reason if reason.blames_transaction() => Blames::Transaction,
+            _ => self.blames,
+        };
+        Self { blames, ..self }
+    }
+
+    /// The same refusal, where what the caller asked for is to blame, and no byte that was read.
+    pub(crate) fn of_caller(self) -> Self {
+        Self { blames: Blames::Nothing, ..self }
+    }
 }
 
-/// The answer of a call: the value if the number is 0, else the refusal.
+/// The answer of a call: the value if the number is 0, else the refusal, as reading and proving
+/// mean it.
 ///
 /// # Panics
 ///
@@ -187,30 +219,48 @@ pub(crate) fn answer<T>(number: u32, blame: Blame, value: T) -> Result<T, Refusa
     match Reason::from_number(number) {
         Some(reason) => {
             let Blame { carried, layer, sibling } = blame;
-            Err(Refusal { reason, carried, layer, sibling })
+            let place = reason.blames_place() && reason != Reason::NoRoom;
+            let blames = if place { Blames::Place } else { Blames::Nothing };
+            Err(Refusal { reason, carried, blames, layer, sibling })
         }
         None => panic!("libbarrowtide.a gave the unknown refusal {number}"),
     }
 }
 
-/// As the listing program writes it, then what is wrong.
+/// The number, the place or transaction that is blamed, and what is wrong.
 ///
 /// ```
-/// use barrowtide::{prove_bump, sha256d, Hash, MAX_INPUT};
+/// use barrowtide::{judge, prove_bump, read_bump, sha256d, Hash, MAX_INPUT};
 /// let refusal = sha256d(&vec![0; MAX_INPUT + 1]).unwrap_err();
-/// assert_eq!(refusal.to_string(), "refused 1 at 0: input over its size (TOO_LONG)");
+/// assert_eq!(refusal.to_string(), "refused 1: input over its size (TOO_LONG)");
+/// let refusal = read_bump(&[0x00]).unwrap_err();
+/// assert_eq!(refusal.to_string(), "refused 2 at 1: bytes end inside a field (SHORT)");
 ///
 /// // An id at position 21 and nothing else.
 /// let id = Hash::from_stored([0xaa; 32]);
 /// let bump = [&[0x00, 0x05, 0x01, 0x15, 0x02][..], id.stored(), &[0x00; 4]].concat();
 /// let refusal = prove_bump(&bump, &id).unwrap_err();
 /// assert_eq!((refusal.layer, refusal.sibling), (0, 20));
-/// let text = "refused 14 at 0: sibling 20 of layer 0 is missing (MISSING)";
+/// let text = "refused 14: sibling 20 of layer 0 is missing (MISSING)";
+/// assert_eq!(refusal.to_string(), text);
+///
+/// // A bundle of one transaction, which names no BUMP and whose parent is not there.
+/// let input = [&[0x00; 36][..], &[0x00], &[0xff; 4]].concat();
+/// let transaction = [&[1, 0, 0, 0, 1][..], &input, &[1], &[0; 8], &[0], &[0; 4]].concat();
+/// let bundle = [&[0x01, 0x00, 0xbe, 0xef, 0, 1][..], &transaction, &[0]].concat();
+/// let refusal = judge(&bundle, &[]).unwrap_err();
+/// let text = "refused 20 at transaction 0: an input without earlier parent (NO_PARENT)";
 /// assert_eq!(refusal.to_string(), text);
 /// ```
 impl fmt::Display for Refusal {
     fn fmt(&self, f: &mut fmt::Formatter<'_>) -> fmt::Result {
-        write!(f, "refused {} at {}: {}", self.reason.number(), self.carried, self.fault())
+        write!(f, "refused {}", self.reason.number())?;
+        match self.blames {
+            Blames::Nothing => {}
+            Blames::Place => write!(f, " at {}", self.carried)?,
+            Blames::Transaction => write!(f, " at transaction {}", self.carried)?,
+        }
+        write!(f, ": {}", self.fault())
     }
 }
 
@@ -232,20 +282,27 @@ mod tests {
 
     #[test]
     fn texts() {
-        let text = |reason, carried, layer, sibling| {
-            Refusal { reason, carried, layer, sibling }.to_string()
+        let refused = |reason: Reason, carried, layer, sibling| {
+            let blame = Blame { carried, layer, sibling };
+            answer(reason.number(), blame, ()).unwrap_err()
         };
-        assert_eq!(
-            text(Reason::Missing, 0, 0, 20),
-            "refused 14 at 0: sibling 20 of layer 0 is missing (MISSING)"
-        );
-        assert_eq!(
-            text(Reason::Twin, 0, 1, 4),
-            "refused 15 at 0: sibling 4 of layer 1 equals the working hash (TWIN)"
-        );
-        assert_eq!(
-            text(Reason::Short, 5, 0, 0),
-            "refused 2 at 5: bytes end inside a field (SHORT)"
-        );
+        let missing = refused(Reason::Missing, 0, 0, 20);
+        let text = "refused 14: sibling 20 of layer 0 is missing (MISSING)";
+        assert_eq!(missing.to_string(), text);
+        let text = "refused 14 at transaction 0: sibling 20 of layer 0 is missing (MISSING)";
+        assert_eq!(missing.in_judging().to_string(), text);
+        let twin = refused(Reason::Twin, 1, 1, 4).in_judging();
+        let text =
+            "refused 15 at transaction 1: sibling 4 of layer 1 equals the working hash (TWIN)";
+        assert_eq!(twin.to_string(), text);
+        let short = refused(Reason::Short, 5, 0, 0);
+        assert_eq!(short.to_string(), "refused 2 at 5: bytes end inside a field (SHORT)");
+        assert_eq!(short.in_judging(), short);
+        let over = refused(Reason::OverLimit, 0, 0, 0).of_caller().to_string();
+        assert!(over.starts_with("refused 5: "), "{over}");
+        let room = refused(Reason::NoRoom, 0, 0, 0);
+        let text = "lent table or room too small (NO_ROOM)";
+        assert_eq!(room.to_string(), format!("refused 22: {text}"));
+        assert_eq!(room.in_judging().to_string(), format!("refused 22 at 0: {text}"));
     }
 }

@@ -36,7 +36,7 @@ pub fn write_bump_into(
 ) -> Result<usize, Refusal> {
     let (mut blame, mut written) = (Blame::default(), 0);
     let number = ffi::write_bump(block_height, ids, positions, out, &mut blame, &mut written);
-    answer(number, blame, written as usize)
+    answer(number, blame, written as usize).map_err(Refusal::of_caller)
 }
 
 /// The BUMP that proves the ids at the chosen positions of a block.

@@ -9,7 +9,7 @@ use std::path::{Path, PathBuf};
 use std::process::Command;
 
 use barrowtide::ffi::Blame;
-use barrowtide::{Answer, Reason, Record};
+use barrowtide::{Answer, Reason, Record, Version, VERSION};
 use barrowtide::{BUMP_TO_TSC_ROOM, TSC_TO_BUMP_ROOM, WRITE_ROOM};
 use barrowtide::{MAX_DIFFERENCES, MAX_IDS, MAX_INPUT, MAX_PAGE, MAX_TRANSACTIONS};
 use published::without_sibling;
@@ -45,7 +45,10 @@ fn run(program: &Path, arguments: &[&str]) -> (Option<i32>, String) {
 
 #[test]
 fn header() {
-    let mut expected = String::from("0 ACCEPTED\n");
+    let Version { major, minor, patch } = VERSION;
+    let number = major * 65_536 + minor * 256 + patch;
+    let mut expected = format!("version {VERSION}, archive {number}\nof one version 1\n");
+    expected += "0 ACCEPTED\n";
     for number in 1.. {
         let Some(reason) = Reason::from_number(number) else {
             expected += &format!("{number} UNKNOWN\n");

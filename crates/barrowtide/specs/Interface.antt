@@ -1,5 +1,5 @@
 -- What a call returns and leaves in memory that C lends, by what it comes to.
-use Prim.Native.Nat.{ℕ}
+use Prim.Native.Nat.{ℕ, _+_, _*_}
 use mathlib.Core.List.{List, [], _∷_}
 use lib.Dec.{leb}
 use lib.ListN.{length}
@@ -8,6 +8,10 @@ use Rattle.format.specs.Field.{varint}
 use Rattle.format.specs.Refusals.{TOO-LONG, MAX-INPUT}
 use Rattle.spv.specs.declared.rejection.Rejection.{Rejection}
 use Rattle.spv.specs.Result.{Result, accepted, refused, carrying}
+
+-- The version in one number: major, minor, patch.
+abbrev pub VERSION : ℕ
+VERSION = 0 * 65536 + 5 * 256 + 0
 
 -- The number that is returned: 0 on acceptance.
 unfoldable pub refusal : {A : Type 0} → Result A → ℕ

@@ -6,7 +6,6 @@ ghost use Rattle.encoder.specs.Output.{outputAfter};
 ghost use Rattle.encoder.specs.Convert.{tscToBump, bumpToTsc};
 ghost use Rattle.barrowtide.specs.Interface as I;
 
-// uint32_t barrowtide_tsc_to_bump(const uint8_t *message, size_t length, uint32_t block, uint8_t *out, size_t out_len, barrowtide_blame *blame, uint64_t *written);
 #[no_mangle]
 pub extern "C" fn barrowtide_tsc_to_bump(
     message: &[u8],
@@ -25,7 +24,6 @@ pub extern "C" fn barrowtide_tsc_to_bump(
     tell(answer, blame, written)
 }
 
-// uint32_t barrowtide_bump_to_tsc(const uint8_t *message, size_t length, const uint8_t id[32], uint8_t *out, size_t out_len, barrowtide_blame *blame, uint64_t *written);
 #[no_mangle]
 pub extern "C" fn barrowtide_bump_to_tsc(
     message: &[u8],

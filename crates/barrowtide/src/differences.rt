@@ -31,8 +31,6 @@ fn tell(answer: Listed, blame: &mut [u64; 3], entries: &mut u64) -> u32
     }
 }
 
-// uint32_t barrowtide_differences(const uint8_t *first, size_t first_len, const uint8_t *second, size_t second_len, uint64_t *list, size_t list_len,
-//                                 barrowtide_blame *blame, uint64_t *entries);
 #[no_mangle]
 pub extern "C" fn barrowtide_differences(
     first: &[u8],
@@ -85,8 +83,6 @@ fn part_length(weighed: Weighed, first: &[u8], second: &[u8]) -> u64
     }
 }
 
-// uint32_t barrowtide_shorter(const uint8_t *first, size_t first_len, const uint8_t *second, size_t second_len, const uint8_t id[32], barrowtide_blame *blame,
-//                             uint64_t *which, uint64_t *length);
 #[no_mangle]
 pub extern "C" fn barrowtide_shorter(
     first: &[u8],

@@ -26,8 +26,6 @@ fn tell(verdict: Verdict, blame: &mut [u64; 3], transactions: &mut u64) -> u32
     }
 }
 
-// uint32_t barrowtide_judge_beef(const uint8_t *message, size_t length, const uint8_t *roots, size_t roots_len, barrowtide_record *table, size_t table_len,
-//                                barrowtide_blame *blame, uint64_t *transactions);
 #[no_mangle]
 pub extern "C" fn barrowtide_judge_beef(
     message: &[u8],

@@ -1,5 +1,5 @@
-// The C interface. A call returns the number of its refusal, or 0; memory that it gives nothing for keeps its content. What a refusal blames is a C
-// struct of three 64-bit numbers, lent as an array of them.
+// The C interface; include/barrowtide.h has its prototypes. A call returns the number of its refusal, or 0; memory that it gives nothing for keeps its
+// content. What a refusal blames is a C struct of three 64-bit numbers, lent as an array of them.
 mod blame;
 pub mod convert;
 pub mod differences;
@@ -15,7 +15,14 @@ ghost use Rattle.hash.specs.Sha256 as S;
 ghost use Rattle.barrowtide.specs.Interface as I;
 ghost use Rattle.barrowtide.specs.Answers.{ofHashed};
 
-// uint32_t barrowtide_sha256d(const uint8_t *message, size_t length, barrowtide_blame *blame, uint8_t digest[32]);
+// The header has the same three numbers.
+#[no_mangle]
+pub extern "C" fn barrowtide_version() -> u32
+    ensures { λ r. ⌜ r ≡ I.VERSION ⌝ }
+{
+    0 * 65536 + 5 * 256 + 0
+}
+
 #[no_mangle]
 pub extern "C" fn barrowtide_sha256d(
     message: &[u8],
@@ -38,7 +45,6 @@ pub extern "C" fn barrowtide_sha256d(
     number
 }
 
-// void barrowtide_join(const uint8_t left[32], const uint8_t right[32], uint8_t parent[32]);
 #[no_mangle]
 pub extern "C" fn barrowtide_join(left: &[u8; 32], right: &[u8; 32], parent: &mut [u8; 32])
     ensures { λ _. ⌜ now (parent .exit) ≡ S.sha256d (now (left .entry) ++ now (right .entry)) ⌝ }

@@ -22,8 +22,6 @@ fn tell(paged: Paged, blame: &mut [u64; 3]) -> u32
     }
 }
 
-// uint32_t barrowtide_prove_page(const uint8_t *message, size_t length, const uint8_t *ids, size_t ids_len, barrowtide_answer *row, size_t row_len,
-//                                barrowtide_blame *blame);
 #[no_mangle]
 pub extern "C" fn barrowtide_prove_page(
     message: &[u8],

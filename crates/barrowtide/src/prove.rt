@@ -48,7 +48,6 @@ fn give(
     }
 }
 
-// uint32_t barrowtide_prove_bump(const uint8_t *message, size_t length, const uint8_t id[32], barrowtide_blame *blame, uint64_t *position, uint64_t *layers, uint8_t root[32]);
 #[no_mangle]
 pub extern "C" fn barrowtide_prove_bump(
     message: &[u8],
@@ -68,7 +67,6 @@ pub extern "C" fn barrowtide_prove_bump(
     give(spv::prove_bump(message, *id), blame, position, layers, root)
 }
 
-// uint32_t barrowtide_prove_cmp(const uint8_t *message, size_t length, const uint8_t id[32], barrowtide_blame *blame, uint64_t *position, uint64_t *layers, uint8_t root[32]);
 #[no_mangle]
 pub extern "C" fn barrowtide_prove_cmp(
     message: &[u8],
@@ -88,7 +86,6 @@ pub extern "C" fn barrowtide_prove_cmp(
     give(spv::prove_cmp(message, *id), blame, position, layers, root)
 }
 
-// uint32_t barrowtide_prove_tsc(const uint8_t *message, size_t length, barrowtide_blame *blame, uint8_t id[32], uint64_t *position, uint64_t *layers, uint8_t root[32]);
 #[no_mangle]
 pub extern "C" fn barrowtide_prove_tsc(
     message: &[u8],
@@ -128,7 +125,6 @@ pub extern "C" fn barrowtide_prove_tsc(
     }
 }
 
-// uint32_t barrowtide_check_clients(const uint8_t *message, size_t length, barrowtide_blame *blame, uint8_t root[32]);
 #[no_mangle]
 pub extern "C" fn barrowtide_check_clients(
     message: &[u8],
@@ -168,7 +164,6 @@ fn form_of(number: u32) -> Form
     Form::Tsc
 }
 
-// uint32_t barrowtide_compare(uint32_t first_form, const uint8_t *first, size_t first_length, const uint8_t first_id[32], uint32_t second_form, const uint8_t *second, size_t second_length, const uint8_t second_id[32], barrowtide_blame *blame, uint8_t first_string[64], uint8_t second_string[64]);
 #[no_mangle]
 pub extern "C" fn barrowtide_compare(
     first_form: u32,

@@ -20,7 +20,6 @@ ghost use Rattle.format.specs.Tsc.{tscWhole};
 ghost use Rattle.format.specs.Beef.{beefWhole};
 ghost use Rattle.barrowtide.specs.Interface as I;
 
-// uint32_t barrowtide_read_varint(const uint8_t *message, size_t length, barrowtide_blame *blame, uint64_t *value, uint64_t *width);
 #[no_mangle]
 pub extern "C" fn barrowtide_read_varint(
     message: &[u8],
@@ -49,7 +48,6 @@ pub extern "C" fn barrowtide_read_varint(
     0
 }
 
-// uint32_t barrowtide_read_bump(const uint8_t *message, size_t length, barrowtide_blame *blame, uint64_t *block, uint64_t *height, uint64_t *leaves);
 #[no_mangle]
 pub extern "C" fn barrowtide_read_bump(
     message: &[u8],
@@ -77,7 +75,6 @@ pub extern "C" fn barrowtide_read_bump(
     0
 }
 
-// uint32_t barrowtide_read_cmp(const uint8_t *message, size_t length, barrowtide_blame *blame, uint64_t *height, uint64_t *leaves);
 #[no_mangle]
 pub extern "C" fn barrowtide_read_cmp(
     message: &[u8],
@@ -102,7 +99,6 @@ pub extern "C" fn barrowtide_read_cmp(
     0
 }
 
-// uint32_t barrowtide_read_transaction(const uint8_t *message, size_t length, barrowtide_blame *blame, uint64_t *inputs, uint64_t *outputs, uint8_t id[32]);
 #[no_mangle]
 pub extern "C" fn barrowtide_read_transaction(
     message: &[u8],
@@ -134,7 +130,6 @@ pub extern "C" fn barrowtide_read_transaction(
     0
 }
 
-// uint32_t barrowtide_read_tsc(const uint8_t *message, size_t length, barrowtide_blame *blame, uint64_t *flags, uint64_t *index, uint64_t *nodes);
 #[no_mangle]
 pub extern "C" fn barrowtide_read_tsc(
     message: &[u8],
@@ -162,7 +157,6 @@ pub extern "C" fn barrowtide_read_tsc(
     0
 }
 
-// uint32_t barrowtide_read_beef(const uint8_t *message, size_t length, barrowtide_blame *blame, uint64_t *bumps, uint64_t *transactions);
 #[no_mangle]
 pub extern "C" fn barrowtide_read_beef(
     message: &[u8],

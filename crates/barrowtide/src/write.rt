@@ -29,8 +29,6 @@ pub(crate) fn tell(answer: Written, blame: &mut [u64; 3], written: &mut u64) -> 
     }
 }
 
-// uint32_t barrowtide_write_bump(uint64_t block, const uint8_t *ids, size_t ids_len, const uint64_t *chosen, size_t chosen_len, uint8_t *out, size_t out_len,
-//                                barrowtide_blame *blame, uint64_t *written);
 #[no_mangle]
 pub extern "C" fn barrowtide_write_bump(
     block: u64,

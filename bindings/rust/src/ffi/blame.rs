@@ -1,5 +1,7 @@
 //! What a refusal blames.
 
+use std::mem::offset_of;
+
 /// `barrowtide_blame`: what a refusal blames.
 #[derive(Debug, Clone, Copy, Default, PartialEq, Eq)]
 #[repr(C)]
@@ -12,5 +14,8 @@ pub struct Blame {
     pub sibling: u64,
 }
 
-/// The size of `barrowtide_blame`.
+/// The size and the fields of `barrowtide_blame`.
 const _: () = assert!(size_of::<Blame>() == 24);
+const _: () = assert!(offset_of!(Blame, carried) == 0);
+const _: () = assert!(offset_of!(Blame, layer) == 8);
+const _: () = assert!(offset_of!(Blame, sibling) == 16);

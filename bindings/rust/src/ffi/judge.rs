@@ -1,6 +1,9 @@
 //! Judging a bundle.
 
+use std::mem::offset_of;
+
 use super::Blame;
+use crate::version::expect_same;
 use crate::Record;
 
 extern "C" {
@@ -16,8 +19,14 @@ extern "C" {
     ) -> u32;
 }
 
-/// The size of `barrowtide_record`.
+/// The size and the fields of `barrowtide_record`.
 const _: () = assert!(size_of::<Record>() == 64);
+const _: () = assert!(offset_of!(Record, start) == 0);
+const _: () = assert!(offset_of!(Record, length) == 8);
+const _: () = assert!(offset_of!(Record, id) == 16);
+const _: () = assert!(offset_of!(Record, bump) == 48);
+const _: () = assert!(offset_of!(Record, anchored) == 52);
+const _: () = assert!(offset_of!(Record, position) == 56);
 
 /// `barrowtide_judge_beef`: a bundle against a list of roots, into a lent table.
 pub fn judge_beef(
@@ -27,6 +36,7 @@ pub fn judge_beef(
     blame: &mut Blame,
     transactions: &mut u64,
 ) -> u32 {
+    expect_same();
     // SAFETY: the call reads `data` and `roots` within their lengths and writes a blame, a u64
     // and the table's records, whose layout is C's; all of it is borrowed for the call.
     unsafe {

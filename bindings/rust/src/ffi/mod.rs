@@ -1,7 +1,7 @@
 //! The C interface of `include/barrowtide.h`, call by call, with slices and references in place of
 //! pointers.
 //!
-//! Each call (but [`join`]) returns 01's refusal number, or 0 if it accepts. A refusal writes all
+//! Each call (but [`version`] and [`join`]) returns 01's refusal number, or 0 if it accepts. A refusal writes all
 //! three numbers of `blame` and leaves all other lent memory as it was, except that a lent table or
 //! row is zeroed, and that [`shorter`] hands back no bytes. Acceptance writes the values and leaves `blame` as it was, and the room past what
 //! is written.
@@ -20,6 +20,7 @@ mod judge;
 mod page;
 mod path;
 mod prove;
+mod version;
 mod write;
 
 /// An id, a node or a root, in stored order.
@@ -35,4 +36,5 @@ pub use judge::judge_beef;
 pub use page::prove_page;
 pub use path::{read_bump, read_cmp, read_varint};
 pub use prove::{check_clients, prove_bump, prove_cmp, prove_tsc};
+pub use version::version;
 pub use write::write_bump;

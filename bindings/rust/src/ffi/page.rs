@@ -1,6 +1,9 @@
 //! Proving a page of ids.
 
+use std::mem::offset_of;
+
 use super::Blame;
+use crate::version::expect_same;
 use crate::Answer;
 
 extern "C" {
@@ -15,11 +18,19 @@ extern "C" {
     ) -> u32;
 }
 
-/// The size of `barrowtide_answer`.
+/// The size and the fields of `barrowtide_answer`.
 const _: () = assert!(size_of::<Answer>() == 80);
+const _: () = assert!(offset_of!(Answer, refusal) == 0);
+const _: () = assert!(offset_of!(Answer, carried) == 8);
+const _: () = assert!(offset_of!(Answer, layer) == 16);
+const _: () = assert!(offset_of!(Answer, sibling) == 24);
+const _: () = assert!(offset_of!(Answer, position) == 32);
+const _: () = assert!(offset_of!(Answer, layers) == 40);
+const _: () = assert!(offset_of!(Answer, root) == 48);
 
 /// `barrowtide_prove_page`: ids that stand end to end by one BUMP, into a lent row.
 pub fn prove_page(data: &[u8], ids: &[u8], row: &mut [Answer], blame: &mut Blame) -> u32 {
+    expect_same();
     // SAFETY: the call reads `data` and `ids` within their lengths and writes a blame and the
     // row's answers, whose layout is C's and of which any bytes are values; all of it is borrowed
     // for the call.

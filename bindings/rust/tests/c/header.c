@@ -20,6 +20,9 @@ int main(void)
     uint64_t transactions = 7, written = 7, position = 7, layers = 7;
     uint8_t digest[32];
 
+    printf("version %d.%d.%d, archive %" PRIu32 "\n", BARROWTIDE_VERSION_MAJOR,
+           BARROWTIDE_VERSION_MINOR, BARROWTIDE_VERSION_PATCH, barrowtide_version());
+    printf("of one version %d\n", barrowtide_version() == BARROWTIDE_VERSION_NUMBER);
     for (uint32_t number = 0; number <= BARROWTIDE_SAME_ID + 1; number++)
         printf("%" PRIu32 " %s\n", number, barrowtide_refusal_name(number));
     printf("input %d\n", BARROWTIDE_MAX_INPUT);

@@ -38,6 +38,6 @@ pub fn expected<T>(answer: Result<T, Refusal>, fill: T) -> (u32, Guarded, T) {
 
 /// A wrapper's refusal in the reference's words.
 pub fn plain(refusal: barrowtide::Refusal) -> Refusal {
-    let barrowtide::Refusal { reason, carried, layer, sibling } = refusal;
+    let barrowtide::Refusal { reason, carried, layer, sibling, .. } = refusal;
     Refusal { number: reason.number(), carried, layer, sibling }
 }
