@@ -86,7 +86,7 @@ fn cannot_use(arguments: &[&str], text: &str) {
 }
 
 const JUDGED: &str = "\
-accepted: every payment rests on a trusted root; 2 transactions
+accepted: each transaction is mined under a trusted root or spends only earlier ones of the bundle; 2 transactions
   no     start    length  anchored  bump    position  id
    0       291       192  yes          0          21  3ecead27a44d013ad1aae40038acbb1883ac9242406808bb4667c15b4f164eac
    1       485       191  no           -           -  157428aee67d11123203735e4c540fa1bdab3b36d5882c6f8c5ff79f07d20d1c
@@ -120,6 +120,12 @@ fn judge() {
     );
     refuses(
         &["judge", "004-bump.hex", "004-roots.txt"],
+        "refused 10 BAD_VERSION: this looks like a BUMP. Check that it is the right file, or ask the \
+         sender for a BEEF (BRC-62).",
+    );
+    let none = file("none.beef", [7; 40]);
+    refuses(
+        &["judge", &none, "004-roots.txt"],
         "refused 10 BAD_VERSION: the first four bytes are not 0100beef, so this is no BEEF of that \
          version. Ask the sender for one.",
     );
@@ -151,6 +157,109 @@ fn judge_for_scripts() {
     let (status, text, error) = run(&["--json", "judge", "\"no\"", "004-roots.txt"]);
     assert!(text.starts_with("{\"unusable\":\"\\\"no\\\": "), "{text}");
     assert_eq!((status, error.as_str()), (Some(2), ""));
+}
+
+/// What a file looks like is said if it is of another form than the one asked for.
+#[test]
+fn another_form() {
+    let whole = data("004-bundle.hex");
+    let looks = |command: &[&str], bytes: &[u8], like: &str, asked: &str| {
+        let words = [command, &["-"]].concat();
+        let (status, text, _) = run_on(bytes, &words);
+        let text = text.split_once(": ").map_or("", |(_, text)| text);
+        let expected = format!(
+            "this looks like {like}. Check that it is the right file, or ask the sender for {asked}.\n"
+        );
+        assert_eq!((status, text), (Some(1), expected.as_str()), "{words:?}");
+    };
+    let (beef, path) = ("a BEEF (BRC-62)", "a compound path");
+    let v2 = [&[0x02][..], &whole[1..]].concat();
+    let atomic = [&[0x01; 4][..], &[0xaa; 32], &whole].concat();
+    looks(&["list", "beef"], &data("004-bump.hex"), "a BUMP", beef);
+    looks(&["list", "beef"], &data("001-path.hex"), path, beef);
+    looks(&["list", "beef"], &data("000-proof.hex"), "a TSC proof", beef);
+    looks(&["list", "beef"], &whole[291..291 + 192], "a transaction", beef);
+    let v2_name = "a BEEF V2 (BRC-96), which this library does not take";
+    looks(&["list", "beef"], &v2, v2_name, beef);
+    let atomic_name = "an Atomic BEEF (BRC-95), which this library does not take";
+    looks(&["list", "beef"], &atomic, atomic_name, beef);
+    looks(&["list", "bump"], &atomic, atomic_name, "a BUMP");
+    for form in ["bump", "cmp", "tsc", "transaction"] {
+        let (_, text, _) = run_on(&whole[..whole.len() - 1], &["list", form, "-"]);
+        assert!(text.contains(": this looks like a BEEF (BRC-62). "), "{text}");
+    }
+    looks(&["clients"], &whole, beef, "a BUMP");
+    looks(&["list", "cmp"], &data("004-bump.hex"), "a BUMP", path);
+    let (_, text, _) = run(&["diff", "004-bump.hex", "004-bundle.hex"]);
+    assert!(text.starts_with("refused 4 BAD_HEIGHT in the second at byte 1: this looks"), "{text}");
+    let (_, text, _) = run(&["compare", "tsc", "004-bump.hex", "tsc", "000-proof.hex"]);
+    assert!(text.contains(" in the first at byte 0: this looks like a BUMP."), "{text}");
+    // A bundle that is cut is a bundle, and one that is not trusted is no other form.
+    let (_, text, _) = run_on(&whole[..whole.len() - 1], &["list", "beef", "-"]);
+    assert!(text.starts_with("refused 2 SHORT at byte 676: the bytes end inside"), "{text}");
+    assert!(!run_on(&whole, &["judge", "-", &file("untrusted.txt", "")]).1.contains("looks"));
+}
+
+/// Hex and lists as editors save them that don't save plain text: said so, and where.
+#[test]
+fn text_that_is_not_plain() {
+    let wide = |text: &str, end: fn(u16) -> [u8; 2]| -> Vec<u8> {
+        text.encode_utf16().flat_map(end).collect()
+    };
+    let read = |name: &str| fs::read_to_string(format!("{DATA}/{name}")).expect("test data");
+    let hex = read("004-bundle.hex");
+    let (mark, utf16) = ("a byte order mark before the text; save", "text in UTF-16; save");
+    let roots = read("004-roots.txt");
+    for (case, bytes, roots, words) in [
+        (
+            "mark",
+            format!("\u{feff}{hex}").into_bytes(),
+            format!("\u{feff}{roots}").into_bytes(),
+            mark,
+        ),
+        ("le", wide(&hex, u16::to_le_bytes), wide(&roots, u16::to_le_bytes), utf16),
+        ("be", wide(&hex, u16::to_be_bytes), wide(&roots, u16::to_be_bytes), utf16),
+        (
+            "marked-le",
+            wide(&format!("\u{feff}{hex}"), u16::to_le_bytes),
+            wide(&format!("\u{feff}{roots}"), u16::to_le_bytes),
+            utf16,
+        ),
+    ] {
+        let bundle = file(&format!("{case}.hex"), bytes);
+        cannot_use(&["judge", &bundle, "004-roots.txt"], &format!("{bundle}: {words}"));
+        let list = file(&format!("{case}.txt"), roots);
+        cannot_use(&["judge", "004-bundle.hex", &list], &format!("{list}: {words}"));
+        cannot_use(&["page", "004-bump.hex", &list], &format!("{list}: {words}"));
+    }
+    // A blank that does not break a line, in UTF-8 and in Latin-1; an old end of file; a quote.
+    let hex = hex.trim_end();
+    for (stray, words) in [
+        (&b"\xc2\xa0"[..], "U+00A0"),
+        (b"\xa0", "the byte a0"),
+        (b"\x1a", "U+001A"),
+        (b"\0", "U+0000"),
+        (b"'", "'''"),
+        ("\u{201c}".as_bytes(), "U+201C"),
+    ] {
+        let bundle = file("stray.hex", [b"0100\n beef", stray, hex[8..].as_bytes()].concat());
+        let words = format!("{bundle}, line 2: text that is not hex: {words} at character 6\n");
+        cannot_use(&["judge", &bundle, "004-roots.txt"], &words);
+    }
+    for (stray, words) in [("\u{200b}", "U+200B"), ("x", "'x'"), (" .", "'.'")] {
+        let list = file("stray.txt", format!("# roots \u{2013} today\n{ROOT}\n{stray}{ROOT}\n"));
+        let words = format!("{list}, line 3: not 64 hex digits, but {words} at character 1: ");
+        cannot_use(&["judge", "004-bundle.hex", &list], &words);
+    }
+    let list = file("short.txt", &ROOT[1..]);
+    cannot_use(
+        &["judge", "004-bundle.hex", &list],
+        &format!("line 1: not 64 hex digits: {}", &ROOT[1..]),
+    );
+    // Lines that end as on Windows are plain.
+    let lines = file("lines.hex", hex.replace('\n', "\r\n"));
+    let list = file("lines.txt", roots.replace('\n', "\r\n"));
+    accepts(&["judge", &lines, &list], JUDGED);
 }
 
 #[test]
@@ -346,7 +455,10 @@ fn write_and_page() {
         "refused 5 OVER_LIMIT: you may ask about 256 ids at once, not more.",
     );
     let (status, text, _) = run_on(&[0xff; 9], &["page", "-", &chosen]);
-    assert!(text.starts_with("refused 5 OVER_LIMIT at byte 0: the count or block"), "{text}");
+    let words =
+        "the count or block height here is more than this library takes. Ask the sender for a \
+         smaller BUMP.\n";
+    assert_eq!(text, format!("refused 5 OVER_LIMIT at byte 0: {words}"));
     assert_eq!(status, Some(1));
     cannot_use(&["page", "004-bump.hex"], "usage: barrowtide page");
     cannot_use(&["page", "004-bump.hex", "ids.txt", "--binary"], "--binary is for a proof");

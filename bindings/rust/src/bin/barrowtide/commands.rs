@@ -11,8 +11,8 @@ use crate::json::{Fields, Json};
 use crate::leaves::{Kind, Leaf, Levels};
 use crate::words::{Asked, Form, Refused};
 
-fn refused(asked: Asked) -> impl Fn(Refusal) -> Failure {
-    move |refusal| Failure::Refused(Refused::new(refusal, asked))
+fn refused(asked: Asked, data: &[u8]) -> impl Fn(Refusal) -> Failure + '_ {
+    move |refusal| Failure::Refused(Refused::of(data, refusal, asked))
 }
 
 /// "1 leaf", "2 leaves".
@@ -28,9 +28,12 @@ fn unreadable() -> Failure {
 pub fn judge(words: &[OsString]) -> Answer {
     let [beef, roots] = words else { return Err(Failure::Misused) };
     let (bundle, roots) = (input::bytes(beef)?, input::hashes(roots)?);
-    let verdict = barrowtide::judge(&bundle, &roots).map_err(refused(Asked::Judge))?;
+    let verdict = barrowtide::judge(&bundle, &roots).map_err(refused(Asked::Judge, &bundle))?;
     let count = counted(verdict.records.len() as u64, "transaction", "transactions");
-    let mut text = format!("accepted: every payment rests on a trusted root; {count}\n");
+    let mut text = format!(
+        "accepted: each transaction is mined under a trusted root or spends only earlier ones of \
+         the bundle; {count}\n"
+    );
     text += "  no     start    length  anchored  bump    position  id\n";
     for (number, record) in verdict.records.iter().enumerate() {
         text += &row(number, record);
@@ -105,7 +108,7 @@ impl Given {
 
 pub fn prove(words: &[OsString]) -> Answer {
     let (given, []) = Given::take(words)? else { return Err(Failure::Misused) };
-    let proof = given.prove().map_err(refused(Asked::Prove(given.form)))?;
+    let proof = given.prove().map_err(refused(Asked::Prove(given.form), &given.data))?;
     let Proof { id, position, layers, root } = proof;
     let text = format!(
         "accepted: the id is under this root, and worth as much as the root is trusted\n\
@@ -127,7 +130,7 @@ pub fn proof_fields(proof: &Proof) -> Fields {
 pub fn clients(words: &[OsString]) -> Answer {
     let [path] = words else { return Err(Failure::Misused) };
     let data = input::bytes(path)?;
-    let root = barrowtide::check_clients(&data).map_err(refused(Asked::Clients))?;
+    let root = barrowtide::check_clients(&data).map_err(refused(Asked::Clients, &data))?;
     let clients = Levels::of_bump(&data).ok_or_else(unreadable)?.clients() as u64;
     let (count, root) = (counted(clients, "client", "clients"), root.to_string());
     let text = format!("accepted: all clients lead to this root; {count}\nroot      {root}\n");
@@ -147,7 +150,7 @@ pub fn list(words: &[OsString]) -> Answer {
 }
 
 fn list_bump(data: &[u8]) -> Answer {
-    let bump = barrowtide::read_bump(data).map_err(refused(Asked::Read(Form::Bump)))?;
+    let bump = barrowtide::read_bump(data).map_err(refused(Asked::Read(Form::Bump), data))?;
     let levels = Levels::of_bump(data).ok_or_else(unreadable)?;
     let (height, leaves) = (bump.tree_height, bump.leaves);
     let mut text = format!("accepted: a BUMP\nblock height  {}\n", bump.block_height);
@@ -163,7 +166,7 @@ fn list_bump(data: &[u8]) -> Answer {
 }
 
 fn list_cmp(data: &[u8]) -> Answer {
-    let path = barrowtide::read_cmp(data).map_err(refused(Asked::Read(Form::Cmp)))?;
+    let path = barrowtide::read_cmp(data).map_err(refused(Asked::Read(Form::Cmp), data))?;
     let levels = Levels::of_cmp(data).ok_or_else(unreadable)?;
     let (height, leaves) = (path.tree_height, path.leaves);
     let head =
@@ -201,7 +204,7 @@ fn kind_json(kind: Kind) -> Json {
 }
 
 fn list_tsc(data: &[u8]) -> Answer {
-    let proof = barrowtide::read_tsc(data).map_err(refused(Asked::Read(Form::Tsc)))?;
+    let proof = barrowtide::read_tsc(data).map_err(refused(Asked::Read(Form::Tsc), data))?;
     let holds = if proof.flags & 1 == 1 { "transaction" } else { "id" };
     let target = match proof.flags & 6 {
         0 => "block hash",
@@ -224,7 +227,7 @@ fn list_tsc(data: &[u8]) -> Answer {
 
 fn list_transaction(data: &[u8]) -> Answer {
     let read = barrowtide::read_transaction(data);
-    let transaction = read.map_err(refused(Asked::Read(Form::Transaction)))?;
+    let transaction = read.map_err(refused(Asked::Read(Form::Transaction), data))?;
     let (inputs, outputs) = (transaction.inputs, transaction.outputs);
     let id = transaction.id.to_string();
     let text =
@@ -234,7 +237,7 @@ fn list_transaction(data: &[u8]) -> Answer {
 }
 
 fn list_beef(data: &[u8]) -> Answer {
-    let beef = barrowtide::read_beef(data).map_err(refused(Asked::Read(Form::Beef)))?;
+    let beef = barrowtide::read_beef(data).map_err(refused(Asked::Read(Form::Beef), data))?;
     let (bumps, transactions) = (beef.bumps, beef.transactions);
     let text = format!(
         "accepted: a BEEF bundle, well formed; judge says whether it can be trusted\n\
@@ -248,11 +251,11 @@ pub fn compare(words: &[OsString]) -> Answer {
     let (first, rest) = Given::take(words)?;
     let (second, []) = Given::take(rest)? else { return Err(Failure::Misused) };
     let strings = barrowtide::compare(first.claim(), second.claim()).map_err(|refusal| {
-        let of = |which, form| Refused { refusal, asked: Asked::Prove(form), which: Some(which) };
+        let of = |given: &Given| Refused::of(&given.data, refusal, Asked::Prove(given.form));
         Failure::Refused(match refusal.reason {
             Reason::Unlike | Reason::SameId => Refused::new(refusal, Asked::Compare),
-            _ if first.prove().is_err() => of("first", first.form),
-            _ => of("second", second.form),
+            _ if first.prove().is_err() => of(&first).which("first"),
+            _ => of(&second).which("second"),
         })
     })?;
     let (first, second) = (hex::encode(&strings.first), hex::encode(&strings.second));
@@ -272,7 +275,7 @@ pub fn write(words: &[OsString]) -> Answer {
         .collect::<Result<Vec<_>, _>>()?;
     let ids = input::hashes(ids)?;
     let written = barrowtide::write_bump(height, &ids, &positions);
-    bytes(written.map_err(refused(Asked::Write))?)
+    bytes(written.map_err(refused(Asked::Write, &[]))?)
 }
 
 /// A proof that was made.
@@ -286,7 +289,7 @@ pub fn page(words: &[OsString]) -> Answer {
     let (data, ids) = (input::bytes(path)?, input::hashes(ids)?);
     let by_bump = Asked::Prove(Form::Bump);
     let whole = if ids.len() > MAX_PAGE { Asked::Page } else { by_bump };
-    let answers = barrowtide::prove_page(&data, &ids).map_err(refused(whole))?;
+    let answers = barrowtide::prove_page(&data, &ids).map_err(refused(whole, &data))?;
     let proved = answers.iter().filter(|answer| answer.is_ok()).count();
     let mut text = format!("proved: {proved} of {}\n", counted(ids.len() as u64, "id", "ids"));
     let mut rows = Vec::new();
@@ -323,8 +326,9 @@ pub fn convert(words: &[OsString]) -> Answer {
         Some("to-bump") => to_bump(path, word),
         Some("to-tsc") => {
             let id = input::id(word)?;
-            let made = barrowtide::bump_to_tsc(&input::bytes(path)?, &id);
-            bytes(made.map_err(refused(Asked::Prove(Form::Bump)))?)
+            let data = input::bytes(path)?;
+            let made = barrowtide::bump_to_tsc(&data, &id);
+            bytes(made.map_err(refused(Asked::Prove(Form::Bump), &data))?)
         }
         _ => Err(Failure::Misused),
     }
@@ -335,16 +339,20 @@ fn to_bump(path: &OsStr, height: &OsStr) -> Answer {
     let Ok(height) = u32::try_from(wide) else {
         return Err(Failure::unusable(format!("a block height is at most {}: {wide}", u32::MAX)));
     };
-    let made = barrowtide::tsc_to_bump(&input::bytes(path)?, height);
-    bytes(made.map_err(refused(Asked::ToBump))?)
+    let data = input::bytes(path)?;
+    let made = barrowtide::tsc_to_bump(&data, height);
+    bytes(made.map_err(refused(Asked::ToBump, &data))?)
 }
 
 pub fn diff(words: &[OsString]) -> Answer {
     let [first, second] = words else { return Err(Failure::Misused) };
     let (first, second) = (input::bytes(first)?, input::bytes(second)?);
     let differences = barrowtide::differences(&first, &second).map_err(|refusal| {
-        let which = if barrowtide::read_bump(&first).is_err() { "first" } else { "second" };
-        Failure::Refused(Refused { refusal, asked: Asked::Read(Form::Bump), which: Some(which) })
+        let of = |data| Refused::of(data, refusal, Asked::Read(Form::Bump));
+        Failure::Refused(match barrowtide::read_bump(&first) {
+            Err(_) => of(&first).which("first"),
+            Ok(_) => of(&second).which("second"),
+        })
     })?;
     let heads = (barrowtide::read_bump(&first), barrowtide::read_bump(&second));
     let levels = (Levels::of_bump(&first), Levels::of_bump(&second));
@@ -412,11 +420,11 @@ pub fn shorter(words: &[OsString]) -> Answer {
     let (first, second) = (input::bytes(first)?, input::bytes(second)?);
     let by_bump = Asked::Prove(Form::Bump);
     let part = barrowtide::shorter(&first, &second, &id).map_err(|refusal| {
-        let of = |which| Refused { refusal, asked: by_bump, which: Some(which) };
+        let of = |data| Refused::of(data, refusal, by_bump);
         Failure::Refused(match refusal.reason {
             Reason::Unlike => Refused::new(refusal, Asked::Shorter),
-            _ if barrowtide::prove_bump(&first, &id).is_err() => of("first"),
-            _ => of("second"),
+            _ if barrowtide::prove_bump(&first, &id).is_err() => of(&first).which("first"),
+            _ => of(&second).which("second"),
         })
     })?;
     // On a tie it is the first.
@@ -435,7 +443,7 @@ pub fn draw(words: &[OsString]) -> Answer {
         _ => return Err(Failure::Misused),
     };
     let data = input::bytes(path)?;
-    let head = barrowtide::read_bump(&data).map_err(refused(Asked::Read(Form::Bump)))?;
+    let head = barrowtide::read_bump(&data).map_err(refused(Asked::Read(Form::Bump), &data))?;
     let levels = Levels::of_bump(&data).ok_or_else(unreadable)?;
     let Some(id) = id else {
         let svg = draw::picture(&head, &levels, None).ok_or_else(unreadable)?;

@@ -46,7 +46,14 @@ pub const COMMANDS: [Command; 11] = [
 BEEF is a file with the bundle. ROOTS is a file with a trusted Merkle root on each
 line. If every transaction is mined under one of them, or spends only earlier ones
 of the bundle, the table of transactions is printed: where each starts, how long
-it is, and the BUMP and position in the block that anchor it.",
+it is, and the BUMP and position in the block that anchor it.
+
+What acceptance does not say:
+- Scripts and signatures are not run.
+- Amounts, output numbers and double spends are not looked at.
+- Until a block holds a transaction, what it spends can still be spent elsewhere.
+- A BUMP's block height is the sender's word.
+- Which transaction is the payment, and whom it pays, is not asked.",
         example: "    ./barrowtide judge bindings/rust/tests/data/004-bundle.hex bindings/rust/tests/data/004-roots.txt",
         run: commands::judge,
         ..PLAIN
@@ -58,7 +65,9 @@ it is, and the BUMP and position in the block that anchor it.",
         about: "\
 FILE holds a BUMP, a compound path or a TSC proof, which has its id in it. Position
 in the block, number of layers and the Merkle root are printed. Compare the root
-with the block's header: the proof is worth as much as its root is trusted.",
+with the block's header: the proof is worth as much as its root is trusted. A TSC
+proof's target must hold the root if it is a root or a header; a block hash is
+compared with nothing, and a header's own hash and work are not looked at.",
         example: "    ./barrowtide prove bump bindings/rust/tests/data/004-bump.hex \\
       3ecead27a44d013ad1aae40038acbb1883ac9242406808bb4667c15b4f164eac
     ./barrowtide prove tsc bindings/rust/tests/data/000-proof.hex",

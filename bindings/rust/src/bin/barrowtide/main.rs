@@ -8,6 +8,7 @@ mod help;
 mod input;
 mod json;
 mod leaves;
+mod looks;
 mod svg;
 mod words;
 

@@ -2,9 +2,10 @@
 
 use std::fmt;
 
-use barrowtide::{Reason, Refusal, MAX_IDS, MAX_INPUT, MAX_PAGE};
+use barrowtide::{Blames, Reason, Refusal, MAX_IDS, MAX_INPUT, MAX_PAGE};
 
 use crate::json::Json;
+use crate::looks;
 
 /// A published form.
 #[derive(Clone, Copy, PartialEq, Eq)]
@@ -24,6 +25,17 @@ impl Form {
             Form::Tsc => "TSC proof",
             Form::Transaction => "transaction",
             Form::Beef => "bundle",
+        }
+    }
+
+    /// One of it, told from others of its kind.
+    pub fn one(self) -> &'static str {
+        match self {
+            Form::Bump => "a BUMP",
+            Form::Cmp => "a compound path",
+            Form::Tsc => "a TSC proof",
+            Form::Transaction => "a transaction",
+            Form::Beef => "a BEEF (BRC-62)",
         }
     }
 }
@@ -52,20 +64,22 @@ pub enum Asked {
 }
 
 impl Asked {
-    fn noun(self) -> &'static str {
+    /// The form that the input has to have.
+    fn form(self) -> Option<Form> {
         match self {
-            Asked::Read(form) | Asked::Prove(form) => form.noun(),
-            Asked::Clients | Asked::Shorter => Form::Bump.noun(),
-            Asked::Judge => Form::Beef.noun(),
-            Asked::ToBump => Form::Tsc.noun(),
-            Asked::Compare => "proof",
-            Asked::Write | Asked::Page => "list",
+            Asked::Read(form) | Asked::Prove(form) => Some(form),
+            Asked::Clients | Asked::Shorter => Some(Form::Bump),
+            Asked::Judge => Some(Form::Beef),
+            Asked::ToBump => Some(Form::Tsc),
+            Asked::Compare | Asked::Write | Asked::Page => None,
         }
     }
 
-    /// Whether the caller's own numbers and lists are to blame, not bytes that were read.
-    fn blames_caller(self) -> bool {
-        matches!(self, Asked::Write | Asked::Page)
+    fn noun(self) -> &'static str {
+        match self {
+            Asked::Compare => "proof",
+            _ => self.form().map_or("list", Form::noun),
+        }
     }
 }
 
@@ -78,22 +92,35 @@ pub struct Refused {
     pub asked: Asked,
     /// Which of two inputs it is about.
     pub which: Option<&'static str>,
+    /// What that input looks like and which form it should have, if it is of another one.
+    looks: Option<(&'static str, Form)>,
 }
 
 impl Refused {
-    /// A refusal about the only input.
+    /// A refusal about no input, or about one that is of the form asked for.
     pub fn new(refusal: Refusal, asked: Asked) -> Self {
-        Self { refusal, asked, which: None }
+        Self { refusal, asked, which: None, looks: None }
+    }
+
+    /// A refusal about an input.
+    pub fn of(data: &[u8], refusal: Refusal, asked: Asked) -> Self {
+        let looks = asked.form().and_then(|form| Some((looks::like(data, form)?, form)));
+        Self { looks, ..Self::new(refusal, asked) }
+    }
+
+    /// The same, about one of two inputs.
+    pub fn which(self, which: &'static str) -> Self {
+        Self { which: Some(which), ..self }
     }
 
     fn place(&self) -> Option<u64> {
-        let Refusal { reason, carried, .. } = self.refusal;
-        (reason.blames_place() && !self.asked.blames_caller()).then_some(carried)
+        let Refusal { blames, carried, .. } = self.refusal;
+        (blames == Blames::Place).then_some(carried)
     }
 
     fn transaction(&self) -> Option<u64> {
-        let Refusal { reason, carried, .. } = self.refusal;
-        (reason.blames_transaction() && self.asked == Asked::Judge).then_some(carried)
+        let Refusal { blames, carried, .. } = self.refusal;
+        (blames == Blames::Transaction).then_some(carried)
     }
 
     /// Layer and position of the sibling that is to blame.
@@ -104,22 +131,29 @@ impl Refused {
 
     /// What is wrong and who has to do what.
     pub fn words(&self) -> String {
+        if let Some((other, form)) = self.looks {
+            return format!(
+                "this looks like {other}. Check that it is the right file, or ask the sender for {}.",
+                form.one()
+            );
+        }
         let noun = self.asked.noun();
         let Refusal { layer, sibling, .. } = self.refusal;
         let node = format!("the node at layer {layer}, position {sibling}");
         let software = format!("The software that wrote the {noun} is at fault");
         match (self.refusal.reason, self.asked) {
             (Reason::TooLong, _) => format!(
-                "it is over {MAX_INPUT} bytes, the most that is taken. Ask the sender for a smaller \
-                 {noun}."
+                "it is over {MAX_INPUT} bytes, more than this library takes. Ask the sender for a \
+                 smaller {noun}."
             ),
             (Reason::Short, _) => format!(
                 "the bytes end inside the field that starts here. Ask the sender for the whole \
                  {noun}, and check that this is one."
             ),
-            (Reason::LongVarint, _) => {
-                format!("the number here is not in its shortest form. {software}.")
-            }
+            (Reason::LongVarint, _) => format!(
+                "the number here is not in its shortest form, and this library takes no other. Ask \
+                 the sender for a {noun} with numbers in that form."
+            ),
             (Reason::BadHeight, Asked::ToBump) => {
                 "the proof has no nodes: its transaction is alone in the block, and no BUMP can say \
                  so. Keep the TSC proof."
@@ -135,9 +169,10 @@ impl Refused {
             (Reason::OverLimit, Asked::Page) => {
                 format!("you may ask about {MAX_PAGE} ids at once, not more.")
             }
-            (Reason::OverLimit, _) => {
-                format!("the count or block height here is over its limit. {software}.")
-            }
+            (Reason::OverLimit, _) => format!(
+                "the count or block height here is more than this library takes. Ask the sender for \
+                 a smaller {noun}."
+            ),
             (Reason::BadOffset, Asked::Write) => {
                 "you chose a position outside the list; the first id has position 0.".to_string()
             }
@@ -234,6 +269,7 @@ impl Refused {
             (Reason::SameId, _) => {
                 "the two proofs agree: one id, at one position, under one root.".to_string()
             }
+            (reason, _) => format!("{}.", reason.meaning()),
         }
     }
 
@@ -272,5 +308,22 @@ impl Refused {
 impl fmt::Display for Refused {
     fn fmt(&self, f: &mut fmt::Formatter<'_>) -> fmt::Result {
         write!(f, "refused {}", self.short())
+    }
+}
+
+#[cfg(test)]
+mod tests {
+    use super::*;
+
+    /// Each reason has words of its own, though the compiler does not ask for them.
+    #[test]
+    fn every_reason() {
+        let Err(refusal) = barrowtide::read_bump(&[]) else { panic!("nothing is no BUMP") };
+        for reason in (1..).map_while(Reason::from_number) {
+            let mut refusal = refusal;
+            refusal.reason = reason;
+            let words = Refused::new(refusal, Asked::Judge).words();
+            assert_ne!(words, format!("{}.", reason.meaning()));
+        }
     }
 }
