@@ -14,6 +14,9 @@ fn text(output: &Output) -> String {
 fn install(arguments: &[&str], destination: &str) -> Output {
     let mut script = Command::new("./install");
     script.args(arguments).env("DESTDIR", destination).current_dir(TOP);
+    // The archive that the tests are linked with, whatever its age.
+    let linked = env::var_os("BARROWTIDE_LIB_DIR").unwrap_or("target/staticlib".into());
+    script.env("BARROWTIDE_LIB_DIR", linked);
     script.output().expect("the script starts")
 }
 
@@ -77,4 +80,20 @@ fn another_destination() {
         fs::read_to_string(root.join("usr/lib/pkgconfig/barrowtide.pc")).expect("a file");
     assert!(described.starts_with("prefix=/usr\n"), "{described}");
     assert_eq!(install(&[], "").status.code(), Some(2));
+}
+
+#[test]
+fn help_and_prefixes_that_are_none() {
+    let root = PathBuf::from(env!("CARGO_TARGET_TMPDIR")).join("untouched");
+    let destination = root.to_str().expect("a plain path");
+    let output = install(&["--help"], destination);
+    assert_eq!(output.status.code(), Some(0));
+    assert!(text(&output).starts_with("usage: ./install PREFIX\n"), "{}", text(&output));
+    for words in [&["-x"][..], &[""], &["/usr", "/usr"], &["/a b"], &["/a\tb"], &["/a'b"], &["/$a"]]
+    {
+        let output = install(words, destination);
+        assert_eq!((output.status.code(), text(&output)), (Some(2), String::new()), "{words:?}");
+        assert!(!output.stderr.is_empty());
+    }
+    assert!(!root.exists() && !Path::new(TOP).join("--help").exists());
 }
