@@ -702,6 +702,39 @@ fn refusals_explained() {
     assert_eq!(rows, expected);
 }
 
+/// What acceptance does not say is said in one wording, whoever reads it.
+#[test]
+fn unsaid_everywhere() {
+    let file = |path: &str| {
+        let path = format!("{}/../../{path}", env!("CARGO_MANIFEST_DIR"));
+        fs::read_to_string(path).expect("a file of the repository")
+    };
+    let heading = "What acceptance does not say";
+    let readme = file("README.md");
+    let section = readme.split(heading).nth(1).expect("the section");
+    let items: Vec<&str> =
+        section.trim_start().lines().map_while(|l| l.strip_prefix("- ")).collect();
+    assert!(items.len() > 2, "{items:?}");
+    // Words alone, whatever marks a comment or a list.
+    let words = |text: &str| -> String {
+        let word = |c: char| if c.is_alphanumeric() { c } else { ' ' };
+        text.chars().map(word).collect::<String>().split_whitespace().collect::<Vec<_>>().join(" ")
+    };
+    let list = words(&items.join(" "));
+    let said = [
+        ("include/barrowtide.h", format!("{heading} {list} Refused")),
+        ("bindings/rust/src/lib.rs", format!("{heading} {list} Cost")),
+        ("bindings/rust/src/judge.rs", format!("{heading} {list} use")),
+        ("docs/REFUSALS.md", format!("{heading} {list} Each refusal")),
+        ("docs/PROMISES.md", format!("{heading} of a bundle {list} What")),
+    ];
+    for (path, said) in said {
+        assert!(words(&file(path)).contains(&said), "{path}");
+    }
+    let help = run(&["judge", "--help"]).1;
+    assert!(words(&help).contains(&format!("{heading} {list} For example")), "{help}");
+}
+
 /// A reader that goes away is no fault; a full disk is.
 #[test]
 fn closed_output() {
