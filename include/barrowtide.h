@@ -17,14 +17,14 @@
  * Order. Of several refusals the first in this order is given:
  *   - for a page 5, then 22;
  *   - 1, then 21;
- *   - in reading, fields as they come, and on one field 2, 3, then 4, 5, 7, 10, 11, 12 or 18, then
- *     22; for an offset 2, 3, 6, 8. A TSC index is tested after the node count and before the
+ *   - in reading, fields as they come, and on one field 2, 3, then 4, 5, 7, 10, 11, 12, 18 or 25,
+ *     then 22; for an offset 2, 3, 6, 8. A TSC index is tested after the node count and before the
  *     nodes, so 5 comes before 6. A length stated in a TSC proof that leads past the input's end is
  *     2 at the transaction's start, and any other fault inside that transaction is 11. 9 is last;
  *   - in proving 13, then 14 or 15 at the lowest layer, then 16; for all clients 14 or 15 and then
  *     16 leaf by leaf;
- *   - in judging, transaction by transaction, 19, then 13, 14 or 15, 17 if it names a BUMP, and 20
- *     if not;
+ *   - in judging, transaction by transaction, 19, then 13, 14 or 15, 17 if it names a BUMP, and if
+ *     not 20, 26, 27, 28, each asked of all its inputs before the next;
  *   - in comparing the first proof's refusal, the second's, 23, 24;
  *   - of two BUMPs side by side the first one's, the second's, then 22 or 23;
  *   - in writing 5, 13, 6, 19, 15, 22;
@@ -40,7 +40,8 @@
  * and so does the room past what is written.
  *
  * Stack. As built by the kit a call needs at most
- *   - 64 KiB  barrowtide_judge_beef, barrowtide_prove_page
+ *   - 144 KiB barrowtide_judge_beef
+ *   - 64 KiB  barrowtide_prove_page
  *   - 48 KiB  barrowtide_write_bump, barrowtide_check_clients
  *   - 40 KiB  barrowtide_prove_bump, barrowtide_prove_cmp, barrowtide_compare, barrowtide_shorter,
  *             barrowtide_bump_to_tsc
@@ -70,7 +71,9 @@
  *   - all clients of a BUMP that has them in nested parts of the tree, so that no sibling is kept
  *     long enough: 142 s;
  *   - all clients of a BUMP of 36 KB that has 1,024 clients and nothing else: 0.5 s in no order,
- *     and 18 ms where offsets rise.
+ *     and 18 ms where offsets rise;
+ *   - a bundle of 16 MB whose last transaction spends 331,500 outputs of 255 others: 0.1 s in their
+ *     order, and 0.2 s in any other.
  * A caller who has less time bounds the bytes that it takes, or the transactions that name a BUMP.
  */
 #ifndef BARROWTIDE_H
@@ -93,6 +96,7 @@
 #define BARROWTIDE_MAX_BLOCK_HEIGHT 4294967295 /* a BUMP's block height */
 #define BARROWTIDE_MAX_BUMPS 64                /* BUMPs of a bundle */
 #define BARROWTIDE_MAX_TRANSACTIONS 256        /* transactions of a bundle */
+#define BARROWTIDE_MAX_TOTAL 2100000000000000  /* satoshi of a bundled transaction's outputs */
 #define BARROWTIDE_MAX_PAGE 256                /* ids of a page */
 #define BARROWTIDE_MAX_IDS 1024                /* ids of the list that a BUMP is written of */
 #define BARROWTIDE_WRITE_ROOM 36864            /* bytes that are enough for any BUMP written */
@@ -145,7 +149,13 @@ enum barrowtide_refusal {
                                      the room | 0 */
     BARROWTIDE_UNLIKE = 23,       /* two proofs differ in root, position or layers; of two BUMPs
                                      side by side only in root | 0 */
-    BARROWTIDE_SAME_ID = 24       /* two proofs agree and prove one id | 0 */
+    BARROWTIDE_SAME_ID = 24,      /* two proofs agree and prove one id | 0 */
+    BARROWTIDE_BAD_AMOUNT = 25,   /* an amount in a BEEF is above 2,100,000,000,000,000, or takes
+                                     the total of its transaction's outputs above that | field
+                                     start */
+    BARROWTIDE_NO_OUTPUT = 26,    /* an input spends an output that its parent doesn't have | tx */
+    BARROWTIDE_SPENT_TWICE = 27,  /* an output is spent twice by transactions without a BUMP | tx */
+    BARROWTIDE_TOO_LITTLE = 28    /* inputs don't come to more than outputs plus the fee | tx */
 };
 /* "tx": the number of the transaction where a BEEF is judged, and 0 from all other calls. From
    barrowtide_write_bump every refusal carries 0. */
@@ -157,7 +167,7 @@ typedef struct {
     uint64_t sibling; /* of 14 and 15 that sibling's position in its layer; else 0 */
 } barrowtide_blame;
 
-/* The name of a refusal, as "SHORT" of 2; "ACCEPTED" of 0, and "UNKNOWN" of numbers above 24. */
+/* The name of a refusal, as "SHORT" of 2; "ACCEPTED" of 0, and "UNKNOWN" of numbers above 28. */
 static inline const char *barrowtide_refusal_name(uint32_t number)
 {
     static const char *const names[] = {
@@ -166,6 +176,7 @@ static inline const char *barrowtide_refusal_name(uint32_t number)
         "BAD_VERSION", "BAD_TX",       "EMPTY",     "NOT_LISTED",  "MISSING",
         "TWIN",        "ROOTS_DIFFER", "UNTRUSTED", "BAD_INDEX",   "SAME_TX",
         "NO_PARENT",   "BAD_ROOTS",    "NO_ROOM",   "UNLIKE",      "SAME_ID",
+        "BAD_AMOUNT",  "NO_OUTPUT",    "SPENT_TWICE", "TOO_LITTLE",
     };
     return number < sizeof names / sizeof names[0] ? names[number] : "UNKNOWN";
 }
@@ -213,8 +224,9 @@ uint32_t barrowtide_read_transaction(const uint8_t *data, size_t len, barrowtide
 uint32_t barrowtide_read_tsc(const uint8_t *data, size_t len, barrowtide_blame *blame,
                              uint64_t *flags, uint64_t *index, uint64_t *nodes);
 
-/* A BEEF bundle: how many BUMPs and transactions it has.
-   Refused: 1; 2 to 8, 10 to 12 and 18 in the fields; 9. */
+/* A BEEF bundle: how many BUMPs and transactions it has. Here and in judging amounts have a limit,
+   BARROWTIDE_MAX_TOTAL for the outputs of each transaction; other readers take any amount.
+   Refused: 1; 2 to 8, 10 to 12, 18 and 25 in the fields; 9. */
 uint32_t barrowtide_read_beef(const uint8_t *data, size_t len, barrowtide_blame *blame,
                               uint64_t *bumps, uint64_t *transactions);
 
@@ -323,9 +335,8 @@ uint32_t barrowtide_shorter(const uint8_t *first, size_t first_len, const uint8_
 
 /* ---- Judging ---- */
 
-/* What an accepted bundle says of one transaction. Up to version 0.3 the last three fields were 64,
-   32 and 32 bits wide: a table that was saved then must not be read as one of these, but its bundle
-   judged anew. */
+/* What an accepted bundle says of one transaction. Records of earlier versions took 64 bytes: a
+   table that one of them saved must not be read as one of these, but its bundle judged anew. */
 typedef struct {
     uint64_t start;    /* the place of its first byte in the bundle */
     uint64_t length;   /* how many bytes it takes */
@@ -333,6 +344,8 @@ typedef struct {
     uint32_t bump;     /* the number of the BUMP that anchors it; 0 if not anchored */
     uint32_t anchored; /* 1 if a BUMP of the bundle anchors it in a trusted root, and else 0 */
     uint64_t position; /* its position in the block; 0 if not anchored */
+    uint64_t outputs;  /* how many outputs it has */
+    uint64_t total;    /* what they come to, in satoshi */
 } barrowtide_record;
 
 /* Blames, records and answers have no padding, and each field its place. */
@@ -361,32 +374,40 @@ BARROWTIDE_AT(barrowtide_answer, sibling, 24);
 BARROWTIDE_AT(barrowtide_answer, position, 32);
 BARROWTIDE_AT(barrowtide_answer, layers, 40);
 BARROWTIDE_AT(barrowtide_answer, root, 48);
-BARROWTIDE_TAKES(barrowtide_record, 64);
+BARROWTIDE_TAKES(barrowtide_record, 80);
 BARROWTIDE_AT(barrowtide_record, start, 0);
 BARROWTIDE_AT(barrowtide_record, length, 8);
 BARROWTIDE_AT(barrowtide_record, id, 16);
 BARROWTIDE_AT(barrowtide_record, bump, 48);
 BARROWTIDE_AT(barrowtide_record, anchored, 52);
 BARROWTIDE_AT(barrowtide_record, position, 56);
+BARROWTIDE_AT(barrowtide_record, outputs, 64);
+BARROWTIDE_AT(barrowtide_record, total, 72);
 #undef BARROWTIDE_TAKES
 #undef BARROWTIDE_AT
 
 /* Judges a BEEF bundle against trusted roots, which stand end to end in roots_len bytes, possibly
-   none. Every transaction must climb in its BUMP to a trusted root, or have an earlier transaction
-   of the bundle as parent of each input. The table has room for table_len records;
+   none, and a fee in satoshi. Every transaction must climb in its BUMP to a trusted root, or have
+   an earlier transaction of the bundle as parent of each input. Such a one must spend outputs that
+   its parents have, none of them twice and none that another such one before it spends, and its
+   inputs must come to more than its outputs plus the fee: strictly more, so that a fee of 0 asks
+   for one satoshi at least. The fee is asked of each of them by itself; any number may be given,
+   and nothing wraps. What a transaction with a BUMP spends is not looked at. All amounts are those
+   of the bundle's own bytes.
+   The table has room for table_len records;
    BARROWTIDE_MAX_TRANSACTIONS are always enough. On acceptance *transactions is their number n, the
    first n records are filled and the others are zeroed; a refusal zeroes the whole table.
    What acceptance does not say:
    - Scripts and signatures are not run.
-   - Amounts, output numbers and double spends are not looked at.
+   - What mined transactions spend is not looked at: a payment may spend it again.
    - Until a block holds a transaction, what it spends can still be spent elsewhere.
    - A BUMP's block height is the sender's word.
    - Which transaction is the payment, and whom it pays, is not asked.
-   Refused: 1; 21; 2 to 8, 10 to 12, 18 and 22 in the fields; 9; then transaction by transaction 19,
-   and 13, 14 or 15, 17 if it names a BUMP, or else 20. */
+   Refused: 1; 21; 2 to 8, 10 to 12, 18, 22 and 25 in the fields; 9; then transaction by transaction
+   19, and 13, 14 or 15, 17 if it names a BUMP, or else 20, 26, 27, 28. */
 uint32_t barrowtide_judge_beef(const uint8_t *data, size_t len, const uint8_t *roots,
-                               size_t roots_len, barrowtide_record *table, size_t table_len,
-                               barrowtide_blame *blame, uint64_t *transactions);
+                               size_t roots_len, uint64_t fee, barrowtide_record *table,
+                               size_t table_len, barrowtide_blame *blame, uint64_t *transactions);
 
 /* ---- Writing ---- */
 

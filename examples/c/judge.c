@@ -1,10 +1,11 @@
 /*
  * Judges a BEEF bundle against one trusted root and prints the verdict and the table.
  *
- *   judge BUNDLE ROOT
+ *   judge BUNDLE ROOT [FEE]
  *
- * BUNDLE is a file with the bundle in hex, ROOT the Merkle root in printed order. From the top of
- * the repository, after `rt staticlib barrowtide`:
+ * BUNDLE is a file with the bundle in hex, ROOT the Merkle root in printed order. Each transaction
+ * that no block holds must leave more than FEE satoshi, else more than 0. From the top of the
+ * repository, after `rt staticlib barrowtide`:
  *
  *   gcc -std=c11 -O2 -Iinclude examples/c/judge.c target/staticlib/libbarrowtide.a -o target/judge
  *   target/judge bindings/rust/tests/data/004-bundle.hex \
@@ -15,6 +16,7 @@
  *   gcc -std=c11 -O2 judge.c $(pkg-config --cflags --libs barrowtide) -o judge
  */
 #include <ctype.h>
+#include <errno.h>
 #include <stdbool.h>
 #include <stdio.h>
 #include <stdlib.h>
@@ -65,10 +67,21 @@ static bool parse_root(const char *text, uint8_t root[32])
     return true;
 }
 
+/* Reads a number of 64 bits. */
+static bool parse_fee(const char *text, uint64_t *fee)
+{
+    char *end;
+    errno = 0;
+    *fee = strtoull(text, &end, 10);
+    return isdigit((unsigned char)*text) && !*end && !errno;
+}
+
 static void print_record(uint64_t number, const barrowtide_record *record)
 {
-    printf("%3llu  start %llu  length %llu  id ", (unsigned long long)number,
-           (unsigned long long)record->start, (unsigned long long)record->length);
+    printf("%3llu  start %llu  length %llu  outputs %llu  total %llu  id ",
+           (unsigned long long)number, (unsigned long long)record->start,
+           (unsigned long long)record->length, (unsigned long long)record->outputs,
+           (unsigned long long)record->total);
     for (int i = 31; i >= 0; i--)
         printf("%02x", record->id[i]);
     if (record->anchored)
@@ -88,7 +101,7 @@ static void print_refusal(uint32_t refusal, const barrowtide_blame *blame)
     printf("\n");
 }
 
-static int judge(FILE *file, const uint8_t root[32])
+static int judge(FILE *file, const uint8_t root[32], uint64_t fee)
 {
     static uint8_t bundle[BARROWTIDE_MAX_INPUT + 1];
     static barrowtide_record table[BARROWTIDE_MAX_TRANSACTIONS];
@@ -100,8 +113,8 @@ static int judge(FILE *file, const uint8_t root[32])
     barrowtide_blame blame;
     uint64_t transactions = 0;
     uint32_t refusal =
-        barrowtide_judge_beef(bundle, len, root, 32, table, BARROWTIDE_MAX_TRANSACTIONS, &blame,
-                              &transactions);
+        barrowtide_judge_beef(bundle, len, root, 32, fee, table, BARROWTIDE_MAX_TRANSACTIONS,
+                              &blame, &transactions);
     if (refusal != BARROWTIDE_ACCEPTED) {
         print_refusal(refusal, &blame);
         return 1;
@@ -119,8 +132,10 @@ int main(int argc, char **argv)
         return 2;
     }
     uint8_t root[32];
-    if (argc != 3 || !parse_root(argv[2], root)) {
-        fprintf(stderr, "usage: judge BUNDLE ROOT\n");
+    uint64_t fee = 0;
+    if (argc < 3 || argc > 4 || !parse_root(argv[2], root) ||
+        (argc == 4 && !parse_fee(argv[3], &fee))) {
+        fprintf(stderr, "usage: judge BUNDLE ROOT [FEE]\n");
         return 2;
     }
     FILE *file = fopen(argv[1], "r");
@@ -128,7 +143,7 @@ int main(int argc, char **argv)
         perror(argv[1]);
         return 2;
     }
-    int status = judge(file, root);
+    int status = judge(file, root, fee);
     fclose(file);
     return status;
 }

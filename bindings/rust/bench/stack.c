@@ -68,8 +68,8 @@ static void shorter(void)
 }
 static void judge_beef(void)
 {
-    refusal = barrowtide_judge_beef(data, len, more, more_len, table, BARROWTIDE_MAX_TRANSACTIONS,
-                                    &blame, &a);
+    refusal = barrowtide_judge_beef(data, len, more, more_len, 0, table,
+                                    BARROWTIDE_MAX_TRANSACTIONS, &blame, &a);
 }
 static void write_bump(void)
 {

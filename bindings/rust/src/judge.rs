@@ -7,11 +7,14 @@ use crate::Hash;
 /// The greatest number of transactions in a bundle.
 pub const MAX_TRANSACTIONS: usize = 256;
 
+/// The most that the outputs of a transaction in a bundle may come to, in satoshi.
+pub const MAX_TOTAL: u64 = 2_100_000_000_000_000;
+
 /// What an accepted bundle says of one of its transactions.
 ///
-/// The layout is C's and has no padding: any 64 bytes are a record, and a zeroed one is zero byte for
-/// byte. Before version 0.4 the BUMP's number took 64 bits and the position 32: a table that was
-/// saved then is not read as one of these, its bundle is judged anew.
+/// The layout is C's and has no padding: any 80 bytes are a record, and a zeroed one is zero byte for
+/// byte. Records of earlier versions took 64 bytes: a table that one of them saved is not read as one
+/// of these, its bundle is judged anew.
 #[derive(Debug, Clone, Copy, Default, PartialEq, Eq)]
 #[repr(C)]
 pub struct Record {
@@ -27,6 +30,10 @@ pub struct Record {
     pub anchored: u32,
     /// Its position in the block; 0 if it is not anchored.
     pub position: u64,
+    /// How many outputs it has.
+    pub outputs: u64,
+    /// What they come to, in satoshi.
+    pub total: u64,
 }
 
 impl Record {
@@ -36,22 +43,29 @@ impl Record {
     }
 }
 
-/// Judges a bundle against a list of trusted roots, and fills a lent table.
+/// Judges a bundle against a list of trusted roots and a fee, and fills a lent table.
 ///
-/// The roots stand end to end in stored order, 32 bytes each. The table has room for the bundle's transactions or
+/// The roots stand end to end in stored order, 32 bytes each. The fee is as for [`judge`]. The table
+/// has room for the bundle's transactions or
 /// more ([`MAX_TRANSACTIONS`] always do). The answer is their number n: the first n records are
 /// filled, the others are zero. A refusal zeroes the whole table.
 ///
 /// ```
 /// use barrowtide::{judge_beef, Reason, Record};
 /// let mut table = [Record { length: 7, ..Record::default() }];
-/// let refusal = judge_beef(&[0x01, 0x00, 0xbe, 0xef, 0x00, 0x00], &[], &mut table).unwrap_err();
+/// let bundle = [0x01, 0x00, 0xbe, 0xef, 0x00, 0x00];
+/// let refusal = judge_beef(&bundle, &[], 0, &mut table).unwrap_err();
 /// assert_eq!((refusal.reason, refusal.carried), (Reason::Empty, 5));
 /// assert_eq!(table, [Record::default()]);
 /// ```
-pub fn judge_beef(data: &[u8], roots: &[u8], table: &mut [Record]) -> Result<u64, Refusal> {
+pub fn judge_beef(
+    data: &[u8],
+    roots: &[u8],
+    fee: u64,
+    table: &mut [Record],
+) -> Result<u64, Refusal> {
     let (mut blame, mut transactions) = (Blame::default(), 0);
-    let number = ffi::judge_beef(data, roots, table, &mut blame, &mut transactions);
+    let number = ffi::judge_beef(data, roots, fee, table, &mut blame, &mut transactions);
     answer(number, blame, transactions).map_err(Refusal::in_judging)
 }
 
@@ -63,33 +77,45 @@ pub struct Verdict {
     pub records: Vec<Record>,
 }
 
-/// Judges a bundle against trusted roots, with a table of its own.
+/// Judges a bundle against trusted roots and a fee, with a table of its own.
+///
+/// A transaction is anchored in its BUMP under a trusted root, or each of its inputs spends an output
+/// of an earlier transaction of the bundle. Of the latter no output is spent twice, and the inputs of
+/// each come to more than its outputs plus `fee`, in satoshi. That is strictly more: 0 asks that
+/// something is left, and who wants 50 at least gives 49. The fee is asked of each of them by
+/// itself, not of the bundle. What anchored transactions spend is not looked at.
 ///
 /// # What acceptance does not say
 ///
 /// - Scripts and signatures are not run.
-/// - Amounts, output numbers and double spends are not looked at.
+/// - What mined transactions spend is not looked at: a payment may spend it again.
 /// - Until a block holds a transaction, what it spends can still be spent elsewhere.
 /// - A BUMP's block height is the sender's word.
 /// - Which transaction is the payment, and whom it pays, is not asked.
 ///
 /// ```
-/// use barrowtide::{hex, judge, Hash};
+/// use barrowtide::{hex, judge, Hash, Reason};
 ///
 /// // The example bundle of BRC-62, and the Merkle root of the block that its parent is in.
 /// let bundle = hex::decode(&std::fs::read_to_string("tests/data/004-bundle.hex")?).unwrap();
 /// let root = "bb6f640cc4ee56bf38eb5a1969ac0c16caa2d3d202b22bf3735d10eec0ca6e00";
 /// let root: Hash = root.parse().unwrap();
 ///
-/// let verdict = judge(&bundle, &[root]).expect("a sound bundle");
+/// let verdict = judge(&bundle, &[root], 0).expect("a sound bundle");
 /// assert_eq!(verdict.records.len(), 2);
 /// assert_eq!((verdict.records[0].is_anchored(), verdict.records[0].position), (true, 21));
 /// assert!(!verdict.records[1].is_anchored());
+/// assert_eq!((verdict.records[0].total, verdict.records[1].total), (26_174, 26_172));
+///
+/// // The payment leaves 2 satoshi, which is more than 1.
+/// assert!(judge(&bundle, &[root], 1).is_ok());
+/// let refusal = judge(&bundle, &[root], 2).unwrap_err();
+/// assert_eq!((refusal.reason, refusal.carried), (Reason::TooLittle, 1));
 /// # Ok::<(), std::io::Error>(())
 /// ```
-pub fn judge(data: &[u8], roots: &[Hash]) -> Result<Verdict, Refusal> {
+pub fn judge(data: &[u8], roots: &[Hash], fee: u64) -> Result<Verdict, Refusal> {
     let mut records = vec![Record::default(); MAX_TRANSACTIONS];
-    let count = judge_beef(data, &Hash::end_to_end(roots), &mut records)?;
+    let count = judge_beef(data, &Hash::end_to_end(roots), fee, &mut records)?;
     records.truncate(count as usize);
     Ok(Verdict { records })
 }

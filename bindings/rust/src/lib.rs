@@ -9,7 +9,8 @@
 //! - [`prove_bump`], [`prove_cmp`], [`prove_tsc`], [`check_clients`]: the root that a proof leads to
 //! - [`prove_page`], [`prove_page_into`]: the same for many ids of one BUMP
 //! - [`compare`]: two proofs under one root that disagree on the id hold two strings of one hash
-//! - [`judge`], [`judge_beef`]: does every transaction of a BEEF bundle rest on a trusted root?
+//! - [`judge`], [`judge_beef`]: does every transaction of a BEEF bundle rest on a trusted root, and
+//!   spend what is there?
 //! - [`differences`], [`differences_into`], [`shorter`]: two BUMPs side by side
 //! - [`write_bump`], [`write_bump_into`]: the BUMP that proves some of a block's ids
 //! - [`tsc_to_bump`], [`bump_to_tsc`], and into lent room [`tsc_to_bump_into`],
@@ -22,7 +23,7 @@
 //! # What acceptance does not say
 //!
 //! - Scripts and signatures are not run.
-//! - Amounts, output numbers and double spends are not looked at.
+//! - What mined transactions spend is not looked at: a payment may spend it again.
 //! - Until a block holds a transaction, what it spends can still be spent elsewhere.
 //! - A BUMP's block height is the sender's word.
 //! - Which transaction is the payment, and whom it pays, is not asked.
@@ -78,7 +79,7 @@ pub use convert::{
 };
 pub use difference::{differences, differences_into, shorter, Difference, Side, MAX_DIFFERENCES};
 pub use hash::{join, sha256d, Hash, ParseHashError, MAX_INPUT};
-pub use judge::{judge, judge_beef, Record, Verdict, MAX_TRANSACTIONS};
+pub use judge::{judge, judge_beef, Record, Verdict, MAX_TOTAL, MAX_TRANSACTIONS};
 pub use page::{prove_page, prove_page_into, Answer, MAX_PAGE};
 pub use prove::{check_clients, prove_bump, prove_cmp, prove_tsc, Proof};
 pub use refusal::{Blames, Reason, Refusal};

@@ -58,10 +58,20 @@ pub enum Reason {
     Unlike = 23,
     /// Two proofs agree and prove one id.
     SameId = 24,
+    /// An amount in a BEEF is above [`MAX_TOTAL`](crate::MAX_TOTAL), or takes the total of its
+    /// transaction's outputs above it.
+    BadAmount = 25,
+    /// An input spends an output that its parent doesn't have.
+    NoOutput = 26,
+    /// An input spends what an earlier one spends, of the same transaction or of another that is not
+    /// anchored.
+    SpentTwice = 27,
+    /// The inputs of a transaction don't come to more than its outputs plus the fee.
+    TooLittle = 28,
 }
 
 /// Each reason with 01's name for it and its meaning, in the order of the numbers.
-const REASONS: [(Reason, &str, &str); 24] = [
+const REASONS: [(Reason, &str, &str); 28] = [
     (Reason::TooLong, "TOO_LONG", "input over its size"),
     (Reason::Short, "SHORT", "bytes end inside a field"),
     (Reason::LongVarint, "LONG_VARINT", "VarInt not in its shortest form"),
@@ -86,6 +96,10 @@ const REASONS: [(Reason, &str, &str); 24] = [
     (Reason::NoRoom, "NO_ROOM", "lent table or room too small"),
     (Reason::Unlike, "UNLIKE", "two proofs differ in root, position or layers"),
     (Reason::SameId, "SAME_ID", "two proofs agree and prove one id"),
+    (Reason::BadAmount, "BAD_AMOUNT", "amount or running total above its limit"),
+    (Reason::NoOutput, "NO_OUTPUT", "an input spends an output that is not there"),
+    (Reason::SpentTwice, "SPENT_TWICE", "an output spent twice"),
+    (Reason::TooLittle, "TOO_LITTLE", "inputs not more than outputs plus the fee"),
 ];
 
 impl Reason {
@@ -95,7 +109,7 @@ impl Reason {
     /// use barrowtide::Reason;
     /// assert_eq!(Reason::from_number(14), Some(Reason::Missing));
     /// assert_eq!(Reason::from_number(0), None);
-    /// assert_eq!(Reason::from_number(25), None);
+    /// assert_eq!(Reason::from_number(99), None);
     /// ```
     pub fn from_number(number: u32) -> Option<Self> {
         let index = usize::try_from(number).ok()?.checked_sub(1)?;
@@ -127,13 +141,13 @@ impl Reason {
     /// The others carry 0, or in a BEEF the transaction's number if they come in judging
     /// ([`Reason::blames_transaction`]).
     pub fn blames_place(self) -> bool {
-        matches!(self as u32, 2..=9 | 11 | 12 | 18 | 22)
+        matches!(self as u32, 2..=9 | 11 | 12 | 18 | 22 | 25)
     }
 
     /// Whether the refusal, given for a BEEF, carries the number of a transaction; elsewhere such
     /// a refusal carries 0.
     pub fn blames_transaction(self) -> bool {
-        matches!(self as u32, 13..=17 | 19 | 20)
+        matches!(self as u32, 13..=17 | 19 | 20 | 26..=28)
     }
 }
 
@@ -248,7 +262,7 @@ pub(crate) fn answer<T>(number: u32, blame: Blame, value: T) -> Result<T, Refusa
 /// let input = [&[0x00; 36][..], &[0x00], &[0xff; 4]].concat();
 /// let transaction = [&[1, 0, 0, 0, 1][..], &input, &[1], &[0; 8], &[0], &[0; 4]].concat();
 /// let bundle = [&[0x01, 0x00, 0xbe, 0xef, 0, 1][..], &transaction, &[0]].concat();
-/// let refusal = judge(&bundle, &[]).unwrap_err();
+/// let refusal = judge(&bundle, &[], 0).unwrap_err();
 /// let text = "refused 20 at transaction 0: an input without earlier parent (NO_PARENT)";
 /// assert_eq!(refusal.to_string(), text);
 /// ```

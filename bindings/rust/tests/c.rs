@@ -11,7 +11,7 @@ use std::process::Command;
 use barrowtide::ffi::Blame;
 use barrowtide::{Answer, Reason, Record, Version, VERSION};
 use barrowtide::{BUMP_TO_TSC_ROOM, TSC_TO_BUMP_ROOM, WRITE_ROOM};
-use barrowtide::{MAX_DIFFERENCES, MAX_IDS, MAX_INPUT, MAX_PAGE, MAX_TRANSACTIONS};
+use barrowtide::{MAX_DIFFERENCES, MAX_IDS, MAX_INPUT, MAX_PAGE, MAX_TOTAL, MAX_TRANSACTIONS};
 use published::without_sibling;
 use reference::hex::encode;
 
@@ -57,6 +57,7 @@ fn header() {
         expected += &format!("{number} {}\n", reason.name());
     }
     expected += &format!("input {MAX_INPUT}\ntransactions {MAX_TRANSACTIONS}\n");
+    expected += &format!("total {MAX_TOTAL}\n");
     expected += &format!("page {MAX_PAGE}\nids {MAX_IDS}\nwrite room {WRITE_ROOM}\n");
     expected += &format!("TSC to BUMP room {TSC_TO_BUMP_ROOM}\n");
     expected += &format!("BUMP to TSC room {BUMP_TO_TSC_ROOM}\n");
@@ -78,14 +79,25 @@ fn example() {
     let root = "bb6f640cc4ee56bf38eb5a1969ac0c16caa2d3d202b22bf3735d10eec0ca6e00";
     let bundle = file("bindings/rust/tests/data/004-bundle.hex");
     let program = build("c11", "examples/c/judge.c");
-    let judge = |bundle: &Path| run(&program, &[bundle.to_str().expect("a plain path"), root]);
-    let (status, text) = judge(&bundle);
+    let judge = |bundle: &Path, more: &[&str]| {
+        run(&program, &[&[bundle.to_str().expect("a plain path"), root], more].concat())
+    };
+    let (status, text) = judge(&bundle, &[]);
     assert_eq!(status, Some(0), "{text}");
     assert!(text.starts_with("accepted, transactions: 2\n"), "{text}");
     assert!(text.contains("anchored by BUMP 0 at position 21"), "{text}");
+    assert!(text.contains("outputs 1  total 26174"), "{text}");
+    assert_eq!(judge(&bundle, &["1"]), (Some(0), text));
+    let refused = "refused 28 TOO_LITTLE at 1\n";
+    for fee in ["2", "18446744073709551615"] {
+        assert_eq!(judge(&bundle, &[fee]), (Some(1), refused.to_string()));
+    }
+    for fee in ["", "-1", "1x", "18446744073709551616"] {
+        assert_eq!(judge(&bundle, &[fee]), (Some(2), String::new()));
+    }
 
     let other = PathBuf::from(env!("CARGO_TARGET_TMPDIR")).join("missing.hex");
     fs::write(&other, encode(&without_sibling())).expect("a file for the test");
     let refused = "refused 14 MISSING at 0, sibling 20 of layer 0\n";
-    assert_eq!(judge(&other), (Some(1), refused.to_string()));
+    assert_eq!(judge(&other, &[]), (Some(1), refused.to_string()));
 }

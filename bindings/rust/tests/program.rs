@@ -86,10 +86,10 @@ fn cannot_use(arguments: &[&str], text: &str) {
 }
 
 const JUDGED: &str = "\
-accepted: each transaction is mined under a trusted root or spends only earlier ones of the bundle; 2 transactions
-  no     start    length  anchored  bump    position  id
-   0       291       192  yes          0          21  3ecead27a44d013ad1aae40038acbb1883ac9242406808bb4667c15b4f164eac
-   1       485       191  no           -           -  157428aee67d11123203735e4c540fa1bdab3b36d5882c6f8c5ff79f07d20d1c
+accepted: each transaction is mined under a trusted root or spends what earlier ones of the bundle pay, once, and leaves more than the fee; 2 transactions
+  no     start    length  anchored  bump    position  outputs             total  id
+   0       291       192  yes          0          21        1             26174  3ecead27a44d013ad1aae40038acbb1883ac9242406808bb4667c15b4f164eac
+   1       485       191  no           -           -        1             26172  157428aee67d11123203735e4c540fa1bdab3b36d5882c6f8c5ff79f07d20d1c
 ";
 
 #[test]
@@ -130,11 +130,75 @@ fn judge() {
          version. Ask the sender for one.",
     );
 
-    cannot_use(&["judge"], "usage: barrowtide judge BEEF ROOTS");
+    cannot_use(&["judge"], "usage: barrowtide judge BEEF ROOTS [--fee N]");
     cannot_use(&["judge", "no such file", "004-roots.txt"], "no such file: ");
     cannot_use(&["judge", "004-bundle.hex", "004-bundle.hex"], "line 1: not 64 hex digits");
     cannot_use(&["judge", "004-roots.txt", "004-roots.txt"], "text that is not hex: '#'");
     cannot_use(&["judge", "-", "-"], "standard input can be read once");
+}
+
+/// Fields of the second transaction of 004's bundle: its count of inputs, then the only one, of which
+/// the output number starts at OUTPUT, and the amount of its output.
+const INPUTS: usize = 489;
+const OUTPUT: usize = 522;
+const AMOUNT: usize = 638;
+
+/// 004's bundle with other bytes from a place on.
+fn changed(name: &str, at: usize, bytes: &[u8]) -> String {
+    let mut bundle = data("004-bundle.hex");
+    bundle[at..at + bytes.len()].copy_from_slice(bytes);
+    file(name, bundle)
+}
+
+#[test]
+fn judge_amounts() {
+    let judge = |words: &[&'static str]| {
+        [&["judge", "004-bundle.hex", "004-roots.txt"][..], words].concat()
+    };
+    for fee in ["0", "1"] {
+        accepts(&judge(&["--fee", fee]), JUDGED);
+    }
+    accepts(&["judge", "--fee", "1", "004-bundle.hex", "004-roots.txt"], JUDGED);
+    let too_little = "refused 28 TOO_LITTLE at transaction 1: what it spends is not more than what \
+         it pays out and the fee that you ask for. Ask the sender for a payment that leaves more, or \
+         ask for a smaller fee.";
+    for fee in ["2", "18446744073709551615"] {
+        refuses(&judge(&["--fee", fee]), too_little);
+    }
+    let (status, text, _) = run(&judge(&["--json", "--fee", "2"]));
+    let start = "{\"accepted\":false,\"refusal\":{\"number\":28,\"name\":\"TOO_LITTLE\",\
+         \"input\":null,\"place\":null,\"transaction\":1,";
+    assert!(text.starts_with(start), "{text}");
+    assert_eq!(status, Some(1));
+
+    refuses(
+        &["judge", &changed("amount.beef", AMOUNT + 7, &[1]), "004-roots.txt"],
+        "refused 25 BAD_AMOUNT at byte 638: the amount here is over 2100000000000000 satoshi, or \
+         brings the outputs of its transaction over that, which is more than there is. The software \
+         that wrote the bundle is at fault.",
+    );
+    let (_, text, _) = run(&["list", "beef", &changed("list.beef", AMOUNT + 7, &[1])]);
+    assert!(text.starts_with("refused 25 BAD_AMOUNT at byte 638: "), "{text}");
+    refuses(
+        &["judge", &changed("output.beef", OUTPUT, &[1]), "004-roots.txt"],
+        "refused 26 NO_OUTPUT at transaction 1: it spends an output that its parent does not have. \
+         Don't accept the payment; ask the sender for one that spends what is there.",
+    );
+    let mut twice = data("004-bundle.hex");
+    let input = twice[INPUTS + 1..AMOUNT - 1].to_vec();
+    twice[INPUTS] = 2;
+    twice.splice(INPUTS + 1..INPUTS + 1, input);
+    refuses(
+        &["judge", &file("twice.beef", twice), "004-roots.txt"],
+        "refused 27 SPENT_TWICE at transaction 1: it spends an output that was spent already, by \
+         itself or by an earlier transaction of the bundle. Don't accept the payment; the sender \
+         must leave one of the two out.",
+    );
+    cannot_use(&judge(&["--fee"]), "usage: barrowtide judge BEEF ROOTS [--fee N]");
+    cannot_use(&judge(&["--fee", "1", "--fee", "1"]), "usage: barrowtide judge");
+    cannot_use(&judge(&["--fee", "much"]), "not a fee: much");
+    cannot_use(&judge(&["--fee", "-1"]), "no option -1");
+    cannot_use(&["list", "--fee", "1"], "no option --fee");
 }
 
 #[test]
@@ -143,10 +207,10 @@ fn judge_for_scripts() {
     let expected = "{\"accepted\":true,\"transactions\":[\
          {\"start\":291,\"length\":192,\
          \"id\":\"3ecead27a44d013ad1aae40038acbb1883ac9242406808bb4667c15b4f164eac\",\
-         \"anchored\":true,\"bump\":0,\"position\":21},\
+         \"anchored\":true,\"bump\":0,\"position\":21,\"outputs\":1,\"total\":26174},\
          {\"start\":485,\"length\":191,\
          \"id\":\"157428aee67d11123203735e4c540fa1bdab3b36d5882c6f8c5ff79f07d20d1c\",\
-         \"anchored\":false,\"bump\":null,\"position\":null}]}\n";
+         \"anchored\":false,\"bump\":null,\"position\":null,\"outputs\":1,\"total\":26172}]}\n";
     assert_eq!((status, text.as_str(), error.as_str()), (Some(0), expected, ""));
     let gap = file("gap-json.beef", without_sibling());
     let (status, text, _) = run(&["judge", &gap, "004-roots.txt", "--json"]);

@@ -164,6 +164,46 @@ fn beef_examples() {
     assert_eq!(with("01 00 be ef 01 00 01 00 01 SMALL 01 fd 00 00"), refused(3, 70));
 }
 
+/// Only a bundle has a limit for amounts, anchored transactions included: 25 at the amount, after 2
+/// there and before anything later.
+#[test]
+fn amount_examples() {
+    let inputs = "01 00 00 00 01 [aa] 00 00 00 00 00 ff{4}";
+    // 2,100,000,000,000,000 and one more.
+    let (most, more) = ("00 40 07 5a f0 75 07 00", "01 40 07 5a f0 75 07 00");
+    for (outputs, answer) in [
+        ("01 MOST 00 00{4}", Ok(1)),
+        ("02 MOST 00 00{8} 00 00{4}", Ok(2)),
+        ("02 MOST 00 01 00{7} 00 00{4}", Err(62)),
+        ("01 MORE 00 00{4}", Err(53)),
+        ("01 ff{8} 00 00{4}", Err(53)),
+        ("03 ff{8} 00 01 00{7} 00 00{8} 00 00{4}", Err(53)),
+        ("02 01 00{7} 00 MOST 00 00{4}", Err(62)),
+        // Nothing after the amount is looked at.
+        ("01 MORE", Err(53)),
+        ("01 MORE fd 00 00", Err(53)),
+    ] {
+        let text = outputs.replace("MOST", most).replace("MORE", more);
+        let transaction = format!("{inputs} {text}");
+        let length = expand(&transaction).len();
+        let whole = outputs.ends_with("00{4}");
+        for (head, foot) in [("01 00 be ef 00 01", "00"), ("01 00 be ef 01 00 01 00 01", "01 00")] {
+            let shift = expand(head).len() as u64 - 6;
+            let bundle = expand(&format!("{head} {transaction} {foot}"));
+            let told = check_beef(&bundle).map(|_| ()).map_err(|told| (told.number, told.carried));
+            assert_eq!(told, answer.map(|_| ()).map_err(|place| (25, place + shift)), "{outputs}");
+        }
+        if whole {
+            let read = check_transaction(&expand(&transaction)).expect("a sound transaction");
+            assert_eq!(answer.unwrap_or(read.outputs), read.outputs);
+            let proof = format!("05 00 {length:02x} {transaction} [bb] 00");
+            assert!(check_tsc(&expand(&proof)).is_ok(), "{outputs}");
+        }
+    }
+    let cut = format!("01 00 be ef 00 01 {inputs} 01 ff{{7}}");
+    assert_eq!(check_beef(&expand(&cut)), refused(2, 53));
+}
+
 /// 004's bundle and its transactions, and 000's proof.
 #[test]
 fn published_inputs() {
@@ -236,7 +276,7 @@ fn damaged_fields() {
         });
         versions.for_each(|other| assert_eq!(check_beef(&other), refused(10, 0)));
     }
-    tally.assert_met(&[0, 2, 3, 4, 5, 6, 7, 8, 9, 10, 11, 12, 18]);
+    tally.assert_met(&[0, 2, 3, 4, 5, 6, 7, 8, 9, 10, 11, 12, 18, 25]);
 }
 
 #[test]
@@ -272,12 +312,13 @@ fn random_damage() {
 fn full_bundles() {
     let mut random = Random::of("full_bundles");
     let bump = path::Plan { block_height: 0, levels: vec![Vec::new()] };
-    let entry = (raw::Plan::random(&mut random), Some(0));
+    let entry = (raw::Plan::mined(&mut random), Some(0));
     for (bumps, transactions, number) in [(64, 256, 0), (65, 1, 5), (1, 257, 5), (64, 1, 0)] {
         let plan = bundle::Plan {
             bumps: vec![bump.clone(); bumps],
             entries: vec![entry.clone(); transactions],
             roots: Vec::new(),
+            fee: 0,
         };
         let answer = check_beef(&plan.draft().bytes);
         assert_eq!(answer.map_or_else(|refusal| refusal.number, |_| 0), number);

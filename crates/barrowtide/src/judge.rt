@@ -30,16 +30,17 @@ fn tell(verdict: Verdict, blame: &mut [u64; 3], transactions: &mut u64) -> u32
 pub extern "C" fn barrowtide_judge_beef(
     message: &[u8],
     roots: &[u8],
+    fee: u64,
     table: &mut [Record],
     blame: &mut [u64; 3],
     transactions: &mut u64,
 ) -> u32
-    ensures { λ r. ⌜ (let v = judgeBeef (now (message .entry)) (now (roots .entry)) (length (now (table .entry))) in
+    ensures { λ r. ⌜ (let v = judgeBeef (now (message .entry)) (now (roots .entry)) fee (length (now (table .entry))) in
         (r ≡ I.refusal v)
         × (now (table .exit) ≡ tableOf v (length (now (table .entry))))
         × (now (blame .exit) ≡ I.blame v (now (blame .entry)))
         × (now (transactions .exit) ≡ I.taken length v (now (transactions .entry)))) ⌝ }
 {
-    let verdict = bundle::judge_beef(message, roots, table);
+    let verdict = bundle::judge_beef(message, roots, fee, table);
     tell(verdict, blame, transactions)
 }

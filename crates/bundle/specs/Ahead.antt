@@ -1,10 +1,12 @@
 -- The ids of the transactions ahead of a place, as the code makes them four at a time.
-use Prim.Native.Nat.{ℕ, zero, suc, _+_, _≤_, _<_}
+use Prim.Native.Nat.{ℕ, zero, suc, _+_, _*_, _/_, _≤_, _<_}
 use mathlib.Core.Path.{_≡_}
 use mathlib.Core.Bool.{Bool}
 use mathlib.Core.List.{List}
 use lib.ListN.{length}
 use Rattle.format.specs.declared.beef.EntryHead.{EntryHead}
+use Rattle.format.specs.Bytes.{setHash}
+use Rattle.format.specs.Search.{hashAt}
 use Rattle.format.specs.Parse.{Parse, pick, otherwise, each}
 use Rattle.format.specs.Beef.{entryField}
 use Rattle.format.specs.BeefAnswer.{entryHeadOf}
@@ -40,12 +42,24 @@ spanFrom count s at more m = pick more (spanAt count s at m) noSpan
 abbrev pub Reaches : ℕ → List ℕ → ℕ → Bool → Span → ℕ → Bool → Type 0
 Reaches count s at more x next onward = (x ≡ spanFrom count s at more 0) × ((m : ℕ) → spanFrom count s next onward m ≡ spanFrom count s at more (suc m))
 
+-- four steps
+abbrev pub ReachesFour : ℕ → List ℕ → ℕ → Bool → Spans → ℕ → Bool → Type 0
+ReachesFour count s at more x next onward = ((l : ℕ) → l < 4 → span l x ≡ spanFrom count s at more l) × ((m : ℕ) → spanFrom count s next onward m ≡ spanFrom count s at more (suc (suc (suc (suc m)))))
+
+-- after i steps from a place: from where the ones to come are read
+unfoldable pub Onward : ℕ → List ℕ → ℕ → ℕ → ℕ → Bool → Type 0
+Onward count s at i next more = (m : ℕ) → spanFrom count s next more m ≡ spanAt count s at (i + m)
+
 unfoldable pub spanId : List ℕ → Span → List ℕ
 spanId s x = spanHash s (x .start) (x .end)
 
 abbrev pub Inside : List ℕ → Span → Type 0
 Inside s x = (x .start ≤ x .end) × (x .end ≤ length s)
 
--- from lane k on stand the ids of the transactions from a place on
-unfoldable pub Ahead : ℕ → List ℕ → ℕ → ℕ → Nodes → Type 0
-Ahead count s at k four = (m : ℕ) → k + m < 4 → L.node (k + m) four ≡ spanId s (spanAt count s at m)
+-- four hashes end to end, from the i-th on
+unfoldable pub setFour : List ℕ → ℕ → Nodes → List ℕ
+setFour ids i four = setHash (setHash (setHash (setHash ids i (four .a)) (i + 1) (four .b)) (i + 2) (four .c)) (i + 3) (four .d)
+
+-- the ids of n transactions from a place on stand end to end, as far as there is room
+unfoldable pub IdsFrom : ℕ → List ℕ → ℕ → ℕ → List ℕ → Type 0
+IdsFrom count s at n ids = (k : ℕ) → k < n → k < length ids / 32 → hashAt ids (32 * k) ≡ spanId s (spanAt count s at k)

@@ -1,28 +1,32 @@
 -- Laws of the ids ahead of a place.
-use Prim.Native.Nat.{ℕ, zero, suc, _+_, _-_, _%_, _<_}
-use mathlib.Core.Path.{_≡_, refl, sym, ap, subst, _∙_}
+use Prim.Native.Nat.{ℕ, zero, suc, _+_, _-_, _*_, _/_, _<_, _≤_}
+use mathlib.Core.Path.{_≡_, refl, sym, ap, _∙_}
 use mathlib.Core.Bool.{Bool, true, false}
 use mathlib.Core.List.{List}
-use native.Mathlib.Nat.{add-zero}
+use native.Mathlib.Nat.{zero-add}
 use native.Mathlib.Omega.{arith}
-use lib.ListN.{take, drop}
+use lib.Dec.{ltb}
+use lib.ListN.{length, take, drop}
+use lib.Seq.{paste, length-paste}
+use borrow.Author.Count.{below-more}
+use borrow.Author.Tests.{ltb-true, ltb-false}
 use Rattle.hash.specs.Sha256.{hashed}
 use Rattle.format.specs.declared.beef.EntryHead.{EntryHead}
 use Rattle.format.specs.Parse.{got, bad}
+use Rattle.format.specs.Bytes.{setHash}
+use Rattle.format.specs.BytesLaws.{set-inside, set-outside}
+use Rattle.format.specs.Search.{hashAt}
 use Rattle.format.specs.Id.{spanHash}
-use Rattle.format.specs.IdLaws.{span-inside}
+use Rattle.format.specs.IdLaws.{span-inside, span-length}
+use Rattle.spv.specs.KeptLaws.{stored-here, stored-other}
 use Rattle.lanes.specs.Lanes as L
 use Rattle.lanes.specs.declared.Nodes.{Nodes}
 use Rattle.bundle.specs.declared.ids.Span.{Span}
 use Rattle.bundle.specs.declared.ids.Spans.{Spans}
 use Rattle.bundle.specs.BundleHeads.{headId}
-use Rattle.bundle.specs.Ahead.{noSpan, spanOf, span, entryAt, spanAt, spanFrom, spanId, Reaches, Inside, Ahead}
+use Rattle.bundle.specs.Ahead.{noSpan, spanOf, span, entryAt, spanAt, spanFrom, spanId, Reaches, ReachesFour, Onward, Inside, setFour, IdsFrom}
 
 module _ (count : ℕ) (s : List ℕ) (at : ℕ) where
-  pub from-none : (m : ℕ) → spanFrom count s at false m ≡ noSpan
-  unfolding spanFrom
-  from-none m = refl
-
   pub from-more : (m : ℕ) → spanFrom count s at true m ≡ spanAt count s at m
   unfolding spanFrom
   from-more m = refl
@@ -42,22 +46,6 @@ module _ (count : ℕ) (s : List ℕ) (at : ℕ) where
     unfolding spanAt
     later-at m = rw read
 
-    -- the id in lane k is that of the transaction at the place
-    pub ahead-here : (k : ℕ) (four : Nodes) → k < 4 → Ahead count s at k four → L.node k four ≡ headId s e
-    unfolding Ahead spanId spanOf
-    ahead-here k four b a = subst (λ (j : ℕ). L.node j four ≡ spanId s (spanAt count s at 0)) (add-zero k) (a 0 (omega arith)) ∙ ap (spanId s) first-at
-
-    -- the ones after it stand in the lanes after it
-    pub ahead-on : (k : ℕ) (four : Nodes) → Ahead count s at k four → Ahead count s next (k + 1) four
-    unfolding Ahead
-    ahead-on k four a m b =
-        let n : k + suc m ≡ k + 1 + m = omega arith in
-        subst (λ (j : ℕ). L.node j four ≡ spanId s (spanAt count s next m)) n (a (suc m) (omega arith) ∙ ap (spanId s) (later-at m))
-
-    -- the same of a loop that has passed i of them
-    pub ahead-next : (i : ℕ) (four : Nodes) → Ahead count s at (i % 4) four → ((i + 1) % 4 ≡ 0 → ⊥) → Ahead count s next ((i + 1) % 4) four
-    ahead-next i four a ne = let n : i % 4 + 1 ≡ (i + 1) % 4 = omega arith in subst (λ (k : ℕ). Ahead count s next k four) n (ahead-on (i % 4) four a)
-
 -- what is reached from a place
 module _ (count : ℕ) (s : List ℕ) (at : ℕ) where
   pub reached-none : (more : Bool) (x : Span) (next : ℕ) (onward : Bool) → more ≡ false → x ≡ noSpan → onward ≡ false → Reaches count s at more x next onward
@@ -75,22 +63,15 @@ module _ (count : ℕ) (s : List ℕ) (at : ℕ) where
   unfolding spanFrom
   reached-got g = (sym (first-at count s at g), λ m. sym (later-at count s at g m))
 
--- ids at the places ahead
-pub ahead-made : (count : ℕ) (s : List ℕ) (at k : ℕ) → k ≡ 0 → (x : Spans) (four : Nodes) → ((l : ℕ) → l < 4 → span l x ≡ spanFrom count s at true l) → ((l : ℕ) → L.node l four ≡ spanId s (span l x)) → Ahead count s at k four
-unfolding Ahead
-ahead-made count s at k z x four e f m b =
-    let n : k + m ≡ m = omega arith in
-    ap (λ (l : ℕ). L.node l four) n ∙ f m ∙ ap (spanId s) (e m (omega arith) ∙ from-more count s at m)
-
 -- four places, each from where the one before was read
-pub spans-made : (count : ℕ) (s : List ℕ) (at : ℕ) (a b c d : Span) → a ≡ spanFrom count s at true 0 → b ≡ spanFrom count s at true 1 → c ≡ spanFrom count s at true 2 → d ≡ spanFrom count s at true 3
-    → (l : ℕ) → l < 4 → span l (record { a = a; b = b; c = c; d = d }) ≡ spanFrom count s at true l
+pub spans-made : (count : ℕ) (s : List ℕ) (at : ℕ) (more : Bool) (a b c d : Span) → a ≡ spanFrom count s at more 0 → b ≡ spanFrom count s at more 1 → c ≡ spanFrom count s at more 2 → d ≡ spanFrom count s at more 3
+    → (l : ℕ) → l < 4 → span l (record { a = a; b = b; c = c; d = d }) ≡ spanFrom count s at more l
 unfolding span L.inLane
-spans-made count s at a b c d ea eb ec ed zero h = ea
-spans-made count s at a b c d ea eb ec ed (suc zero) h = eb
-spans-made count s at a b c d ea eb ec ed (suc (suc zero)) h = ec
-spans-made count s at a b c d ea eb ec ed (suc (suc (suc zero))) h = ed
-spans-made count s at a b c d ea eb ec ed (suc (suc (suc (suc l)))) h = absurd (omega arith)
+spans-made count s at more a b c d ea eb ec ed zero h = ea
+spans-made count s at more a b c d ea eb ec ed (suc zero) h = eb
+spans-made count s at more a b c d ea eb ec ed (suc (suc zero)) h = ec
+spans-made count s at more a b c d ea eb ec ed (suc (suc (suc zero))) h = ed
+spans-made count s at more a b c d ea eb ec ed (suc (suc (suc (suc l)))) h = absurd (omega arith)
 
 -- ids made at these places one by one
 pub ids-made : (s : List ℕ) (x : Spans) (a b c d : List ℕ) → a ≡ spanHash s (x .a .start) (x .a .end) → b ≡ spanHash s (x .b .start) (x .b .end) → c ≡ spanHash s (x .c .start) (x .c .end) → d ≡ spanHash s (x .d .start) (x .d .end)
@@ -113,23 +94,74 @@ four-made s x four a b c d e (suc zero) = e 1 ∙ sym (span-inside s (x .b .star
 four-made s x four a b c d e (suc (suc zero)) = e 2 ∙ sym (span-inside s (x .c .start) (x .c .end) (c .0) (c .1))
 four-made s x four a b c d e (suc (suc (suc l))) = e (suc (suc (suc l))) ∙ sym (span-inside s (x .d .start) (x .d .end) (d .0) (d .1))
 
--- the hash in lane k
-module _ (k : ℕ) (four : Nodes) where
-  pub in-first : k ≡ 0 → four .a ≡ L.node k four
-  unfolding L.node L.inLane
-  in-first e = rw e
+-- ---- the ids end to end
 
-  pub in-second : k ≡ 1 → four .b ≡ L.node k four
-  unfolding L.node L.inLane
-  in-second e = rw e
+module _ (count : ℕ) (s : List ℕ) (at : ℕ) where
+  pub onward-start : Onward count s at 0 at true
+  unfolding Onward
+  onward-start m = from-more count s at m ∙ ap (spanAt count s at) (sym (zero-add m))
 
-  pub in-third : k ≡ 2 → four .c ≡ L.node k four
-  unfolding L.node L.inLane
-  in-third e = rw e
+  pub onward-four : (i p q : ℕ) (more onward : Bool) (x : Spans) → Onward count s at i p more → ReachesFour count s p more x q onward → Onward count s at (i + 4) q onward
+  unfolding Onward
+  onward-four i p q more onward x o r m = let n : i + suc (suc (suc (suc m))) ≡ i + 4 + m = omega arith in r .1 m ∙ o (suc (suc (suc (suc m)))) ∙ ap (spanAt count s at) n
 
-pub in-fourth : (k : ℕ) (four : Nodes) → (k ≡ 0 → ⊥) → (k ≡ 1 → ⊥) → (k ≡ 2 → ⊥) → four .d ≡ L.node k four
-unfolding L.node L.inLane
-in-fourth zero four p q r = absurd (p refl)
-in-fourth (suc zero) four p q r = absurd (q refl)
-in-fourth (suc (suc zero)) four p q r = absurd (r refl)
-in-fourth (suc (suc (suc k))) four p q r = refl
+  -- the one that is read next is the i-th, and the others come after it
+  module _ (i p : ℕ) {q : ℕ} {e : EntryHead} (o : Onward count s at i p true) (read : entryAt count s p ≡ got e q) where
+    onward-here : spanId s (spanAt count s at i) ≡ headId s e
+    unfolding Onward spanId spanOf
+    onward-here = let n : i + 0 ≡ i = omega arith in ap (spanId s) (ap (spanAt count s at) (sym n) ∙ sym (o 0) ∙ from-more count s p 0 ∙ first-at count s p read)
+
+    pub onward-one : Onward count s at (i + 1) q true
+    unfolding Onward
+    onward-one m = let n : i + suc m ≡ i + 1 + m = omega arith in from-more count s q m ∙ sym (later-at count s p read m) ∙ sym (from-more count s p (suc m)) ∙ o (suc m) ∙ ap (spanAt count s at) n
+
+    pub id-here : (n : ℕ) (ids : List ℕ) → IdsFrom count s at n ids → i < n → i < length ids / 32 → hashAt ids (32 * i) ≡ headId s e
+    unfolding IdsFrom
+    id-here n ids made low room = made i low room ∙ onward-here
+
+  pub ids-none : (ids : List ℕ) → IdsFrom count s at 0 ids
+  unfolding IdsFrom
+  ids-none ids k low room = absurd (omega arith)
+
+  pub ids-enough : {n i : ℕ} (ids : List ℕ) → n ≤ i → IdsFrom count s at i ids → IdsFrom count s at n ids
+  unfolding IdsFrom
+  ids-enough ids past made k low room = made k (omega arith) room
+
+  -- one more
+  ids-one : (ids x : List ℕ) (i : ℕ) → IdsFrom count s at i ids → x ≡ spanId s (spanAt count s at i) → IdsFrom count s at (i + 1) (setHash ids i x)
+  unfolding IdsFrom spanId
+  ids-one ids x i made e = go (ltb i (length ids / 32)) refl
+    where
+      long : length x ≡ 32
+      long = ap length e ∙ span-length s _ _
+
+      go : (t : Bool) → ltb i (length ids / 32) ≡ t → IdsFrom count s at (i + 1) (setHash ids i x)
+      go true q =
+          let low : i < length ids / 32 = ltb-true i (length ids / 32) q in
+          let inside : 32 * i + 32 ≤ length ids = omega arith in
+          let whole : 32 ≤ length x = omega (arith, long) in
+          rw (set-inside ids i x low, length-paste ids (32 * i) x 32 inside whole)
+          (below-more (λ (k : ℕ). k < length ids / 32 → hashAt (paste ids (32 * i) x 32) (32 * k) ≡ spanId s (spanAt count s at k)) i
+          (λ k h room. stored-other ids x i long inside k (λ d. omega arith) ∙ made k h room)
+          (λ room. stored-here ids x i long inside ∙ e))
+      go false q = let past = ltb-false i (length ids / 32) q in rw (set-outside ids i x past) (λ k h room. made k (omega arith) room)
+
+  -- four more, in lanes
+  pub ids-four : (ids : List ℕ) (i p q : ℕ) (more onward : Bool) (x : Spans) (four : Nodes) → IdsFrom count s at i ids → Onward count s at i p more → ReachesFour count s p more x q onward
+      → ((l : ℕ) → L.node l four ≡ spanId s (span l x)) → IdsFrom count s at (i + 4) (setFour ids i four)
+  unfolding setFour L.node L.inLane Onward
+  ids-four ids i p q more onward x four made o r f =
+      let is : (l : ℕ) → l < 4 → L.node l four ≡ spanId s (spanAt count s at (i + l)) = λ l h. f l ∙ ap (spanId s) (r .0 l h ∙ o l) in
+      let one : List ℕ = setHash ids i (four .a) in
+      let two : List ℕ = setHash one (i + 1) (four .b) in
+      let three : List ℕ = setHash two (i + 2) (four .c) in
+      let n0 : i + 0 ≡ i = omega arith in
+      let n2 : i + 1 + 1 ≡ i + 2 = omega arith in
+      let n3 : i + 2 + 1 ≡ i + 3 = omega arith in
+      let n4 : i + 3 + 1 ≡ i + 4 = omega arith in
+      let a = is 0 (omega arith) in
+      let first = ids-one ids (four .a) i made (rw n0 at a) in
+      let second = ids-one one (four .b) (i + 1) first (is 1 (omega arith)) in
+      let third = ids-one two (four .c) (i + 2) (rw n2 at second) (is 2 (omega arith)) in
+      let fourth = ids-one three (four .d) (i + 3) (rw n3 at third) (is 3 (omega arith)) in
+      rw n4 at fourth

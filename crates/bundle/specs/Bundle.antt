@@ -1,4 +1,4 @@
--- The bundle rule (01, "The bundle rule").
+-- The bundle rule (01, "The bundle rule"; 02, Item 9).
 use Prim.Native.Nat.{ℕ, _-_, _%_}
 use mathlib.Core.Bool.{Bool, true, _&&_}
 use mathlib.Core.List.{List, [], _∷_, _++_}
@@ -24,6 +24,7 @@ use Rattle.spv.specs.Compare.{Proof, prove}
 use Rattle.spv.specs.Readings.{levelsReading}
 use Rattle.spv.specs.Hashes.{hashesOf, among}
 use Rattle.bundle.specs.Table.{blankRecord}
+use Rattle.bundle.specs.Amounts.{Payment, paymentOf, idsOf, total, funded}
 
 -- each input has its parent among the ids
 unfoldable pub rests : List ℕ → List (List ℕ) → List Input → Bool
@@ -49,20 +50,34 @@ nthBump bumps n = getD bumps n emptyBump
 abbrev pub entryId : List ℕ → Entry → List ℕ
 entryId s e = txid s (e .transaction)
 
-module _ (s roots : List ℕ) (bumps : List Bump) where
-  -- "Any other must have, for each input, an earlier transaction with the parent's id"
-  unfoldable pub anchoring : List (List ℕ) → Entry → Anchor → Standing
-  anchoring earlier e (InBump n) = trusted roots n (proving s (nthBump bumps n) (entryId s e))
-  anchoring earlier e Unanchored = pick (rests s earlier (e .transaction .inputs)) (Passes 0 0 0) (Refuses (carrying NO-PARENT 0))
+-- one that is not anchored, as 26, 27 and 28 say
+abbrev pub standingOf : Result (Unit {0}) → Standing
+standingOf (refused why) = Refuses why
+standingOf (accepted u) = Passes 0 0 0
 
-  -- 19, then 13, 14 or 15, 17, or 20
-  unfoldable pub standing : List (List ℕ) → Entry → Standing
-  standing earlier e = pick (among (entryId s e) earlier) (Refuses (carrying SAME-TX 0)) (anchoring earlier e (e .anchor))
+module _ (s roots : List ℕ) (fee : ℕ) (bumps : List Bump) where
+  -- "Any other must have, for each input, an earlier transaction with the parent's id"; then 26, 27 and 28
+  unfoldable pub anchoring : List Payment → Entry → Anchor → Standing
+  anchoring earlier e (InBump n) = trusted roots n (proving s (nthBump bumps n) (entryId s e))
+  anchoring earlier e Unanchored = pick (rests s (idsOf earlier) (e .transaction .inputs)) (standingOf (funded fee earlier (paymentOf s e))) (Refuses (carrying NO-PARENT 0))
+
+  -- 19, then 13, 14 or 15, 17, or 20, 26, 27, 28
+  unfoldable pub standing : List Payment → Entry → Standing
+  standing earlier e = pick (among (entryId s e) (idsOf earlier)) (Refuses (carrying SAME-TX 0)) (anchoring earlier e (e .anchor))
 
 -- the record of a transaction
 unfoldable pub entryRow : List ℕ → Entry → ℕ → ℕ → ℕ → Record
 entryRow s e a n i =
-    record { start = e .transaction .start; length = e .transaction .end - e .transaction .start; id = entryId s e; anchored = a; bump = n; position = i }
+    record {
+      start = e .transaction .start;
+      length = e .transaction .end - e .transaction .start;
+      id = entryId s e;
+      anchored = a;
+      bump = n;
+      position = i;
+      outputs = length (e .transaction .outputs);
+      total = total (e .transaction .outputs);
+    }
 
 -- what judging comes to: a record for each transaction
 abbrev pub Judgement : Type 0
@@ -72,27 +87,27 @@ unfoldable pub ahead : Record → Judgement → Judgement
 ahead r (refused why) = refused why
 ahead r (accepted l) = accepted (r ∷ l)
 
--- "transactions are judged from the first"; a refusal carries the transaction's number, counted from 0
-module _ {A : Type 0} (id : A → List ℕ) (stands : List (List ℕ) → A → Standing) (row : A → ℕ → ℕ → ℕ → Record) where
-  unfoldable pub judgeFrom : List (List ℕ) → List A → Judgement
+-- "transactions are judged from the first", each after what is known of the earlier ones; a refusal carries the transaction's number, counted from 0
+module _ {A B : Type 0} (known : A → B) (stands : List B → A → Standing) (row : A → ℕ → ℕ → ℕ → Record) where
+  unfoldable pub judgeFrom : List B → List A → Judgement
   judgeFrom earlier [] = accepted []
   judgeFrom earlier (x ∷ l) =
       elim (stands earlier x)
-      [ Refuses why ↦ refused (blaming (length earlier) why) | Passes a n i ↦ ahead (row x a n i) (judgeFrom (earlier ++ (id x ∷ [])) l) ]
+      [ Refuses why ↦ refused (blaming (length earlier) why) | Passes a n i ↦ ahead (row x a n i) (judgeFrom (earlier ++ (known x ∷ [])) l) ]
 
-unfoldable pub judgeEntries : List ℕ → List ℕ → Beef → Judgement
-judgeEntries s roots b = judgeFrom (entryId s) (standing s roots (b .bumps)) (entryRow s) [] (b .entries)
+unfoldable pub judgeEntries : List ℕ → List ℕ → ℕ → Beef → Judgement
+judgeEntries s roots fee b = judgeFrom (paymentOf s) (standing s roots fee (b .bumps)) (entryRow s) [] (b .entries)
 
 -- "The whole BEEF is read first"
-unfoldable pub judgeRead : List ℕ → List ℕ → Parse Beef → Judgement
-judgeRead s roots (bad number place) = refused (carrying number place)
-judgeRead s roots (got b next) = judgeEntries s roots b
+unfoldable pub judgeRead : List ℕ → List ℕ → ℕ → Parse Beef → Judgement
+judgeRead s roots fee (bad number place) = refused (carrying number place)
+judgeRead s roots fee (got b next) = judgeEntries s roots fee b
 
--- a BEEF, a list of roots, and room for so many records: 1, 21, then fields as they come
-unfoldable pub judgeBeef : List ℕ → List ℕ → ℕ → Judgement
-judgeBeef s roots room =
+-- a BEEF, a list of roots, a fee for each transaction, and room for so many records: 1, 21, then fields as they come
+unfoldable pub judgeBeef : List ℕ → List ℕ → ℕ → ℕ → Judgement
+judgeBeef s roots fee room =
     pick (leb (length s) MAX-INPUT)
-    (pick (eqb (length roots % 32) 0) (judgeRead s roots (beefWhole room s)) (refused (carrying BAD-ROOTS 0)))
+    (pick (eqb (length roots % 32) 0) (judgeRead s roots fee (beefWhole room s)) (refused (carrying BAD-ROOTS 0)))
     (refused (carrying TOO-LONG 0))
 
 -- the answer

@@ -20,7 +20,8 @@ use Rattle.format.specs.Padded.{padded}
 use Rattle.format.specs.Beef.{Beef, beefWhole}
 use Rattle.format.specs.BeefLaws.{BeefRead, beef-told}
 use Rattle.format.specs.Refusals.{TOO-LONG, BAD-ROOTS, MAX-INPUT, MAX-TXS}
-use Rattle.bundle.specs.Bundle.{entryId, standing, entryRow, Judgement, judgeEntries, judgeRead, judgeBeef, verdictOf, tableOf}
+use Rattle.bundle.specs.Amounts.{paymentOf}
+use Rattle.bundle.specs.Bundle.{standing, entryRow, Judgement, judgeEntries, judgeRead, judgeBeef, verdictOf, tableOf}
 use Rattle.bundle.specs.BundleLaws.{accepted-length}
 use Rattle.bundle.specs.BundleTheorems.{emptyEntry}
 use Rattle.bundle.specs.BundleAnswer.{judgementOf, countOf, rowIn}
@@ -30,27 +31,27 @@ unfoldable pub Fits : Judgement → ℕ → Type 0
 Fits (refused why) n = Unit {0}
 Fits (accepted records) n = (length records ≤ MAX-TXS) × (length records ≤ n)
 
-entries-fit : (s roots : List ℕ) (n : ℕ) (b : Beef) → BeefRead n s b → Fits (judgeEntries s roots b) n
+entries-fit : (s roots : List ℕ) (fee n : ℕ) (b : Beef) → BeefRead n s b → Fits (judgeEntries s roots fee b) n
 unfolding Fits judgeEntries
-entries-fit s roots n b read = go (judgeEntries s roots b) refl
+entries-fit s roots fee n b read = go (judgeEntries s roots fee b) refl
   where
-    go : (j : Judgement) → judgeEntries s roots b ≡ j → Fits j n
+    go : (j : Judgement) → judgeEntries s roots fee b ≡ j → Fits j n
     go (refused why) e = tt
     go (accepted records) e =
-        let same = accepted-length (entryId s) (standing s roots (b .bumps)) (entryRow s) emptyEntry blankRecord [] (b .entries) records e in
+        let same = accepted-length (paymentOf s) (standing s roots fee (b .bumps)) (entryRow s) emptyEntry blankRecord [] (b .entries) records e in
         let few = read .entries-low in
         let room = read .fits in
         (omega arith, omega arith)
 
-judge-fits : (s roots : List ℕ) (n : ℕ) → Fits (judgeBeef s roots n) n
+judge-fits : (s roots : List ℕ) (fee n : ℕ) → Fits (judgeBeef s roots fee n) n
 unfolding Fits judgeBeef judgeRead
-judge-fits s roots n = go (leb (length s) MAX-INPUT) (eqb (length roots % 32) 0) (beefWhole n s) refl
+judge-fits s roots fee n = go (leb (length s) MAX-INPUT) (eqb (length roots % 32) 0) (beefWhole n s) refl
   where
-    go : (t u : Bool) (p : Parse Beef) → beefWhole n s ≡ p → Fits (pick t (pick u (judgeRead s roots p) (refused (carrying BAD-ROOTS 0))) (refused (carrying TOO-LONG 0))) n
+    go : (t u : Bool) (p : Parse Beef) → beefWhole n s ≡ p → Fits (pick t (pick u (judgeRead s roots fee p) (refused (carrying BAD-ROOTS 0))) (refused (carrying TOO-LONG 0))) n
     go false u p e = tt
     go true false p e = tt
     go true true (bad number place) e = tt
-    go true true (got b q) e = entries-fit s roots n b (beef-told n s e)
+    go true true (got b q) e = entries-fit s roots fee n b (beef-told n s e)
 
 -- the verdict, and the table of n rows
 module _ (ids numbers : List ℕ) (wide : IDS-ROOM ≤ length ids) (long : NUMBERS-ROOM ≤ length numbers) (n : ℕ) where
@@ -63,11 +64,11 @@ module _ (ids numbers : List ℕ) (wide : IDS-ROOM ≤ length ids) (long : NUMBE
   told (Refused x) h =
       (refl, rows-list (flatRecord ids numbers 0) blankRecord [] n (flat-row ids numbers wide long 0 zero-le) zero-le ∙ ap (λ (k : ℕ). replicate k blankRecord) (sub-zero n))
 
-  pub flat-told : (s roots : List ℕ) (r : Verdict) → judgementOf r ids numbers ≡ judgeBeef s roots n
-      → (r ≡ verdictOf (judgeBeef s roots n)) × (rows (flatRecord ids numbers (countOf r)) n ≡ tableOf (judgeBeef s roots n) n)
-  flat-told s roots r e =
+  pub flat-told : (s roots : List ℕ) (fee : ℕ) (r : Verdict) → judgementOf r ids numbers ≡ judgeBeef s roots fee n
+      → (r ≡ verdictOf (judgeBeef s roots fee n)) × (rows (flatRecord ids numbers (countOf r)) n ≡ tableOf (judgeBeef s roots fee n) n)
+  flat-told s roots fee r e =
       subst (λ (j : Judgement). (r ≡ verdictOf j) × (rows (flatRecord ids numbers (countOf r)) n ≡ tableOf j n)) e
-      (told r (subst⁻¹ (λ (j : Judgement). Fits j n) e (judge-fits s roots n)))
+      (told r (subst⁻¹ (λ (j : Judgement). Fits j n) e (judge-fits s roots fee n)))
 
   -- the same for row k alone
   record-for : (k : ℕ) (r : Verdict) → Fits (judgementOf r ids numbers) n → flatRecord ids numbers (countOf r) k ≡ getD (tableOf (judgementOf r ids numbers) n) k blankRecord
@@ -77,11 +78,11 @@ module _ (ids numbers : List ℕ) (wide : IDS-ROOM ≤ length ids) (long : NUMBE
       flat-row ids numbers wide long m (omega (arith, h .0)) k ∙ sym (getD-padded (flat m ids numbers) (n - length (flat m ids numbers)) k blankRecord)
   record-for k (Refused x) h = flat-row ids numbers wide long 0 zero-le k ∙ sym (getD-padded [] n k blankRecord)
 
-  pub row-told : (s roots : List ℕ) (k : ℕ) (r : Verdict) → judgementOf r ids numbers ≡ judgeBeef s roots n
-      → record { verdict = r; «record» = flatRecord ids numbers (countOf r) k } ≡ rowIn (judgeBeef s roots n) n k
+  pub row-told : (s roots : List ℕ) (fee k : ℕ) (r : Verdict) → judgementOf r ids numbers ≡ judgeBeef s roots fee n
+      → record { verdict = r; «record» = flatRecord ids numbers (countOf r) k } ≡ rowIn (judgeBeef s roots fee n) n k
   unfolding rowIn
-  row-told s roots k r e =
-      ap (λ (v : Verdict). record { verdict = v; «record» = flatRecord ids numbers (countOf r) k }) (flat-told s roots r e .0)
-      ∙ ap (λ (x : Record). record { verdict = verdictOf (judgeBeef s roots n); «record» = x })
+  row-told s roots fee k r e =
+      ap (λ (v : Verdict). record { verdict = v; «record» = flatRecord ids numbers (countOf r) k }) (flat-told s roots fee r e .0)
+      ∙ ap (λ (x : Record). record { verdict = verdictOf (judgeBeef s roots fee n); «record» = x })
       (subst (λ (j : Judgement). flatRecord ids numbers (countOf r) k ≡ getD (tableOf j n) k blankRecord) e
-      (record-for k r (subst⁻¹ (λ (j : Judgement). Fits j n) e (judge-fits s roots n))))
+      (record-for k r (subst⁻¹ (λ (j : Judgement). Fits j n) e (judge-fits s roots fee n))))

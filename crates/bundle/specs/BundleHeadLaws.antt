@@ -1,8 +1,8 @@
 -- Laws of the bundle rule over heads.
-use Prim.Native.Nat.{ℕ, _+_, _-_, _<_, _≤_}
+use Prim.Native.Nat.{ℕ, zero, suc, _+_, _-_, _<_, _≤_}
 use mathlib.Core.Path.{_≡_, sym, ap, _∙_}
 use mathlib.Core.Bool.{true, false}
-use mathlib.Core.List.{List}
+use mathlib.Core.List.{List, [], _∷_}
 use native.Mathlib.Omega.{arith}
 use lib.ListN.{getD}
 use borrow.Author.Tests.{lt-ltb, le-ltb}
@@ -12,10 +12,12 @@ use Rattle.format.specs.declared.path.Path.{Path}
 use Rattle.format.specs.declared.beef.Anchor.{Anchor}
 use Rattle.format.specs.declared.beef.Anchor.the-variants.{Unanchored, Bump as InBump}
 use Rattle.format.specs.declared.beef.EntryHead.{EntryHead}
-use Rattle.format.specs.Parse.{got, bad}
+use Rattle.format.specs.Parse.{got, bad, many}
+use Rattle.format.specs.ParseLaws.{many-told}
 use Rattle.format.specs.Search.{hashAt}
 use Rattle.format.specs.Path.{bumpPathOf}
-use Rattle.format.specs.Transaction.{inputField}
+use Rattle.format.specs.Transaction.{inputField, takes, outputField}
+use Rattle.bundle.specs.Amounts.{total}
 use Rattle.format.specs.BeefAnswer.{noBump}
 use Rattle.format.specs.Refusals.{UNTRUSTED, BAD-INDEX, SAME-TX, NO-PARENT, MAX-BUMPS}
 use Rattle.bundle.specs.declared.judging.Standing.the-variants.{Refuses, Passes}
@@ -31,7 +33,7 @@ use Rattle.spv.specs.Shapes.{provedOf, acceptedOf}
 use Rattle.spv.specs.Hashes.{hashesOf, among}
 use Rattle.bundle.specs.Bundle.{trusted}
 use Rattle.format.specs.Basics.{one-less}
-use Rattle.bundle.specs.BundleHeads.{IsKept, Names, restsFrom, headProving, headAnchoring, headStanding, headId, headStands}
+use Rattle.bundle.specs.BundleHeads.{IsKept, Names, totalFrom, restsFrom, headProving, headAnchoring, headStanding, headId, headStands}
 
 -- a search for parents that has passed i of n inputs
 module _ (s : List ℕ) (ids : List (List ℕ)) (n i at : ℕ) where
@@ -52,6 +54,31 @@ module _ (s : List ℕ) (ids : List (List ℕ)) (n i at : ℕ) where
   pub parents-end : n ≤ i → restsFrom s ids (n - i) at ≡ true
   unfolding restsFrom
   parents-end past = let none : n - i ≡ 0 = omega arith in rw none
+
+-- a sum of outputs that has passed i of n
+module _ (s : List ℕ) (n i t at : ℕ) where
+  pub total-refused : {k q : ℕ} → i < n → outputField (takes true t) s at ≡ bad k q → totalFrom s (n - i) t at ≡ t
+  unfolding totalFrom
+  total-refused low e = rw (one-less n i low) (rw e)
+
+  pub total-on : {a q : ℕ} → i < n → outputField (takes true t) s at ≡ got a q → totalFrom s (n - i) t at ≡ totalFrom s (n - (i + 1)) (t + a) q
+  unfolding totalFrom
+  total-on low e = rw (one-less n i low) (rw e)
+
+  pub total-end : n ≤ i → totalFrom s (n - i) t at ≡ t
+  unfolding totalFrom
+  total-end past = let none : n - i ≡ 0 = omega arith in rw none
+
+-- outputs that were read have their total
+pub total-again : (s : List ℕ) (n t at : ℕ) {l : List ℕ} {q : ℕ} → many (λ t. outputField (takes true t)) _+_ n t s at ≡ got l q → totalFrom s n t at ≡ t + total l
+unfolding many totalFrom total
+total-again s zero t at {l} e = let none : [] ≡ l = cc in rw (← none) (omega arith)
+total-again s (suc n) t at {l} e =
+    let x = many-told (λ t. outputField (takes true t)) _+_ n t s at e in
+    more (x .0) (x .1) (x .2) (x .3) (total-again s n (t + x .0) (x .1) (x .4)) (x .5)
+  where
+    more : (a r : ℕ) (rest : List ℕ) → outputField (takes true t) s at ≡ got a r → totalFrom s n (t + a) r ≡ (t + a) + total rest → a ∷ rest ≡ l → totalFrom s (suc n) t at ≡ t + total l
+    more a r rest h f is = rw (h, ← is) (omega arith)
 
 -- an id by the path of a BUMP's head
 pub head-proving : (s id : List ℕ) (head : BumpHead) {path : Path} → path ≡ bumpPathOf s head → prove (pathReading s path id) ≡ headProving s head id

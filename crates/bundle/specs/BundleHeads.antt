@@ -1,10 +1,10 @@
 -- The bundle rule over what the code holds of a bundle that was read: heads, by places in the bytes.
 use mathlib.Core.Path.{_≡_}
-use Prim.Native.Nat.{ℕ, zero, suc, _-_, _<_}
+use Prim.Native.Nat.{ℕ, zero, suc, _+_, _-_, _*_, _<_, _≤_}
 use mathlib.Core.Bool.{Bool, true, false}
-use mathlib.Core.List.{List, [], _∷_}
+use mathlib.Core.List.{List, [], _∷_, map}
 use lib.Dec.{ltb}
-use lib.ListN.{getD}
+use lib.ListN.{length, getD, take}
 use Rattle.format.specs.declared.tx.TxHead.{TxHead}
 use Rattle.format.specs.declared.bump.BumpHead.{BumpHead}
 use Rattle.format.specs.declared.beef.Anchor.{Anchor}
@@ -13,7 +13,7 @@ use Rattle.format.specs.declared.beef.EntryHead.{EntryHead}
 use Rattle.format.specs.Parse.{pick, otherwise, each}
 use Rattle.format.specs.Search.{hashAt}
 use Rattle.format.specs.Path.{bumpPathOf}
-use Rattle.format.specs.Transaction.{inputField}
+use Rattle.format.specs.Transaction.{inputField, takes, outputField}
 use Rattle.format.specs.Beef.{entryField}
 use Rattle.format.specs.BeefAnswer.{noBump, entryHeadOf}
 use Rattle.format.specs.Id.{spanHash}
@@ -27,12 +27,22 @@ use Rattle.spv.specs.Result.{Result, carrying}
 use Rattle.bundle.specs.Table.{flatHead}
 use Rattle.spv.specs.Compare.{prove, Proof}
 use Rattle.spv.specs.Readings.{pathReading}
-use Rattle.spv.specs.Hashes.{among}
+use Rattle.spv.specs.Hashes.{hashesOf, among}
+use Rattle.bundle.specs.Amounts.{isAnchored}
+use Rattle.bundle.specs.FlatForm.{column}
 use Rattle.bundle.specs.Bundle.{trusted}
 
--- the numbers of a record
-abbrev pub numbersOf : TxHead → ℕ → ℕ → ℕ → List ℕ
-numbersOf t a n i = t .start ∷ (t .end - t .start) ∷ n ∷ a ∷ i ∷ []
+-- the numbers of a transaction in the flat form, v its outputs' total
+abbrev pub numbersOf : TxHead → ℕ → ℕ → ℕ → ℕ → List ℕ
+numbersOf t v a n i = t .start ∷ (t .end - t .start) ∷ n ∷ a ∷ i ∷ t .outputs .count ∷ v ∷ t .inputs .count ∷ t .inputs .at .at ∷ t .outputs .at .at ∷ []
+
+-- the total of n outputs from a place after others of t in all, as far as they can be read
+unfoldable pub totalFrom : List ℕ → ℕ → ℕ → ℕ → ℕ
+totalFrom s zero t at = t
+totalFrom s (suc n) t at = otherwise (outputField (takes true t) s at) t (λ a next. totalFrom s n (t + a) next)
+
+abbrev pub headTotal : List ℕ → TxHead → ℕ
+headTotal s t = totalFrom s (t .outputs .count) 0 (t .outputs .at .at)
 
 -- n transactions from a place, of a bundle with so many BUMPs, as far as they can be read
 unfoldable pub headsFrom : ℕ → List ℕ → ℕ → ℕ → List EntryHead
@@ -73,4 +83,33 @@ abbrev pub headStands : List ℕ → List ℕ → List BumpHead → List (List �
 headStands s roots bumps earlier e = headStanding s roots bumps earlier (headId s e) e
 
 abbrev pub headRow : List ℕ → EntryHead → ℕ → ℕ → ℕ → Record
-headRow s e a n i = flatHead (headId s e) (numbersOf (e .transaction) a n i)
+headRow s e a n i = flatHead (headId s e) (numbersOf (e .transaction) (headTotal s (e .transaction)) a n i)
+
+-- ---- what the flat form says of them
+
+-- what a record says of an anchor
+abbrev pub flagOf : Bool → ℕ
+flagOf true = 1
+flagOf false = 0
+
+abbrev pub noHead : EntryHead
+noHead = record {
+  transaction = record { start = 0; end = 0; inputs = record { count = 0; at = record { at = 0 } }; outputs = record { count = 0; at = record { at = 0 } } };
+  anchor = Unanchored;
+}
+
+pub record RowIs (s numbers : List ℕ) (k : ℕ) (e : EntryHead) : Type 0 where
+  pub flag : column numbers 3 k ≡ flagOf (isAnchored (e .anchor))
+  pub outputs : column numbers 5 k ≡ e .transaction .outputs .count
+  pub totals : column numbers 6 k ≡ headTotal s (e .transaction)
+  pub inputs : column numbers 7 k ≡ e .transaction .inputs .count
+  pub inputs-at : column numbers 8 k ≡ e .transaction .inputs .at .at
+  pub outputs-at : column numbers 9 k ≡ e .transaction .outputs .at .at
+
+-- the first n of them are in the flat form
+pub record Written (s ids numbers : List ℕ) (l : List EntryHead) (n : ℕ) : Type 0 where
+  pub few : n ≤ length l
+  pub wide : 32 * n ≤ length ids
+  pub long : 10 * n ≤ length numbers
+  pub ids-are : hashesOf (take (32 * n) ids) ≡ map (headId s) (take n l)
+  pub row-is : (k : ℕ) → k < n → RowIs s numbers k (getD l k noHead)

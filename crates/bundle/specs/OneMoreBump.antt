@@ -19,7 +19,7 @@ use Rattle.format.specs.Search.{hashAt, lookup, carries}
 use Rattle.format.specs.Bump.{Bump}
 use Rattle.format.specs.Transaction.{Transaction}
 use Rattle.format.specs.Beef.{Entry, Beef}
-use Rattle.format.specs.Refusals.{SAME-TX, NO-PARENT, UNTRUSTED}
+use Rattle.format.specs.Refusals.{SAME-TX, NO-PARENT, UNTRUSTED, NO-OUTPUT, SPENT-TWICE, TOO-LITTLE}
 use Rattle.bundle.specs.declared.judging.Standing.{Standing}
 use Rattle.bundle.specs.declared.judging.Standing.the-variants.{Refuses, Passes}
 use Rattle.bundle.specs.declared.table.Record.{Record}
@@ -32,10 +32,11 @@ use Rattle.spv.specs.Readings.{levelsReading}
 use Rattle.spv.specs.Surplus.{carriedAt, surplus}
 use Rattle.format.specs.Id.{txid}
 use Rattle.spv.specs.Hashes.{hashesOf, among}
-use Rattle.bundle.specs.Bundle.{rests, trusted, proving, nthBump, entryId, anchoring, standing, entryRow, Judgement, ahead, judgeFrom, judgeEntries}
+use Rattle.bundle.specs.Bundle.{rests, trusted, proving, nthBump, entryId, standingOf, anchoring, standing, entryRow, Judgement, ahead, judgeFrom, judgeEntries}
 use Rattle.bundle.specs.BundleLaws.{from-refuses, from-passes}
 use Rattle.bundle.specs.BundleTheorems.{emptyEntry}
-use Rattle.bundle.specs.RereadBundle.{leafSaid, bumpSaid, parentOf, txSaid}
+use Rattle.bundle.specs.RereadBundle.{leafSaid, bumpSaid, TxSaid, txSaid}
+use Rattle.bundle.specs.Amounts.{Outpoint, outpointOf, Payment, paymentOf, isAnchored, idsOf, exist, fresh, spends, enough, funded, passes, refuses}
 
 -- ---- what says the same is judged the same
 
@@ -91,19 +92,29 @@ module _ (s t : List ℕ) where
           ∙ ap (λ (z : ℕ × List (List (ℕ × Sibling))). getD (z .1) k []) e
           ∙ List·getD-map (map (leafSaid t)) (c .levels) k []
 
-  rests-same : (ids : List (List ℕ)) (l m : List Input) → map (parentOf s) l ≡ map (parentOf t) m → rests s ids l ≡ rests t ids m
+  rests-same : (ids : List (List ℕ)) (l m : List Input) → map (outpointOf s) l ≡ map (outpointOf t) m → rests s ids l ≡ rests t ids m
   unfolding rests
   rests-same ids [] [] e = refl
   rests-same ids [] (y ∷ m) e = absurd (let n = ap length e in omega arith)
   rests-same ids (x ∷ l) [] e = absurd (let n = ap length e in omega arith)
   rests-same ids (x ∷ l) (y ∷ m) e =
-      let first : parentOf s x ≡ parentOf t y = cc in
-      let rest : map (parentOf s) l ≡ map (parentOf t) m = cc in
+      let one : outpointOf s x ≡ outpointOf t y = cc in
+      let first : hashAt s (x .parent) ≡ hashAt t (y .parent) = ap (λ (o : Outpoint). o .parent) one in
+      let rest : map (outpointOf s) l ≡ map (outpointOf t) m = cc in
       rw (first, rests-same ids l m rest)
 
   id-same : (x y : Transaction) → txSaid s x ≡ txSaid t y → txid s x ≡ txid t y
   unfolding txid
-  id-same x y e = ap (λ (z : ℕ × List ℕ × List (List ℕ)). sha256d (z .1)) e
+  id-same x y e = ap (λ (z : TxSaid). sha256d (z .1)) e
+
+  -- what counts of two transactions that say the same, and are anchored alike
+  payment-same : (x y : Entry) → txSaid s (x .transaction) ≡ txSaid t (y .transaction) → isAnchored (x .anchor) ≡ isAnchored (y .anchor) → paymentOf s x ≡ paymentOf t y
+  unfolding paymentOf
+  payment-same x y e f =
+      let id = id-same (x .transaction) (y .transaction) e in
+      let o : x .transaction .outputs ≡ y .transaction .outputs = ap (λ (z : TxSaid). z .3) e in
+      let i : map (outpointOf s) (x .transaction .inputs) ≡ map (outpointOf t) (y .transaction .inputs) = ap (λ (z : TxSaid). z .2) e in
+      rw (id, f, o, i)
 
 -- ---- one BUMP more
 
@@ -121,7 +132,7 @@ numberOf m a n = pick (eqb a 1) (past m n) n
 
 -- a record after one more BUMP, of d bytes, was put in at m: its transaction starts so much later, and its BUMP's number is the new one
 unfoldable pub later : ℕ → ℕ → Record → Record
-later m d r = record { start = r .start + d; length = r .length; id = r .id; anchored = r .anchored; bump = numberOf m (r .anchored) (r .bump); position = r .position }
+later m d r = record { start = r .start + d; length = r .length; id = r .id; anchored = r .anchored; bump = numberOf m (r .anchored) (r .bump); position = r .position; outputs = r .outputs; total = r .total }
 
 -- a refusal stays, with the transaction's number
 unfoldable pub eachRecord : (Record → Record) → Judgement → Judgement
@@ -133,20 +144,20 @@ stillStands m (Refuses why) = Refuses why
 stillStands m (Passes a n i) = Passes a (numberOf m a n) i
 
 -- two transactions that stand alike
-record Like {A B : Type 0} (m : ℕ) (f : Record → Record) (id : A → List ℕ) (id′ : B → List ℕ) (stands : List (List ℕ) → A → Standing) (stands′ : List (List ℕ) → B → Standing)
+record Like {A B K : Type 0} (m : ℕ) (f : Record → Record) (id : A → K) (id′ : B → K) (stands : List K → A → Standing) (stands′ : List K → B → Standing)
     (row : A → ℕ → ℕ → ℕ → Record) (row′ : B → ℕ → ℕ → ℕ → Record) (x : A) (y : B) : Type 0 where
   ids : id x ≡ id′ y
-  standings : (earlier : List (List ℕ)) → stands′ earlier y ≡ stillStands m (stands earlier x)
+  standings : (earlier : List K) → stands′ earlier y ≡ stillStands m (stands earlier x)
   rows : (a n i : ℕ) → row′ y a (numberOf m a n) i ≡ f (row x a n i)
 
-module _ {A B : Type 0} (m : ℕ) (f : Record → Record) (id : A → List ℕ) (id′ : B → List ℕ) (stands : List (List ℕ) → A → Standing) (stands′ : List (List ℕ) → B → Standing)
+module _ {A B K : Type 0} (m : ℕ) (f : Record → Record) (id : A → K) (id′ : B → K) (stands : List K → A → Standing) (stands′ : List K → B → Standing)
     (row : A → ℕ → ℕ → ℕ → Record) (row′ : B → ℕ → ℕ → ℕ → Record) (d : A) (d′ : B) where
   each-ahead : (r : Record) (j : Judgement) → ahead (f r) (eachRecord f j) ≡ eachRecord f (ahead r j)
   unfolding ahead eachRecord
   each-ahead r (refused why) = refl
   each-ahead r (accepted l) = refl
 
-  from-like : (earlier : List (List ℕ)) (l : List A) (l′ : List B) → length l ≡ length l′
+  from-like : (earlier : List K) (l : List A) (l′ : List B) → length l ≡ length l′
       → ((k : ℕ) → k < length l → Like m f id id′ stands stands′ row row′ (getD l k d) (getD l′ k d′))
       → judgeFrom id′ stands′ row′ earlier l′ ≡ eachRecord f (judgeFrom id stands row earlier l)
   unfolding judgeFrom eachRecord stillStands
@@ -164,7 +175,7 @@ module _ {A B : Type 0} (m : ℕ) (f : Record → Record) (id : A → List ℕ) 
           ∙ sym (ap (eachRecord f) (from-refuses id stands row earlier x l why h))
       go z (Passes a n i) h rest =
           from-passes id′ stands′ row′ earlier y l′ a (numberOf m a n) i (z .standings earlier ∙ ap (stillStands m) h)
-          ∙ ap₂ (λ (r : Record) (c : List ℕ). ahead r (judgeFrom id′ stands′ row′ (earlier ++ (c ∷ [])) l′)) (z .rows a n i) (sym (z .ids))
+          ∙ ap₂ (λ (r : Record) (c : K). ahead r (judgeFrom id′ stands′ row′ (earlier ++ (c ∷ [])) l′)) (z .rows a n i) (sym (z .ids))
           ∙ ap (ahead (f (row x a n i))) rest
           ∙ each-ahead (row x a n i) (judgeFrom id stands row (earlier ++ (id x ∷ [])) l)
           ∙ sym (ap (eachRecord f) (from-passes id stands row earlier x l a n i h))
@@ -181,7 +192,7 @@ pub record OneMore (s t : List ℕ) (m d : ℕ) (b c : Beef) : Type 0 where
   pub anchors : (k : ℕ) → k < length (b .entries) → entryAt c k .anchor ≡ renumbered m (entryAt b k .anchor)
   pub below : (k n : ℕ) → k < length (b .entries) → entryAt b k .anchor ≡ InBump n → n < length (b .bumps)
 
-module _ (s t roots : List ℕ) (m d : ℕ) (b c : Beef) (more : OneMore s t m d b c) where
+module _ (s t roots : List ℕ) (fee m d : ℕ) (b c : Beef) (more : OneMore s t m d b c) where
   trusted-still : (n : ℕ) (v : Result Proof) → trusted roots (past m n) v ≡ stillStands m (trusted roots n v)
   unfolding trusted stillStands
   trusted-still n (refused why) = refl
@@ -195,26 +206,41 @@ module _ (s t roots : List ℕ) (m d : ℕ) (b c : Beef) (more : OneMore s t m d
     same-id : entryId s (entryAt b k) ≡ entryId t (entryAt c k)
     same-id = id-same s t (entryAt b k .transaction) (entryAt c k .transaction) (more .transactions k low)
 
-    anchoring-still : (earlier : List (List ℕ)) (a : Anchor) → entryAt b k .anchor ≡ a
-        → anchoring t roots (c .bumps) earlier (entryAt c k) (renumbered m a) ≡ stillStands m (anchoring s roots (b .bumps) earlier (entryAt b k) a)
+    same-anchored : (a : Anchor) → isAnchored a ≡ isAnchored (renumbered m a)
+    unfolding renumbered
+    same-anchored (InBump n) = refl
+    same-anchored Unanchored = refl
+
+    same-payment : paymentOf s (entryAt b k) ≡ paymentOf t (entryAt c k)
+    same-payment = payment-same s t (entryAt b k) (entryAt c k) (more .transactions k low) (same-anchored (entryAt b k .anchor) ∙ ap isAnchored (sym (more .anchors k low)))
+
+    anchoring-still : (earlier : List Payment) (a : Anchor) → entryAt b k .anchor ≡ a
+        → anchoring t roots fee (c .bumps) earlier (entryAt c k) (renumbered m a) ≡ stillStands m (anchoring s roots fee (b .bumps) earlier (entryAt b k) a)
     unfolding anchoring renumbered stillStands
     anchoring-still earlier (InBump n) h =
         ap (trusted roots (past m n)) (ap (proving t (nthBump (c .bumps) (past m n))) (sym same-id) ∙ sym (proving-same s t (nthBump (b .bumps) n) (nthBump (c .bumps) (past m n)) (entryId s (entryAt b k)) (more .bumps n (more .below k n low h))))
         ∙ trusted-still n (proving s (nthBump (b .bumps) n) (entryId s (entryAt b k)))
     anchoring-still earlier Unanchored h =
-        ap (λ (x : Bool). pick x (Passes 0 0 0) (Refuses (carrying NO-PARENT 0))) (sym (rests-same s t earlier (entryAt b k .transaction .inputs) (entryAt c k .transaction .inputs) (ap (λ (z : ℕ × List ℕ × List (List ℕ)). z .2) (more .transactions k low))))
-        ∙ go (rests s earlier (entryAt b k .transaction .inputs))
+        ap₂ (λ (x : Bool) (y : Payment). pick x (standingOf (funded fee earlier y)) (Refuses (carrying NO-PARENT 0)))
+        (sym (rests-same s t (idsOf earlier) (entryAt b k .transaction .inputs) (entryAt c k .transaction .inputs) (ap (λ (z : TxSaid). z .2) (more .transactions k low)))) (sym same-payment)
+        ∙ go (rests s (idsOf earlier) (entryAt b k .transaction .inputs))
       where
-        go : (x : Bool) → pick x (Passes 0 0 0) (Refuses (carrying NO-PARENT 0)) ≡ stillStands m (pick x (Passes 0 0 0) (Refuses (carrying NO-PARENT 0)))
-        go true = refl
+        funds : (x y z : Bool) → standingOf (pick x (pick y (pick z passes (refuses TOO-LITTLE)) (refuses SPENT-TWICE)) (refuses NO-OUTPUT)) ≡ stillStands m (standingOf (pick x (pick y (pick z passes (refuses TOO-LITTLE)) (refuses SPENT-TWICE)) (refuses NO-OUTPUT)))
+        funds true true true = refl
+        funds true true false = refl
+        funds true false z = refl
+        funds false y z = refl
+
+        go : (x : Bool) → pick x (standingOf (funded fee earlier (paymentOf s (entryAt b k)))) (Refuses (carrying NO-PARENT 0)) ≡ stillStands m (pick x (standingOf (funded fee earlier (paymentOf s (entryAt b k)))) (Refuses (carrying NO-PARENT 0)))
+        go true = unfold funded in funds (exist earlier (paymentOf s (entryAt b k) .inputs)) (fresh (spends earlier) (paymentOf s (entryAt b k) .inputs)) (enough fee earlier (paymentOf s (entryAt b k)))
         go false = refl
 
-    still-stands : (earlier : List (List ℕ)) → standing t roots (c .bumps) earlier (entryAt c k) ≡ stillStands m (standing s roots (b .bumps) earlier (entryAt b k))
+    still-stands : (earlier : List Payment) → standing t roots fee (c .bumps) earlier (entryAt c k) ≡ stillStands m (standing s roots fee (b .bumps) earlier (entryAt b k))
     unfolding standing stillStands
     still-stands earlier =
-        ap₂ (λ (x : List ℕ) (a : Anchor). pick (among x earlier) (Refuses (carrying SAME-TX 0)) (anchoring t roots (c .bumps) earlier (entryAt c k) a)) (sym same-id) (more .anchors k low)
-        ∙ ap (pick (among (entryId s (entryAt b k)) earlier) (Refuses (carrying SAME-TX 0))) (anchoring-still earlier (entryAt b k .anchor) refl)
-        ∙ go (among (entryId s (entryAt b k)) earlier) (anchoring s roots (b .bumps) earlier (entryAt b k) (entryAt b k .anchor))
+        ap₂ (λ (x : List ℕ) (a : Anchor). pick (among x (idsOf earlier)) (Refuses (carrying SAME-TX 0)) (anchoring t roots fee (c .bumps) earlier (entryAt c k) a)) (sym same-id) (more .anchors k low)
+        ∙ ap (pick (among (entryId s (entryAt b k)) (idsOf earlier)) (Refuses (carrying SAME-TX 0))) (anchoring-still earlier (entryAt b k .anchor) refl)
+        ∙ go (among (entryId s (entryAt b k)) (idsOf earlier)) (anchoring s roots fee (b .bumps) earlier (entryAt b k) (entryAt b k .anchor))
       where
         go : (x : Bool) (v : Standing) → pick x (Refuses (carrying SAME-TX 0)) (stillStands m v) ≡ stillStands m (pick x (Refuses (carrying SAME-TX 0)) v)
         go true v = refl
@@ -222,10 +248,10 @@ module _ (s t roots : List ℕ) (m d : ℕ) (b c : Beef) (more : OneMore s t m d
 
     same-row : (a n i : ℕ) → entryRow t (entryAt c k) a (numberOf m a n) i ≡ later m d (entryRow s (entryAt b k) a n i)
     unfolding entryRow later
-    same-row a n i = rw (← same-id, ← ap (λ (z : ℕ × List ℕ × List (List ℕ)). z .0) (more .transactions k low), more .starts k low)
+    same-row a n i = rw (← same-id, ← ap (λ (z : TxSaid). z .0) (more .transactions k low), ← ap (λ (z : TxSaid). z .3) (more .transactions k low), more .starts k low)
 
-  pub one-more : judgeEntries t roots c ≡ eachRecord (later m d) (judgeEntries s roots b)
+  pub one-more : judgeEntries t roots fee c ≡ eachRecord (later m d) (judgeEntries s roots fee b)
   unfolding judgeEntries
   one-more =
-      from-like m (later m d) (entryId s) (entryId t) (standing s roots (b .bumps)) (standing t roots (c .bumps)) (entryRow s) (entryRow t) emptyEntry emptyEntry [] (b .entries) (c .entries) (more .count)
-      (λ k low. record { ids = same-id k low; standings = still-stands k low; rows = same-row k low })
+      from-like m (later m d) (paymentOf s) (paymentOf t) (standing s roots fee (b .bumps)) (standing t roots fee (c .bumps)) (entryRow s) (entryRow t) emptyEntry emptyEntry [] (b .entries) (c .entries) (more .count)
+      (λ k low. record { ids = same-payment k low; standings = still-stands k low; rows = same-row k low })

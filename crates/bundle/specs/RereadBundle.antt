@@ -1,28 +1,28 @@
 -- What a BUMP and a transaction say: the same wherever their bytes stand.
 use Prim.Native.Nat.{ℕ, _+_, _-_}
-use mathlib.Core.Path.{_≡_, refl, ap}
-use mathlib.Core.Bool.{not, _&&_}
-use mathlib.Core.List.{List, [], _∷_, _++_, map}
+use mathlib.Core.Path.{_≡_, refl, sym, ap, ap₂, _∙_}
+use mathlib.Core.Bool.{Bool, true, not, _&&_}
+use mathlib.Core.List.{List, [], _∷_, _++_, map, map-id}
 use native.Mathlib.Omega.{arith}
 use lib.ListN.{take, drop}
 use lib.Dec.{ltb, leb, eqb}
 use Rattle.format.specs.declared.level.Layout.{Layout}
 use Rattle.format.specs.declared.level.Kind.the-variants.{Plain, Copy, Client}
 use Rattle.format.specs.declared.level.Leaf.{Leaf}
-use Rattle.format.specs.declared.tx.Input.{Input}
 use Rattle.format.specs.declared.beef.Anchor.{Anchor}
-use Rattle.format.specs.Parse.{Reader, got, _passing_else_}
+use Rattle.format.specs.Parse.{Reader, got, _passing_else_, times}
 use Rattle.format.specs.Search.{hashAt}
-use Rattle.format.specs.Field.{bytes, byte, varint}
+use Rattle.format.specs.Field.{bytes, byte, le4, le8, number, varint}
 use Rattle.format.specs.Level.{holds, offsetField, flagAllowed, flagField, kindField, carriedField, leafField, andOffset, levelField, levelInTurn, nextTurn, levelFields}
 use Rattle.format.specs.Bump.{Bump, blockField, heightField, bumpField}
-use Rattle.format.specs.Transaction.{Transaction, scriptField, inputField, outputField, someField, listField, txField}
+use Rattle.format.specs.Transaction.{Transaction, scriptField, inputField, takes, outputField, outputsField, someField, listField, txFieldBy}
 use Rattle.format.specs.TransactionLaws.{TxRead, tx-told}
 use Rattle.format.specs.Beef.{Entry, bumpNumberField, anchorField, entryField}
-use Rattle.format.specs.Refusals.{OVER-LIMIT, BAD-HEIGHT, BAD-OFFSET, BAD-FLAG, REPEATED, BAD-TX, BAD-INDEX, MAX-LEAVES, MAX-BLOCK, MAX-HEIGHT}
+use Rattle.format.specs.Refusals.{OVER-LIMIT, BAD-HEIGHT, BAD-OFFSET, BAD-FLAG, REPEATED, BAD-TX, BAD-INDEX, BAD-AMOUNT, MAX-LEAVES, MAX-BLOCK, MAX-HEIGHT}
 use Rattle.spv.specs.Climb.{Sibling, value}
 use Rattle.spv.specs.Siblings.{written}
-use Rattle.bundle.specs.Reread.{StandsIn, Again, pure-again, here-again, then-again, then-same, passing-again, given-again, pick-again, many-again, bytes-again, byte-again, varint-again, run-again, hash-again}
+use Rattle.bundle.specs.Reread.{StandsIn, Again, pure-again, here-again, then-again, then-same, passing-again, given-again, pick-again, many-again, bytes-again, byte-again, varint-again, run-again, hash-again, number-again, le4-again, le8-again}
+use Rattle.bundle.specs.Amounts.{Outpoint, outpointOf}
 
 -- a leaf: its offset, and its 32 bytes or a copy
 abbrev pub leafSaid : List ℕ → Leaf → ℕ × Sibling
@@ -32,15 +32,14 @@ leafSaid s leaf = (leaf .offset, written s (leaf .kind))
 abbrev pub bumpSaid : List ℕ → Bump → ℕ × List (List (ℕ × Sibling))
 bumpSaid s b = (b .height, map (map (leafSaid s)) (b .levels))
 
--- an input: its parent's id
-abbrev pub parentOf : List ℕ → Input → List ℕ
-parentOf s i = hashAt s (i .parent)
+-- a transaction: how many bytes it has, the bytes, what its inputs spend, and the amounts of its outputs
+abbrev pub TxSaid : Type 0
+TxSaid = ℕ × List ℕ × List Outpoint × List ℕ
 
--- a transaction: how many bytes it has, the bytes, and its parents' ids
-abbrev pub txSaid : List ℕ → Transaction → ℕ × List ℕ × List (List ℕ)
-txSaid s x = (x .end - x .start, take (x .end - x .start) (drop (x .start) s), map (parentOf s) (x .inputs))
+abbrev pub txSaid : List ℕ → Transaction → TxSaid
+txSaid s x = (x .end - x .start, take (x .end - x .start) (drop (x .start) s), map (outpointOf s) (x .inputs), x .outputs)
 
-abbrev pub entrySaid : List ℕ → Entry → (ℕ × List ℕ × List (List ℕ)) × Anchor
+abbrev pub entrySaid : List ℕ → Entry → TxSaid × Anchor
 entrySaid s e = (txSaid s (e .transaction), e .anchor)
 
 module _ {u t : List ℕ} {base : ℕ} (stands : StandsIn u t base) where
@@ -109,47 +108,64 @@ module _ {u t : List ℕ} {base : ℕ} (stands : StandsIn u t base) where
   unfolding scriptField
   script-again = then-same (varint-again stands) skip-again
 
-  input-again : Same inputField inputField (parentOf u) (parentOf t)
+  input-again : Same inputField inputField (outpointOf u) (outpointOf t)
   unfolding inputField
   input-again =
-      then-again (bytes-again stands 32 (hashAt u) (hashAt t) (hash-again stands)) (λ p q e. then-again (skip-again 4) (λ o w _. then-again script-again (λ _ _ _. then-again (skip-again 4)
-      (λ _ _ _. pure-again (record { parent = p; output = o }) (record { parent = q; output = w }) (parentOf u) (parentOf t) e))))
+      then-again (bytes-again stands 32 (hashAt u) (hashAt t) (hash-again stands)) (λ p q e. then-again (bytes-again stands 4 (le4 u) (le4 t) (λ o h. le4-again stands o (base + o) h refl)) (λ o w f. then-again script-again (λ _ _ _. then-again (skip-again 4)
+      (λ _ _ _. pure-again (record { parent = p; output = o }) (record { parent = q; output = w }) (outpointOf u) (outpointOf t) (ap₂ (λ (x : List ℕ) (n : ℕ). record { parent = x; output = n }) e f)))))
 
-  output-again : Same outputField outputField nothing nothing
-  unfolding outputField nothing
-  output-again = then-again (skip-again 8) (λ p q _. then-again script-again (λ _ _ _. pure-again p q nothing nothing refl))
+  output-again : (taken : ℕ → Bool) → Equal (outputField taken)
+  unfolding outputField
+  output-again taken =
+      then-same (passing-again (number le8 8) (number le8 8) taken taken BAD-AMOUNT BAD-AMOUNT (number-again stands le8 8 (λ p h. le8-again stands p (base + p) h refl)) (λ x h. h))
+      (λ amount. then-again script-again (λ _ _ _. pure-again amount amount (λ x. x) (λ x. x) refl))
 
-  list-again : {A C : Type 0} (item : Reader A) (c d : A → C) → Same item item c d → Same (listField item) (listField item) (λ l. map c (l .items)) (λ l. map d (l .items))
+  spends-again : (n : ℕ) → Same (times inputField n) (times inputField n) (map (outpointOf u)) (map (outpointOf t))
+  spends-again n = many-again {S = Unit {0}} (λ _. inputField) (λ _. inputField) (λ x _. x) (λ x _. x) (outpointOf u) (outpointOf t) (λ _. input-again) (λ _ _ _ _. refl) n tt
+
+  outputs-again : (limited : Bool) (n : ℕ) → Same (outputsField limited n) (outputsField limited n) (map (λ x. x)) (map (λ x. x))
+  unfolding outputsField
+  outputs-again limited n = many-again (λ total. outputField (takes limited total)) (λ total. outputField (takes limited total)) _+_ _+_ (λ x. x) (λ x. x) (λ total. output-again (takes limited total)) (λ total a b e. ap (λ (x : ℕ). total + x) e) n 0
+
+  list-again : {A C : Type 0} (list : ℕ → Reader (List A)) (c d : List A → C) → ((n : ℕ) → Same (list n) (list n) c d) → Same (listField list) (listField list) (λ l. c (l .items)) (λ l. d (l .items))
   unfolding listField someField
-  list-again item c d f =
+  list-again list c d f =
       then-same (passing-again varint varint (λ n. leb 1 n) (λ n. leb 1 n) BAD-TX BAD-TX (varint-again stands) (λ x h. h))
-      (λ n. then-again here-again (λ p q _. then-again (many-again {S = Unit {0}} (λ _. item) (λ _. item) (λ x _. x) (λ x _. x) c d (λ _. f) (λ _ _ _ _. refl) n tt)
-      (λ l m e. pure-again (record { at = p; items = l }) (record { at = q; items = m }) (λ l. map c (l .items)) (λ l. map d (l .items)) e)))
+      (λ n. then-again here-again (λ p q _. then-again (f n)
+      (λ l m e. pure-again (record { at = p; items = l }) (record { at = q; items = m }) (λ l. c (l .items)) (λ l. d (l .items)) e)))
 
-  inputs-again : Same txField txField (λ x. map (parentOf u) (x .inputs)) (λ x. map (parentOf t) (x .inputs))
-  unfolding txField
-  inputs-again =
-      then-again (skip-again 4) (λ p q _. then-again (list-again inputField (parentOf u) (parentOf t) input-again) (λ i j e. then-again (list-again outputField nothing nothing output-again)
-      (λ o w _. then-again (skip-again 4) (λ _ _ _. then-again here-again
+  -- what its inputs spend, and the amounts of its outputs
+  abbrev Moved : Type 0
+  Moved = List Outpoint × List ℕ
+
+  abbrev movedOf : List ℕ → Transaction → Moved
+  movedOf s x = (map (outpointOf s) (x .inputs), map (λ y. y) (x .outputs))
+
+  moves-again : (limited : Bool) → Same (txFieldBy limited) (txFieldBy limited) (movedOf u) (movedOf t)
+  unfolding txFieldBy
+  moves-again limited =
+      then-again (skip-again 4) (λ p q _. then-again (list-again (times inputField) (map (outpointOf u)) (map (outpointOf t)) spends-again) (λ i j e. then-again (list-again (outputsField limited) (map (λ x. x)) (map (λ x. x)) (outputs-again limited))
+      (λ o w f. then-again (skip-again 4) (λ _ _ _. then-again here-again
       (λ n m _. pure-again (record { start = p; end = n; inputsAt = i .at; inputs = i .items; outputsAt = o .at; outputs = o .items })
-      (record { start = q; end = m; inputsAt = j .at; inputs = j .items; outputsAt = w .at; outputs = w .items }) (λ x. map (parentOf u) (x .inputs)) (λ x. map (parentOf t) (x .inputs)) e)))))
+      (record { start = q; end = m; inputsAt = j .at; inputs = j .items; outputsAt = w .at; outputs = w .items }) (movedOf u) (movedOf t)
+      (ap₂ (λ (x : List Outpoint) (y : List ℕ). (x, y)) e f))))))
 
-  pub tx-again : Same txField txField (txSaid u) (txSaid t)
-  tx-again = record { again = moved }
+  pub tx-again : (limited : Bool) → Same (txFieldBy limited) (txFieldBy limited) (txSaid u) (txSaid t)
+  tx-again limited = record { again = moved }
     where
       -- its bytes are those from its start to its end
-      run : (a b : Transaction) (at q : ℕ) → TxRead u at q a → TxRead t (base + at) (base + q) b → map (parentOf u) (a .inputs) ≡ map (parentOf t) (b .inputs) → txSaid u a ≡ txSaid t b
-      run a b at q x y e =
+      run : (a b : Transaction) (at q : ℕ) → TxRead limited u at q a → TxRead limited t (base + at) (base + q) b → map (outpointOf u) (a .inputs) ≡ map (outpointOf t) (b .inputs) → a .outputs ≡ b .outputs → txSaid u a ≡ txSaid t b
+      run a b at q x y e o =
           let f = x .forward in
           let i = x .inside in
           let size : b .end - b .start ≡ q - at = omega arith in
           let from : b .start ≡ base + at = y .start-is in
-          rw (x .start-is, x .end-is, size, from, e, run-again stands (q - at) at (omega arith))
+          rw (x .start-is, x .end-is, size, from, e, o, run-again stands (q - at) at (omega arith))
 
-      moved : (at q : ℕ) (a : Transaction) → txField u at ≡ got a q → (b : Transaction) × (txField t (base + at) ≡ got b (base + q)) × (txSaid u a ≡ txSaid t b)
+      moved : (at q : ℕ) (a : Transaction) → txFieldBy limited u at ≡ got a q → (b : Transaction) × (txFieldBy limited t (base + at) ≡ got b (base + q)) × (txSaid u a ≡ txSaid t b)
       moved at q a e =
-          let x = inputs-again .again at q a e in
-          (x .0, x .1, run a (x .0) at q (tx-told u at e) (tx-told t (base + at) (x .1)) (x .2))
+          let x = moves-again limited .again at q a e in
+          (x .0, x .1, run a (x .0) at q (tx-told u at e) (tx-told t (base + at) (x .1)) (ap (λ (z : Moved). z .0) (x .2)) (sym (map-id (a .outputs)) ∙ ap (λ (z : Moved). z .1) (x .2) ∙ map-id (x .0 .outputs)))
 
   -- ---- a bundle's transaction
 
@@ -163,5 +179,5 @@ module _ {u t : List ℕ} {base : ℕ} (stands : StandsIn u t base) where
   pub entry-again : (bumps : ℕ) → Same (entryField bumps) (entryField bumps) (entrySaid u) (entrySaid t)
   unfolding entryField
   entry-again bumps =
-      then-again tx-again (λ x y e. then-same (anchor-again bumps)
-      (λ a. pure-again (record { transaction = x; anchor = a }) (record { transaction = y; anchor = a }) (entrySaid u) (entrySaid t) (ap (λ (z : ℕ × List ℕ × List (List ℕ)). (z, a)) e)))
+      then-again (tx-again true) (λ x y e. then-same (anchor-again bumps)
+      (λ a. pure-again (record { transaction = x; anchor = a }) (record { transaction = y; anchor = a }) (entrySaid u) (entrySaid t) (ap (λ (z : TxSaid). (z, a)) e)))

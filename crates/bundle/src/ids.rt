@@ -5,9 +5,10 @@ use format::span_hash;
 use lanes::Nodes;
 ghost use mathlib.Core.Path.{_≡_};
 ghost use mathlib.Core.Bool.{true, false};
-ghost use Prim.Native.Nat.{ℕ, _<_};
+ghost use Prim.Native.Nat.{ℕ, _≤_};
+ghost use Rattle.format.specs.Refusals.{MAX-TXS};
 ghost use Rattle.lanes.specs.Lanes as L;
-ghost use Rattle.bundle.specs.Ahead.{noSpan, span, spanFrom, spanId, Reaches, Inside, Ahead};
+ghost use Rattle.bundle.specs.Ahead.{noSpan, span, spanId, Reaches, ReachesFour, Inside, setFour, IdsFrom};
 
 // Where a transaction starts and ends.
 pub(crate) struct Span {
@@ -25,6 +26,13 @@ pub(crate) struct Spans {
 // A transaction's place, where the next one is read, and whether there can be one.
 struct Reached {
     span: Span,
+    next: Cursor,
+    more: bool,
+}
+
+// The same of four transactions.
+struct Group {
+    spans: Spans,
     next: Cursor,
     more: bool,
 }
@@ -74,11 +82,11 @@ fn span_at(s: &[u8], count: u64, c: Cursor, more: bool) -> Reached
     none_reached(c)
 }
 
-// The next four transactions from a place on, as far as they can be read.
-fn spans_from(s: &[u8], count: u64, start: Cursor) -> Spans
-    ensures { λ r. ⌜ ((l : ℕ) → l < 4 → span l r ≡ spanFrom count (now (s .entry)) (start .at) true l) ⌝ }
+// The next four transactions from a place on, if they are asked for and as far as they can be read.
+fn spans_from(s: &[u8], count: u64, start: Cursor, more: bool) -> Group
+    ensures { λ r. ⌜ ReachesFour count (now (s .entry)) (start .at) more (r .spans) (r .next .at) (r .more) ⌝ }
 {
-    let first = span_at(s, count, start, true);
+    let first = span_at(s, count, start, more);
     let a = first.span;
     let next = first.next;
     let second = span_at(s, count, next, first.more);
@@ -89,7 +97,12 @@ fn spans_from(s: &[u8], count: u64, start: Cursor) -> Spans
     let next = third.next;
     let fourth = span_at(s, count, next, third.more);
     let d = fourth.span;
-    Spans { a, b, c, d }
+    let next = fourth.next;
+    Group {
+        spans: Spans { a, b, c, d },
+        next,
+        more: fourth.more,
+    }
 }
 
 fn fits(s: &[u8], x: Span) -> bool
@@ -149,42 +162,35 @@ fn ids_of(s: &[u8], x: Spans) -> Nodes
     one_by_one(s, x)
 }
 
-// The ids ahead of a place, of which the next is in lane k: made anew in lane 0.
-pub(crate) fn ids_ahead(s: &[u8], count: u64, start: Cursor, k: usize, four: Nodes) -> Nodes
-    ensures { λ r. ⌜ (((k ≡ 0 → ⊥) → Ahead count (now (s .entry)) (start .at) k four) → Ahead count (now (s .entry)) (start .at) k r) ⌝ }
-{
-    if k == 0 {
-        return ids_of(s, spans_from(s, count, start));
-    }
-    four
-}
-
-// The id in lane k.
-pub(crate) fn id_in(four: Nodes, k: usize) -> [u8; 32]
-    ensures { λ r. ⌜ r ≡ L.node k four ⌝ }
+// Four ids from the i-th on, as far as there is room.
+fn set_four(ids: &mut [u8], i: usize, four: Nodes)
+    requires { ⌜ i ≤ MAX-TXS ⌝ }
+    ensures { λ _. ⌜ now (ids .exit) ≡ setFour (now (ids .entry)) i four ⌝ }
 {
     let a = four.a;
     let b = four.b;
     let c = four.c;
     let d = four.d;
-    if k == 0 {
-        return a;
-    }
-    if k == 1 {
-        return b;
-    }
-    if k == 2 {
-        return c;
-    }
-    d
+    format::set_hash(ids, i, a);
+    format::set_hash(ids, i + 1, b);
+    format::set_hash(ids, i + 2, c);
+    format::set_hash(ids, i + 3, d);
 }
 
-pub(crate) fn no_ids() -> Nodes {
-    let none = [0u8; 32];
-    Nodes {
-        a: none,
-        b: none,
-        c: none,
-        d: none,
+// The ids of n transactions from a place on, end to end, as far as there is room.
+pub(crate) fn write_ids(s: &[u8], count: u64, start: Cursor, n: usize, ids: &mut [u8])
+    requires { ⌜ n ≤ MAX-TXS ⌝ }
+    ensures { λ _. ⌜ IdsFrom count (now (s .entry)) (start .at) n (now (ids .exit)) ⌝ }
+{
+    let mut next = start;
+    let mut more = true;
+    let mut i = 0;
+    while i < n {
+        let group = spans_from(s, count, next, more);
+        let four = ids_of(s, group.spans);
+        set_four(ids, i, four);
+        next = group.next;
+        more = group.more;
+        i += 4;
     }
 }

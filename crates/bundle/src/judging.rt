@@ -1,7 +1,11 @@
 // Judging a BEEF against a list of trusted roots (paper 01, "The bundle rule").
-use super::ids::id_in;
-use super::ids::ids_ahead;
-use super::ids::no_ids;
+use super::ids::write_ids;
+use super::outputs::judge_amounts;
+use super::parents::in_order;
+use super::parents::is_among;
+use super::parents::place_among;
+use super::pass::Fault;
+use super::sums::outputs_total;
 use format::Anchor;
 use format::Beef;
 use format::BeefAnswer;
@@ -20,6 +24,7 @@ use format::refusal::BAD_ROOTS;
 use format::refusal::NO_PARENT;
 use format::refusal::NO_ROOM;
 use format::refusal::SAME_TX;
+use format::refusal::SHORT;
 use format::refusal::TOO_LONG;
 use format::refusal::UNTRUSTED;
 use spv::Outcome;
@@ -28,25 +33,28 @@ use spv::prove_in;
 use spv::reject;
 use spv::reject_reading;
 ghost use mathlib.Core.Path.{_≡_};
-ghost use Prim.Native.Nat.{_+_, _*_, _<_, _≤_};
+ghost use Prim.Native.Nat.{ℕ, _+_, _*_, _<_, _≤_};
 ghost use lib.ListN.{length, take, drop};
 ghost use lib.Seq.{paste};
 ghost use Rattle.format.specs.Bytes.{same};
 ghost use Rattle.format.specs.Refusals.{MAX-TXS, MAX-BUMPS};
 ghost use Rattle.spv.specs.Result.{carrying, blaming};
 ghost use Rattle.spv.specs.Hashes.{hashesOf, among};
+ghost use Rattle.bundle.specs.Ahead.{IdsFrom};
 ghost use Rattle.bundle.specs.Bundle.{trusted, judgeFrom, judgeBeef};
-ghost use Rattle.bundle.specs.BundleHeads.{numbersOf, restsFrom, IsKept, Names, headStanding, headId, headStands, headRow, headsFrom};
+ghost use Rattle.bundle.specs.BundleHeads.{numbersOf, restsFrom, IsKept, Names, headStanding, headId, headStands, headRow, headsFrom, Written};
 ghost use Rattle.spv.specs.Compare.{prove};
 ghost use Rattle.spv.specs.Readings.{pathReading};
-ghost use Rattle.bundle.specs.BundleAnswer.{judgementOf};
+ghost use Rattle.bundle.specs.BundleAnswer.{judgementOf, reachedBy};
+ghost use Rattle.bundle.specs.Phases.{settled};
+ghost use Rattle.bundle.specs.Pass.{faultOf};
 ghost use Rattle.bundle.specs.Table.{IDS-ROOM, NUMBERS-ROOM};
 ghost use mathlib.Core.List.{List, []};
 
-// The room of the flat form: an id of 32 bytes and five numbers for each of the most transactions that a bundle has.
+// The room of the flat form: an id of 32 bytes and ten numbers for each of the most transactions that a bundle has.
 pub(crate) const IDS_ROOM: usize = 8192;
 
-pub(crate) const NUMBERS_ROOM: usize = 1280;
+pub(crate) const NUMBERS_ROOM: usize = 2560;
 
 // What judging answers: the number of transactions, or a refusal.
 pub enum Verdict {
@@ -65,72 +73,59 @@ pub enum Standing {
     },
 }
 
-// Whether the 32 bytes of a list from a place are the hash.
-fn same_at(list: &[u8], at: usize, x: [u8; 32]) -> bool
-    requires { ⌜ at + 32 ≤ length (now list) ⌝ }
-    ensures { λ r. ⌜ r ≡ same (take 32 (drop at (now (list .entry)))) x ⌝ }
-{
-    let mut i = 0;
-    while i < 32 {
-        if list[at + i] != x[i] {
-            return false;
-        }
-        i += 1;
-    }
-    true
-}
-
-// Whether the hash is one of a list of hashes, end to end. The last ones are asked first: a parent mostly comes shortly before its child.
-fn is_among(x: [u8; 32], list: &[u8]) -> bool
-    ensures { λ r. ⌜ r ≡ among x (hashesOf (now (list .entry))) ⌝ }
-{
-    let mut left = list.len() / 32;
-    while 0 < left {
-        if same_at(list, 32 * (left - 1), x) {
-            return true;
-        }
-        left -= 1;
-    }
-    false
-}
-
-// The numbers of the i-th record, five for each.
-fn put_numbers(numbers: &mut [u64], i: usize, row: [u64; 5])
+// The numbers of the i-th record, ten for each.
+fn put_numbers(numbers: &mut [u64], i: usize, row: [u64; 10])
     requires { ⌜ i < MAX-TXS ⌝ }
-    requires { ⌜ 5 * i + 5 ≤ length (now numbers) ⌝ }
-    ensures { λ _. ⌜ now (numbers .exit) ≡ paste (now (numbers .entry)) (5 * i) row 5 ⌝ }
+    requires { ⌜ 10 * i + 10 ≤ length (now numbers) ⌝ }
+    ensures { λ _. ⌜ now (numbers .exit) ≡ paste (now (numbers .entry)) (10 * i) row 10 ⌝ }
 {
-    let at = 5 * i;
+    let at = 10 * i;
     let mut k = 0;
-    while k < 5 {
+    while k < 10 {
         numbers[at + k] = row[k];
         k += 1;
     }
 }
 
-// What a record says of a transaction that passes, but for its id.
-fn numbers_of(tx: TxHead, anchored: u64, bump: u64, position: u64) -> [u64; 5]
-    ensures { λ r. ⌜ r ≡ numbersOf tx anchored bump position ⌝ }
+// What the flat form says of a transaction that passes, but for its id: its record's numbers, then where its inputs and outputs are read again.
+fn numbers_of(tx: TxHead, total: u64, anchored: u64, bump: u64, position: u64) -> [u64; 10]
+    ensures { λ r. ⌜ r ≡ numbersOf tx total anchored bump position ⌝ }
 {
     let start = tx.start;
     let end = tx.end;
+    let inputs = tx.inputs;
+    let outputs = tx.outputs;
     let length = if start <= end { end - start } else { 0 };
-    [start as u64, length as u64, bump, anchored, position]
+    [
+        start as u64,
+        length as u64,
+        bump,
+        anchored,
+        position,
+        outputs.count,
+        total,
+        inputs.count,
+        inputs.at.at as u64,
+        outputs.at.at as u64,
+    ]
 }
 
 // Whether each input has its parent among the ids.
-fn rests_on(s: &[u8], inputs: Items, ids: &[u8]) -> bool
+fn rests_on(s: &[u8], inputs: Items, ids: &[u8], order: &[u64]) -> bool
     ensures { λ r. ⌜ r ≡ restsFrom (now (s .entry)) (hashesOf (now (ids .entry))) (inputs .count) (inputs .at .at) ⌝ }
 {
     let count = inputs.count;
     let mut next = inputs.at;
+    let mut parent: usize = 0;
     let mut i: u64 = 0;
     while i < count {
         let field = format::read_input(s, next);
         let InputAnswer::Value(input, after) = field else {
             return false;
         };
-        if !is_among(format::hash_at(s, input.parent), ids) {
+        let x = format::hash_at(s, input.parent);
+        parent = place_among(x, ids, order, parent);
+        if ids.len() / 32 <= parent {
             return false;
         }
         next = after;
@@ -204,6 +199,7 @@ fn judge_entry(
     roots: &[u8],
     path: Path,
     ids: &[u8],
+    order: &[u64],
     id: [u8; 32],
     e: EntryHead,
 ) -> Standing
@@ -222,7 +218,7 @@ fn judge_entry(
             judge_anchor(s, roots, path, n, id)
         }
         Anchor::Unanchored => {
-            if !rests_on(s, tx.inputs, ids) {
+            if !rests_on(s, tx.inputs, ids, order) {
                 return Standing::Refuses(reject(NO_PARENT));
             }
             Standing::Passes {
@@ -252,7 +248,8 @@ fn blame(rejection: Rejection, n: usize) -> Rejection
     }
 }
 
-// So many transactions, each read again at its place and judged, from the first. The ids and the numbers of those that pass are written.
+// So many transactions, each read again at its place and judged up to 20, from the first. Their ids are there; the numbers of those that pass are
+// written.
 fn judge_entries(
     s: &[u8],
     roots: &[u8],
@@ -260,29 +257,31 @@ fn judge_entries(
     count: u64,
     start: Cursor,
     n: usize,
-    ids: &mut [u8],
+    order: &[u64],
+    ids: &[u8],
     numbers: &mut [u64],
 ) -> Verdict
     requires { ⌜ n ≤ MAX-TXS ⌝ }
     requires { ⌜ IDS-ROOM ≤ length (now ids) ⌝ }
     requires { ⌜ NUMBERS-ROOM ≤ length (now numbers) ⌝ }
-    ensures { λ r. ⌜ judgementOf r (now (ids .exit)) (now (numbers .exit)) ≡ judgeFrom (headId (now (s .entry))) (headStands (now (s .entry)) (now (roots .entry)) bumps) (headRow (now (s .entry))) [] (headsFrom count (now (s .entry)) n (start .at)) ⌝ }
+    requires { ⌜ IdsFrom count (now s) (start .at) n (now ids) ⌝ }
+    requires { ⌜ length (headsFrom count (now s) n (start .at)) ≡ n ⌝ }
+    ensures { λ r. ⌜ (judgementOf r (now (ids .entry)) (now (numbers .exit)) ≡ judgeFrom (headId (now (s .entry))) (headStands (now (s .entry)) (now (roots .entry)) bumps) (headRow (now (s .entry))) [] (headsFrom count (now (s .entry)) n (start .at))) × Written (now (s .entry)) (now (ids .entry)) (now (numbers .exit)) (headsFrom count (now (s .entry)) n (start .at)) (reachedBy r) ⌝ }
 {
     let mut kept = none_kept();
-    let mut four = no_ids();
     let mut next = start;
     let mut i = 0;
     while i < n {
         let field = format::read_entry(s, next, count);
         let EntryAnswer::Value(e, after) = field else {
-            return Verdict::Accepted(i);
+            // Each was read before: this is not reached.
+            return Verdict::Refused(blame(reject(SHORT), i));
         };
         let anchor = e.anchor;
         kept = keep_path(s, bumps, anchor, kept);
         let tx = e.transaction;
-        four = ids_ahead(s, count, next, i % 4, four);
-        let id = id_in(four, i % 4);
-        let standing = judge_entry(s, roots, kept.path, &ids[..32 * i], id, e);
+        let id = format::hash_at(ids, 32 * i);
+        let standing = judge_entry(s, roots, kept.path, &ids[..32 * i], order, id, e);
         match standing {
             Standing::Refuses(rejection) => {
                 return Verdict::Refused(blame(rejection, i));
@@ -292,8 +291,9 @@ fn judge_entries(
                 bump,
                 position,
             } => {
-                let row = numbers_of(tx, anchored, bump, position);
-                format::set_hash(ids, i, id);
+                let outputs = tx.outputs;
+                let total = outputs_total(s, outputs.count, outputs.at);
+                let row = numbers_of(tx, total, anchored, bump, position);
                 put_numbers(numbers, i, row);
                 next = after;
                 i += 1;
@@ -303,17 +303,40 @@ fn judge_entries(
     Verdict::Accepted(i)
 }
 
-// The bundle rule, for the bytes of a BEEF, a list of trusted roots end to end, and a table of so many rows. What the records say is written in a flat
-// form with room for 256: their ids end to end, and five numbers for each. Both callers lend that room; the tests of it stand for a `requires`, which
+// How many transactions passed before a verdict on them.
+fn reached(verdict: Verdict) -> usize
+    ensures { λ r. ⌜ r ≡ reachedBy verdict ⌝ }
+{
+    match verdict {
+        Verdict::Accepted(n) => n,
+        Verdict::Refused(rejection) => rejection.carried,
+    }
+}
+
+// A refusal by 26, 27 or 28 comes before the verdict: it is asked only of transactions that passed before.
+fn settle(verdict: Verdict, fault: Fault) -> Verdict
+    ensures { λ r. ⌜ ((ids numbers : List ℕ) → judgementOf r ids numbers ≡ settled (faultOf fault) (judgementOf verdict ids numbers)) ⌝ }
+{
+    let number = fault.number;
+    let entry = fault.entry;
+    if number == 0 {
+        return verdict;
+    }
+    Verdict::Refused(blame(reject(number), entry))
+}
+
+// The bundle rule, for the bytes of a BEEF, a list of trusted roots end to end, a fee that is asked of each transaction, and a table of so many rows. What the records say is written in a flat
+// form with room for 256: their ids end to end, and ten numbers for each. Both callers lend that room; the tests of it stand for a `requires`, which
 // a walk by hand would have to meet.
 pub(crate) fn judge_flat(
     s: &[u8],
     roots: &[u8],
+    fee: u64,
     room: usize,
     ids: &mut [u8],
     numbers: &mut [u64],
 ) -> Verdict
-    ensures { λ r. ⌜ (IDS-ROOM ≤ length (now (ids .entry)) → NUMBERS-ROOM ≤ length (now (numbers .entry)) → judgementOf r (now (ids .exit)) (now (numbers .exit)) ≡ judgeBeef (now (s .entry)) (now (roots .entry)) room) ⌝ }
+    ensures { λ r. ⌜ (IDS-ROOM ≤ length (now (ids .entry)) → NUMBERS-ROOM ≤ length (now (numbers .entry)) → judgementOf r (now (ids .exit)) (now (numbers .exit)) ≡ judgeBeef (now (s .entry)) (now (roots .entry)) fee room) ⌝ }
 {
     if ids.len() < IDS_ROOM {
         return refused(NO_ROOM);
@@ -327,15 +350,30 @@ pub(crate) fn judge_flat(
     if roots.len() % 32 != 0 {
         return refused(BAD_ROOTS);
     }
-    let answer = format::read_bundle(s, room);
+    let bundle = format::read_bundle(s, room);
+    let answer = bundle.answer;
     match answer {
         BeefAnswer::Refused(refusal) => Verdict::Refused(reject_reading(refusal)),
         BeefAnswer::Value(head, _) => {
-            let bumps = format::bump_heads(s);
+            let bumps = bundle.bumps;
             let count = head.bumps;
             let start = head.entries;
             let n = head.transactions;
-            judge_entries(s, roots, bumps, count as u64, start, n, ids, numbers)
+            write_ids(s, count as u64, start, n, ids);
+            let order = in_order(ids, n);
+            let verdict = judge_entries(
+                s,
+                roots,
+                bumps,
+                count as u64,
+                start,
+                n,
+                &order,
+                ids,
+                numbers,
+            );
+            let fault = judge_amounts(s, ids, &order, numbers, reached(verdict), fee);
+            settle(verdict, fault)
         }
     }
 }

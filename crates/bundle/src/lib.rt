@@ -1,6 +1,11 @@
 // Judging a BEEF against a list of trusted roots, into a table that the caller lends.
 mod ids;
 mod judging;
+mod marks;
+mod outputs;
+mod parents;
+mod pass;
+mod sums;
 mod table;
 
 pub use judging::Verdict;

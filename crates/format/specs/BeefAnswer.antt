@@ -1,5 +1,5 @@
--- What the answers of the BEEF readers say, and what is found again in a bundle that was read.
-use mathlib.Core.List.{List, [], _∷_}
+-- What the answers of the BEEF readers say.
+use mathlib.Core.List.{List, [], _∷_, map}
 use Prim.Native.Nat.{ℕ}
 use lib.ListN.{length, replicate}
 use Rattle.format.specs.declared.refusal.Refusal.{Refusal}
@@ -11,11 +11,11 @@ use Rattle.format.specs.declared.beef.EntryHead.{EntryHead}
 use Rattle.format.specs.declared.beef.EntryAnswer.{EntryAnswer}
 use Rattle.format.specs.declared.beef.BeefHead.{BeefHead}
 use Rattle.format.specs.declared.beef.BeefAnswer.{BeefAnswer}
-use Rattle.format.specs.Parse.{Parse, otherwise, times, got, bad}
+use Rattle.format.specs.Parse.{Parse, otherwise, each, got, bad}
 use Rattle.format.specs.Padded.{padded}
-use Rattle.format.specs.Search.{looseBump}
+use Rattle.format.specs.Bump.{Bump, headOf}
 use Rattle.format.specs.Transaction.{txHeadOf}
-use Rattle.format.specs.Beef.{Entry, Beef, bumpCountField}
+use Rattle.format.specs.Beef.{Entry, Beef}
 use Rattle.format.specs.Refusals.{MAX-BUMPS}
 
 abbrev pub anchorAnswer : AnchorAnswer → Parse Anchor
@@ -62,10 +62,13 @@ refusalOfBeef (BeefAnswer.Refused r) = r
 abbrev pub noBump : BumpHead
 noBump = record { block = 0; height = 0; leaves = 0; levels = record { at = 0 } }
 
--- the heads of n BUMPs from a place, and places that hold none after them
-unfoldable pub bumpHeadsAt : ℕ → List ℕ → ℕ → List BumpHead
-bumpHeadsAt n s at = otherwise (times looseBump n s at) (replicate MAX-BUMPS noBump) (λ l _. padded MAX-BUMPS noBump l)
+abbrev pub noBumps : List BumpHead
+noBumps = replicate MAX-BUMPS noBump
 
--- those of a bundle: its version takes four bytes
-unfoldable pub bumpHeads : List ℕ → List BumpHead
-bumpHeads s = otherwise (bumpCountField s 4) (replicate MAX-BUMPS noBump) (λ n next. bumpHeadsAt n s next)
+-- the heads of BUMPs, and places that hold none after them; none at all of a refusal
+unfoldable pub headsKept : Parse (List Bump) → List BumpHead
+headsKept p = otherwise p noBumps (λ l _. padded MAX-BUMPS noBump (map headOf l))
+
+-- those of a bundle
+abbrev pub headsOf : Parse Beef → List BumpHead
+headsOf p = headsKept (each (λ (b : Beef). b .bumps) p)

@@ -1,34 +1,29 @@
 -- Laws of BEEF: what a reading answers, and what is known of a bundle that was read.
 use mathlib.Core.Path.{_≡_, ap, sym, _∙_}
-use mathlib.Core.List.{List, [], _∷_, map}
-use mathlib.Core.Bool.{Bool, true, false, _&&_}
-use Prim.Native.Nat.{ℕ, zero, suc, _+_, _≤_, _<_}
-use lib.ListN.{length, getD, replicate}
+use mathlib.Core.List.{List, map}
+use mathlib.Core.Bool.{Bool, true, false}
+use Prim.Native.Nat.{ℕ, zero, suc, _≤_, _<_}
+use lib.ListN.{length, getD, length-map}
 use lib.Dec.{ltb, leb, eqb}
 use native.Mathlib.Omega.{arith}
 use borrow.Author.Tests.{leb-true, ltb-true}
-use Rattle.format.specs.declared.level.Layout.{Layout}
-use Rattle.format.specs.declared.level.Leaf.{Leaf}
 use Rattle.format.specs.declared.bump.BumpHead.{BumpHead}
 use Rattle.format.specs.declared.tx.TxHead.{TxHead}
 use Rattle.format.specs.declared.tx.Items.{Items}
 use Rattle.format.specs.declared.beef.Anchor.{Anchor}
-use Rattle.format.specs.Parse.{Parse, pick, pure, _passing_else_, given, each, many, times, got, bad}
-use Rattle.format.specs.ParseLaws.{passing-told, onward-told, each-got, each-bad, whole-told, many-told, many-length, many-loose}
-use Rattle.format.specs.Field.{bytes, byte, le4, number, varint}
-use Rattle.format.specs.Span.{ItemRead, times-told, bytes-told}
+use Rattle.format.specs.declared.beef.BeefHead.{BeefHead}
+use Rattle.format.specs.Parse.{Parse, pick, pure, _passing_else_, given, each, times, got, bad}
+use Rattle.format.specs.ParseLaws.{passing-told, onward-told, each-got, each-bad, whole-told, many-told, many-length}
+use Rattle.format.specs.Field.{byte, varint}
+use Rattle.format.specs.Span.{ItemRead, times-told}
 use Rattle.format.specs.Whole.{whole-size}
 use Rattle.format.specs.Padded.{padded}
-use Rattle.format.specs.Gather.{each-sames}
-use Rattle.format.specs.Level.{levelFields, levelInTurn, nextTurn}
-use Rattle.format.specs.Search.{looseLevel, looseBump}
-use Rattle.format.specs.SearchLaws.{level-loose}
-use Rattle.format.specs.Bump.{Bump, blockField, heightField, bumpField}
-use Rattle.format.specs.Transaction.{Transaction, txField, txHeadOf}
+use Rattle.format.specs.Bump.{Bump, bumpField, headOf}
+use Rattle.format.specs.Transaction.{Transaction, beefTxField, txHeadOf}
 use Rattle.format.specs.TransactionLaws.{tx-told}
-use Rattle.format.specs.Beef.{Entry, Beef, VERSION, versionField, bumpCountField, txCountField, bumpsField, bumpNumberField, anchorField, entryField, entriesField, beefField, beefWhole}
-use Rattle.format.specs.BeefAnswer.{entryHeadOf, firstAt, entriesOf, beefHeadOf, noBump, bumpHeadsAt, bumpHeads}
-use Rattle.format.specs.Refusals.{OVER-LIMIT, BAD-FLAG, BAD-HEIGHT, BAD-VERSION, EMPTY, BAD-INDEX, NO-ROOM, MAX-INPUT, MAX-BUMPS, MAX-TXS, MAX-BLOCK, MAX-HEIGHT}
+use Rattle.format.specs.Beef.{Entry, Beef, versionField, bumpCountField, txCountField, bumpsField, bumpNumberField, anchorField, entryField, entriesField, beefField, beefWhole}
+use Rattle.format.specs.BeefAnswer.{entryHeadOf, firstAt, entriesOf, beefHeadOf, noBump, noBumps, headsKept, headsOf}
+use Rattle.format.specs.Refusals.{OVER-LIMIT, BAD-FLAG, EMPTY, BAD-INDEX, NO-ROOM, MAX-INPUT, MAX-BUMPS, MAX-TXS}
 
 -- the counts
 pub bump-count-told : (s : List ℕ) (at : ℕ) {n q : ℕ} → bumpCountField s at ≡ got n q → n ≤ MAX-BUMPS
@@ -49,77 +44,28 @@ pub entry-head : (t : Transaction) (a : Anchor) (q : ℕ) {h : TxHead} → txHea
 unfolding each
 entry-head t a q e = rw (← e)
 
--- a loop that kept the heads of BUMPs
-module _ (n : ℕ) (s : List ℕ) (at : ℕ) where
-  pub heads-kept : {l kept : List BumpHead} {q : ℕ} → each (map (λ (h : BumpHead). h)) (times looseBump n s at) ≡ got l q → kept ≡ padded MAX-BUMPS noBump l → kept ≡ bumpHeadsAt n s at
-  unfolding bumpHeadsAt
-  heads-kept e k = rw (sym (each-sames (times looseBump n s at)) ∙ e, k)
+-- ---- the heads of BUMPs
 
-  pub heads-refused : {k q : ℕ} → each (map (λ (h : BumpHead). h)) (times looseBump n s at) ≡ bad k q → replicate MAX-BUMPS noBump ≡ bumpHeadsAt n s at
-  unfolding bumpHeadsAt
-  heads-refused e = rw (sym (each-sames (times looseBump n s at)) ∙ e)
+-- a reading that is refused has none
+pub heads-none : {C : Type 0} (f : List Bump → C) (p : Parse (List Bump)) {k q : ℕ} → each f p ≡ bad k q → (bad k q ≡ each length p) × (noBumps ≡ headsKept p)
+unfolding headsKept each
+heads-none f p e = let x = each-bad f p e in (rw x, rw x)
 
-pub heads-none : (s : List ℕ) {k q : ℕ} → bumpCountField s 4 ≡ bad k q → replicate MAX-BUMPS noBump ≡ bumpHeads s
-unfolding bumpHeads
-heads-none s e = rw e
-
-pub heads-some : (s : List ℕ) {n q : ℕ} → bumpCountField s 4 ≡ got n q → bumpHeadsAt n s q ≡ bumpHeads s
-unfolding bumpHeads
-heads-some s e = rw e
-
--- ---- BUMPs that were read are found again
-
--- what is found again of a BUMP
-abbrev pub foundHead : Bump → BumpHead
-foundHead b = record { block = b .block; height = b .height; leaves = 0; levels = record { at = b .start } }
-
-bump-loose : (s : List ℕ) (at : ℕ) {b : Bump} {q : ℕ} → bumpField s at ≡ got b q → looseBump s at ≡ got (foundHead b) q
-unfolding bumpField blockField heightField looseBump
-bump-loose s at {b} {q} e =
-    let x = onward-told ((varint passing (λ b. leb b MAX-BLOCK) else OVER-LIMIT) s at) _ e in
-    let y = onward-told ((byte passing (λ h. leb 1 h && leb h MAX-HEIGHT) else BAD-HEIGHT) s (x .1)) _ (x .3) in
-    let z = onward-told (levelFields Layout.Bump (y .0) s (y .1)) _ (y .3) in
-    let loose = many-loose {S′ = Unit {0}} (levelInTurn Layout.Bump (y .0)) nextTurn (λ _. looseLevel Layout.Bump) (λ u _. u) s (λ _ _ at′ _ _ h. level-loose Layout.Bump _ _ s at′ h) (y .0) 0 tt (y .1) (z .2) in
-    let is : _≡_ {A = Parse Bump} (got (record { block = x .0; height = y .0; start = y .1; levels = z .0 }) (z .1)) (got b q) = z .3 in
-    rw (passing-told varint (λ b. leb b MAX-BLOCK) OVER-LIMIT s at (x .2) .0, passing-told byte (λ h. leb 1 h && leb h MAX-HEIGHT) BAD-HEIGHT s (x .1) (y .2) .0, loose)
-    (built (x .0) (y .0) (y .1) (z .1) (z .0) is)
+-- a loop that read n BUMPs kept theirs
+pub heads-kept : (p : Parse (List Bump)) {l kept : List BumpHead} {n q : ℕ} → each (map headOf) p ≡ got l q → length l ≡ n → kept ≡ padded MAX-BUMPS noBump l
+    → (got n q ≡ each length p) × (kept ≡ headsKept p)
+unfolding headsKept each
+heads-kept p {l} {kept} {n} {q} e len k =
+    let x = each-got (map headOf) p e in
+    built (x .0) (x .1) (x .2)
   where
-    built : (block height start end : ℕ) (levels : List (List Leaf)) → _≡_ {A = Parse Bump} (got (record { block = block; height = height; start = start; levels = levels }) end) (got b q)
-        → _≡_ {A = Parse BumpHead} (got (record { block = block; height = height; leaves = 0; levels = record { at = start } }) end) (got (foundHead b) q)
-    built block height start end levels is =
-        let eb : record { block = block; height = height; start = start; levels = levels } ≡ b = cc in
-        let eq : end ≡ q = cc in
-        rw (← eb, ← eq)
+    built : (m : List Bump) → p ≡ got m q → map headOf m ≡ l → (got n q ≡ each length p) × (kept ≡ headsKept p)
+    built m r is = (rw (r, ← len, ← is, length-map), rw (r, k, is))
 
-bumps-loose : (s : List ℕ) (n at : ℕ) {l : List Bump} {q : ℕ} → times bumpField n s at ≡ got l q → times looseBump n s at ≡ got (map foundHead l) q
-unfolding many each
-bumps-loose s zero at {l} {q} e =
-    let none : [] ≡ l = cc in
-    let here : at ≡ q = cc in
-    rw (← none, ← here)
-bumps-loose s (suc n) at {l} {q} e =
-    let x = many-told {S = Unit {0}} (λ _. bumpField) (λ u _. u) n tt s at e in
-    more (x .0) (x .1) (x .2) (bump-loose s at (x .3)) (bumps-loose s n (x .1) (x .4)) (x .5)
-  where
-    more : (b : Bump) (r : ℕ) (rest : List Bump) → looseBump s at ≡ got (foundHead b) r → times looseBump n s r ≡ got (map foundHead rest) q → b ∷ rest ≡ l
-        → times looseBump (suc n) s at ≡ got (map foundHead l) q
-    more b r rest h f is = rw (h, f, ← is)
-
-version-told : (s : List ℕ) (at : ℕ) {v q : ℕ} → versionField s at ≡ got v q → q ≡ at + 4
-unfolding versionField
-version-told s at {v} {q} e =
-    let x = passing-told (number le4 4) (λ v. eqb v VERSION) BAD-VERSION s at e in
-    let y = onward-told (bytes 4 s at) _ (x .0) in
-    let b = bytes-told 4 s at (y .2) in
-    let z : y .1 ≡ q = cc in
-    sym z ∙ b .next-is
-
-heads-found : (s : List ℕ) (at : ℕ) {l : List Bump} {q : ℕ} → at ≡ 4 → bumpsField s at ≡ got l q → bumpHeads s ≡ padded MAX-BUMPS noBump (map foundHead l)
-unfolding bumpsField bumpHeads bumpHeadsAt
-heads-found s at {l} {q} four e =
-    let x = onward-told (bumpCountField s at) _ e in
-    let count : bumpCountField s 4 ≡ got (x .0) (x .1) = ap (bumpCountField s) (sym four) ∙ x .2 in
-    rw (count, bumps-loose s (x .0) (x .1) (x .3))
+-- by the fields
+pub heads-counted : (s : List ℕ) (at : ℕ) {n q : ℕ} → bumpCountField s at ≡ got n q → headsKept (times bumpField n s q) ≡ headsKept (bumpsField s at)
+unfolding bumpsField
+heads-counted s at e = rw e
 
 -- an anchor that was read: its BUMP number is below the count
 pub anchor-told : (bumps : ℕ) (s : List ℕ) (at : ℕ) {a : Anchor} {q : ℕ} → anchorField bumps s at ≡ got a q → (n : ℕ) → a ≡ Anchor.Bump n → n < bumps
@@ -140,24 +86,24 @@ anchor-told bumps s at {a} {q} e n h =
 
 -- an entry that was read: its transaction at its start, and its anchor
 pub record EntryRead (bumps : ℕ) (s : List ℕ) (e : Entry) : Type 0 where
-  pub transaction : txField s (e .transaction .start) ≡ got (e .transaction) (e .transaction .end)
+  pub transaction : beefTxField s (e .transaction .start) ≡ got (e .transaction) (e .transaction .end)
   pub anchored : (n : ℕ) → e .anchor ≡ Anchor.Bump n → n < bumps
 
 pub entry-told : (bumps : ℕ) (s : List ℕ) (at : ℕ) {e : Entry} {q : ℕ} → entryField bumps s at ≡ got e q → EntryRead bumps s e
 unfolding entryField
 entry-told bumps s at {e} {q} h =
-    let x = onward-told (txField s at) _ h in
+    let x = onward-told (beefTxField s at) _ h in
     let y = onward-told (anchorField bumps s (x .1)) _ (x .3) in
     let is : _≡_ {A = Parse Entry} (got (record { transaction = x .0; anchor = y .0 }) (y .1)) (got e q) = y .3 in
     built (x .0) (x .1) (y .0) (y .1) (x .2) (anchor-told bumps s (x .1) (y .2)) is
   where
-    built : (t : Transaction) (end : ℕ) (a : Anchor) (r : ℕ) → txField s at ≡ got t end → ((n : ℕ) → a ≡ Anchor.Bump n → n < bumps)
+    built : (t : Transaction) (end : ℕ) (a : Anchor) (r : ℕ) → beefTxField s at ≡ got t end → ((n : ℕ) → a ≡ Anchor.Bump n → n < bumps)
         → _≡_ {A = Parse Entry} (got (record { transaction = t; anchor = a }) r) (got e q) → EntryRead bumps s e
     built t end a r w g is =
         let ee : record { transaction = t; anchor = a } ≡ e = cc in
         let told = tx-told s at w in
         rw (← ee) (record {
-          transaction = ap (λ (p : ℕ). txField s p) (told .start-is) ∙ w ∙ ap (λ (p : ℕ). got t p) (sym (told .end-is));
+          transaction = ap (λ (p : ℕ). beefTxField s p) (told .start-is) ∙ w ∙ ap (λ (p : ℕ). got t p) (sym (told .end-is));
           anchored = g;
         })
 
@@ -169,7 +115,6 @@ pub record BeefRead (room : ℕ) (s : List ℕ) (b : Beef) : Type 0 where
   pub entries-low : length (b .entries) ≤ MAX-TXS
   pub fits : length (b .entries) ≤ room
   pub bump : (k : ℕ) (d : Bump) → k < length (b .bumps) → ItemRead bumpField s (getD (b .bumps) k d)
-  pub heads : bumpHeads s ≡ padded MAX-BUMPS noBump (map foundHead (b .bumps))
   pub entry : (k : ℕ) (d : Entry) → k < length (b .entries) → EntryRead (length (b .bumps)) s (getD (b .entries) k d)
   pub end : ℕ
   pub entries : times (entryField (length (b .bumps))) (length (b .entries)) s (firstAt (b .entries)) ≡ got (b .entries) end
@@ -190,7 +135,7 @@ unfolding firstAt entryField
 first-told bumps zero s at h e = absurd (omega arith)
 first-told bumps (suc n) s at {l} h e =
     let x = many-told {S = Unit {0}} (λ _. entryField bumps) (λ u _. u) n tt s at e in
-    let t = onward-told (txField s at) _ (x .3) in
+    let t = onward-told (beefTxField s at) _ (x .3) in
     let a = onward-told (anchorField bumps s (t .1)) _ (t .3) in
     let is : _≡_ {A = Parse Entry} (got (record { transaction = t .0; anchor = a .0 }) (a .1)) (got (x .0) (x .1)) = a .3 in
     let ee : record { transaction = t .0; anchor = a .0 } ≡ x .0 = cc in
@@ -224,12 +169,12 @@ beef-told room s {b} {q} e =
     let x = onward-told (bumpsField s (v .1)) _ (v .3) in
     let y = onward-told (entriesField (length (x .0)) room s (x .1)) _ (x .3) in
     let is : _≡_ {A = Parse Beef} (got (record { bumps = x .0; entries = y .0 }) (y .1)) (got b q) = y .3 in
-    built (x .0) (y .0) (y .1) (bumps-told s (v .1) (x .2)) (heads-found s (v .1) (version-told s 0 (v .2)) (x .2)) (entries-told (length (x .0)) room s (x .1) (y .2)) is
+    built (x .0) (y .0) (y .1) (bumps-told s (v .1) (x .2)) (entries-told (length (x .0)) room s (x .1) (y .2)) is
   where
     built : (l : List Bump) (k : List Entry) (end : ℕ) → (length l ≤ MAX-BUMPS) × ((k : ℕ) (d : Bump) → k < length l → ItemRead bumpField s (getD l k d))
-        → bumpHeads s ≡ padded MAX-BUMPS noBump (map foundHead l) → EntriesRead (length l) room s k end
+        → EntriesRead (length l) room s k end
         → _≡_ {A = Parse Beef} (got (record { bumps = l; entries = k }) end) (got b q) → BeefRead room s b
-    built l k end m h n is =
+    built l k end m n is =
         let eb : record { bumps = l; entries = k } ≡ b = cc in
         rw (← eb) (record {
           size = whole-size (beefField room) s e;
@@ -238,7 +183,6 @@ beef-told room s {b} {q} e =
           entries-low = n .low;
           fits = n .fits;
           bump = m .1;
-          heads = h;
           entry = n .entry;
           end = end;
           entries = n .again;
@@ -284,3 +228,29 @@ module _ (room : ℕ) (s : List ℕ) (at : ℕ) {v q : ℕ} (e : versionField s 
         built : (bumps : List Bump) (entries : List Entry) → bumpsField s q ≡ got bumps r → length bumps ≡ m → entriesField m room s r ≡ got entries t → entriesOf entries ≡ i
             → each beefHeadOf (beefField room s at) ≡ got (record { bumps = m; transactions = i .count; entries = i .at }) t
         built bumps entries b n k is = rw (e, b, n, k) (rw (n, ← is))
+
+    -- its heads are those of its BUMPs
+    pub beef-heads : {i : Items} {t : ℕ} → each entriesOf (entriesField m room s r) ≡ got i t → headsKept (bumpsField s q) ≡ headsOf (beefField room s at)
+    unfolding beefField each headsKept
+    beef-heads {i} {t} g =
+        let x = each-got length (bumpsField s q) f in
+        let y = each-got entriesOf (entriesField m room s r) g in
+        built (x .0) (y .0) (x .1) (x .2) (y .1)
+      where
+        built : (bumps : List Bump) (entries : List Entry) → bumpsField s q ≡ got bumps r → length bumps ≡ m → entriesField m room s r ≡ got entries t
+            → headsKept (bumpsField s q) ≡ headsOf (beefField room s at)
+        built bumps entries b n k = rw (e, b, n, k)
+
+-- the heads of a bundle that is refused, of one that was read, and of one that is a whole input
+pub bundle-refused : (p : Parse Beef) {k q : ℕ} → each beefHeadOf p ≡ bad k q → (bad k q ≡ each beefHeadOf p) × (noBumps ≡ headsOf p)
+unfolding each headsKept
+bundle-refused p e = (sym e, rw (each-bad beefHeadOf p e))
+
+pub heads-read : {p : Parse Beef} {b : Beef} {q : ℕ} → p ≡ got b q → headsOf p ≡ padded MAX-BUMPS noBump (map headOf (b .bumps))
+unfolding each headsKept
+heads-read e = rw e
+
+pub whole-heads : (room : ℕ) (s : List ℕ) {h : BeefHead} {q : ℕ} → each beefHeadOf (beefWhole room s) ≡ got h q → headsOf (beefField room s 0) ≡ headsOf (beefWhole room s)
+whole-heads room s e =
+    let x = each-got beefHeadOf (beefWhole room s) e in
+    ap headsOf (whole-told (beefField room) s (x .1) ∙ sym (x .1))

@@ -9,11 +9,9 @@ use borrow.Author.Tests.{leb-true}
 use Rattle.format.specs.Basics.{and-true}
 use Rattle.format.specs.declared.level.Layout.{Layout}
 use Rattle.format.specs.declared.level.Leaf.{Leaf}
-use lib.ListN.{length}
-use Rattle.format.specs.Parse.{Parse, each, times, got, bad}
+use Rattle.format.specs.Parse.{Parse, each, got, bad}
 use Rattle.format.specs.ParseLaws.{each-got, each-bad, passing-told, onward-told, whole-told}
-use Rattle.format.specs.Field.{byte, varint}
-use Rattle.format.specs.Search.{looseLevel, looseBump}
+use Rattle.format.specs.Field.{byte}
 use Rattle.format.specs.Level.{levelFields, total}
 use Rattle.format.specs.LevelLaws.{total-reverse}
 use Rattle.format.specs.Bump.{Bump, blockField, heightField, bumpField, bumpWhole, headOf}
@@ -47,17 +45,6 @@ module _ (s : List ℕ) (at : ℕ) {block q : ℕ} (e : blockField s at ≡ got 
     bump-read {t = t} g =
         let x = each-got total (levelFields Layout.Bump height s r) g in
         rw (e, f, x .1) (ap (λ (n : ℕ). got (record { block = block; height = height; leaves = n; levels = record { at = r } }) t) (x .2))
-
--- a BUMP that was read before, by its fields
-module _ (s : List ℕ) (at : ℕ) {block q : ℕ} (e : varint s at ≡ got block q) {height r : ℕ} (f : byte s q ≡ got height r) where
-  pub skip-no-levels : {n t : ℕ} → each length (times (looseLevel Layout.Bump) height s r) ≡ bad n t → looseBump s at ≡ bad n t
-  unfolding looseBump
-  skip-no-levels g = rw (e, f, each-bad length (times (looseLevel Layout.Bump) height s r) g)
-
-  pub skip-read : {n t : ℕ} → each length (times (looseLevel Layout.Bump) height s r) ≡ got n t
-      → looseBump s at ≡ got (record { block = block; height = height; leaves = 0; levels = record { at = r } }) t
-  unfolding looseBump
-  skip-read g = let x = each-got length (times (looseLevel Layout.Bump) height s r) g in rw (e, f, x .1)
 
 -- the answer of a CMP, by its fields
 module _ (s : List ℕ) (at : ℕ) {m r : ℕ} (e : topField s at ≡ got m r) where

@@ -54,7 +54,7 @@ EMPTY = 12
 abbrev pub NOT-LISTED : ℕ
 NOT-LISTED = 13
 
--- sibling not written
+-- sibling not written and not to be worked out
 abbrev pub MISSING : ℕ
 MISSING = 14
 
@@ -98,6 +98,22 @@ UNLIKE = 23
 abbrev pub SAME-ID : ℕ
 SAME-ID = 24
 
+-- 02, Item 9: an amount above its limit, or one that takes its transaction's running total above it
+abbrev pub BAD-AMOUNT : ℕ
+BAD-AMOUNT = 25
+
+-- output number not there
+abbrev pub NO-OUTPUT : ℕ
+NO-OUTPUT = 26
+
+-- output spent twice
+abbrev pub SPENT-TWICE : ℕ
+SPENT-TWICE = 27
+
+-- inputs come to too little
+abbrev pub TOO-LITTLE : ℕ
+TOO-LITTLE = 28
+
 -- 01, "Sizes"; layers and nodes as 02, Item 8, raised them
 
 -- bytes of an input, as for the hash
@@ -131,3 +147,7 @@ MAX-BUMPS = 64
 -- transactions of a BEEF
 abbrev pub MAX-TXS : ℕ
 MAX-TXS = 256
+
+-- the amounts of a transaction of a BEEF, in all (02, Item 9)
+abbrev pub MAX-TOTAL : ℕ
+MAX-TOTAL = 2_100_000_000_000_000

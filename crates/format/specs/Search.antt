@@ -9,12 +9,11 @@ use Rattle.format.specs.declared.level.Layout.{Layout}
 use Rattle.format.specs.declared.level.Leaf.{Leaf}
 use Rattle.format.specs.declared.level.Kind.{Kind}
 use Rattle.format.specs.declared.level.Kind.the-variants.{Plain, Copy, Client}
-use Rattle.format.specs.declared.bump.BumpHead.{BumpHead}
 use Rattle.format.specs.declared.path.Found.{Found}
 use Rattle.format.specs.declared.path.Found.the-variants.{Here, Missing}
 use Rattle.format.specs.declared.path.Start.{Start}
 use Rattle.format.specs.declared.path.Start.the-variants.{At, Nowhere}
-use Rattle.format.specs.Parse.{Reader, pick, pure, here, _>>=_, given, times, otherwise}
+use Rattle.format.specs.Parse.{Reader, pick, pure, _>>=_, given, times, otherwise}
 use Rattle.format.specs.Field.{bytes, byte, varint}
 use Rattle.format.specs.Level.{kindField}
 use Rattle.format.specs.Bytes.{same}
@@ -64,15 +63,6 @@ unfoldable pub looseLevel : Layout → Reader (List Leaf)
 looseLevel layout = do
   count ← varint
   times (looseLeaf layout) count
-
--- a BUMP without its tests, by its head; its leaves are not counted
-unfoldable pub looseBump : Reader BumpHead
-looseBump = do
-  block ← varint
-  height ← byte
-  start ← here
-  _ ← times (looseLevel Layout.Bump) height
-  pure (record { block = block; height = height; leaves = 0; levels = record { at = start } })
 
 -- the leaf at the offset j among n leaves from a place, as far as they can be read
 unfoldable pub seek : Layout → ℕ → ℕ → List ℕ → ℕ → Found

@@ -1,8 +1,7 @@
-// BEEF version 0100BEEF (document 004). A reading keeps counts and the place of the first transaction: what was read once is found again from there.
+// BEEF version 0100BEEF (document 004). A reading keeps counts, the heads of the BUMPs and the place of the first transaction: what was read once is found again from there.
 use super::bump::BumpAnswer;
 use super::bump::BumpHead;
 use super::bump::bump_at;
-use super::bump::skip_bump;
 use super::field::Cursor;
 use super::field::Number;
 use super::field::one_byte;
@@ -21,7 +20,7 @@ use super::tx::Items;
 use super::tx::ItemsAnswer;
 use super::tx::TxAnswer;
 use super::tx::TxHead;
-use super::tx::tx_at;
+use super::tx::tx_by;
 use hash::MAX_INPUT;
 ghost use mathlib.Core.Path.{_≡_};
 ghost use Prim.Native.Nat.{_≤_};
@@ -31,7 +30,7 @@ ghost use Rattle.format.specs.FieldAnswer.{numberOf};
 ghost use Rattle.format.specs.TransactionAnswer.{itemsAnswer};
 ghost use Rattle.format.specs.Bump.{bumpField};
 ghost use Rattle.format.specs.Beef.{versionField, bumpCountField, bumpsField, txCountField, bumpNumberField, anchorField, entryField, entriesField, beefField, beefWhole};
-ghost use Rattle.format.specs.BeefAnswer.{anchorAnswer, refusalOfAnchor, entryHeadOf, entryAnswer, refusalOfEntry, entriesOf, beefHeadOf, beefAnswer, refusalOfBeef, noBump, bumpHeadsAt, bumpHeads};
+ghost use Rattle.format.specs.BeefAnswer.{anchorAnswer, refusalOfAnchor, entryHeadOf, entryAnswer, refusalOfEntry, entriesOf, beefHeadOf, beefAnswer, refusalOfBeef, noBump, noBumps, headsKept, headsOf};
 ghost use Rattle.format.specs.Refusals.{MAX-BUMPS, MAX-TXS};
 
 pub struct Beef;
@@ -126,6 +125,18 @@ impl BeefAnswer {
     }
 }
 
+// A reading of a bundle: its answer, and the heads of the BUMPs, none if it is refused.
+pub struct Bundle {
+    pub answer: BeefAnswer,
+    pub bumps: [BumpHead; Beef::MAX_BUMPS],
+}
+
+// A reading of its BUMPs: how many there are, and their heads, none if one is refused.
+struct Bumps {
+    count: Number,
+    heads: [BumpHead; Beef::MAX_BUMPS],
+}
+
 fn no_bump() -> BumpHead
     ensures { λ r. ⌜ r ≡ noBump ⌝ }
 {
@@ -134,6 +145,30 @@ fn no_bump() -> BumpHead
         height: 0,
         leaves: 0,
         levels: Cursor { at: 0 },
+    }
+}
+
+fn no_bumps() -> [BumpHead; Beef::MAX_BUMPS]
+    ensures { λ r. ⌜ r ≡ noBumps ⌝ }
+{
+    let none = no_bump();
+    [none; Beef::MAX_BUMPS]
+}
+
+fn refused_bumps(count: Number) -> Bumps
+    ensures { λ r. ⌜ r ≡ record { count = count; heads = noBumps } ⌝ }
+{
+    let heads = no_bumps();
+    Bumps { count, heads }
+}
+
+fn refused_bundle(refusal: Refusal) -> Bundle
+    ensures { λ r. ⌜ r ≡ record { answer = BeefAnswer.Refused refusal; bumps = noBumps } ⌝ }
+{
+    let bumps = no_bumps();
+    Bundle {
+        answer: BeefAnswer::Refused(refusal),
+        bumps,
     }
 }
 
@@ -171,63 +206,36 @@ fn read_bump_count(s: &[u8], c: Cursor) -> Number
     field
 }
 
-fn all_bumps(s: &[u8], c: Cursor, count: u64) -> Number
-    ensures { λ r. ⌜ numberOf r ≡ each length (times bumpField count (now (s .entry)) (c .at)) ⌝ }
-{
-    let mut next = c;
-    let mut i: u64 = 0;
-    while i < count {
-        let field = bump_at(s, next);
-        let BumpAnswer::Value(_, after) = field else {
-            return Number::Refused(field.refusal());
-        };
-        next = after;
-        i += 1;
-    }
-    Number::Value(i, next)
-}
-
-fn read_bumps(s: &[u8], c: Cursor) -> Number
-    ensures { λ r. ⌜ numberOf r ≡ each length (bumpsField (now (s .entry)) (c .at)) ⌝ }
-{
-    let field = read_bump_count(s, c);
-    let Number::Value(count, next) = field else {
-        return field;
-    };
-    all_bumps(s, next, count)
-}
-
-// The heads of so many BUMPs that were read before.
-fn gather_heads(s: &[u8], c: Cursor, count: usize) -> [BumpHead; Beef::MAX_BUMPS]
+fn all_bumps(s: &[u8], c: Cursor, count: usize) -> Bumps
     requires { ⌜ count ≤ MAX-BUMPS ⌝ }
-    ensures { λ r. ⌜ r ≡ bumpHeadsAt count (now (s .entry)) (c .at) ⌝ }
+    ensures { λ r. ⌜ (numberOf (r .count) ≡ each length (times bumpField count (now (s .entry)) (c .at))) × (r .heads ≡ headsKept (times bumpField count (now (s .entry)) (c .at))) ⌝ }
 {
-    let none = no_bump();
-    let mut heads = [none; Beef::MAX_BUMPS];
+    let mut heads = no_bumps();
     let mut next = c;
     let mut i: usize = 0;
     while i < count {
-        let field = skip_bump(s, next);
+        let field = bump_at(s, next);
         let BumpAnswer::Value(head, after) = field else {
-            return [none; Beef::MAX_BUMPS];
+            return refused_bumps(Number::Refused(field.refusal()));
         };
         heads[i] = head;
         next = after;
         i += 1;
     }
-    heads
+    Bumps {
+        count: Number::Value(i as u64, next),
+        heads,
+    }
 }
 
-// The heads of the BUMPs of a bundle that was read before.
-pub fn bump_heads(s: &[u8]) -> [BumpHead; Beef::MAX_BUMPS]
-    ensures { λ r. ⌜ r ≡ bumpHeads (now (s .entry)) ⌝ }
+fn read_bumps(s: &[u8], c: Cursor) -> Bumps
+    ensures { λ r. ⌜ (numberOf (r .count) ≡ each length (bumpsField (now (s .entry)) (c .at))) × (r .heads ≡ headsKept (bumpsField (now (s .entry)) (c .at))) ⌝ }
 {
-    let field = read_bump_count(s, Cursor { at: 4 });
+    let field = read_bump_count(s, c);
     let Number::Value(count, next) = field else {
-        let none = no_bump();
-        return [none; Beef::MAX_BUMPS];
+        return refused_bumps(field);
     };
-    gather_heads(s, next, count as usize)
+    all_bumps(s, next, count as usize)
 }
 
 fn read_tx_count(s: &[u8], c: Cursor, room: usize) -> Number
@@ -304,7 +312,7 @@ fn read_anchor(s: &[u8], c: Cursor, bumps: u64) -> AnchorAnswer
 pub fn read_entry(s: &[u8], c: Cursor, bumps: u64) -> EntryAnswer
     ensures { λ r. ⌜ entryAnswer r ≡ each entryHeadOf (entryField bumps (now (s .entry)) (c .at)) ⌝ }
 {
-    let first = tx_at(s, c);
+    let first = tx_by(s, c, true);
     let TxAnswer::Value(transaction, second_at) = first else {
         return EntryAnswer::Refused(first.refusal());
     };
@@ -351,60 +359,68 @@ fn read_entries(s: &[u8], c: Cursor, bumps: u64, room: usize) -> ItemsAnswer
     ItemsAnswer::Value(Items { count, at }, next)
 }
 
-fn beef_at(s: &[u8], c: Cursor, room: usize) -> BeefAnswer
-    ensures { λ r. ⌜ beefAnswer r ≡ each beefHeadOf (beefField room (now (s .entry)) (c .at)) ⌝ }
+fn beef_at(s: &[u8], c: Cursor, room: usize) -> Bundle
+    ensures { λ r. ⌜ (beefAnswer (r .answer) ≡ each beefHeadOf (beefField room (now (s .entry)) (c .at))) × (r .bumps ≡ headsOf (beefField room (now (s .entry)) (c .at))) ⌝ }
 {
     let version = read_version(s, c);
     let Number::Value(_, bumps_at) = version else {
-        return BeefAnswer::Refused(version.refusal());
+        return refused_bundle(version.refusal());
     };
-    let first = read_bumps(s, bumps_at);
+    let read = read_bumps(s, bumps_at);
+    let first = read.count;
+    let heads = read.heads;
     let Number::Value(bumps, entries_at) = first else {
-        return BeefAnswer::Refused(first.refusal());
+        return refused_bundle(first.refusal());
     };
     let second = read_entries(s, entries_at, bumps, room);
     let ItemsAnswer::Value(items, next) = second else {
-        return BeefAnswer::Refused(second.refusal());
+        return refused_bundle(second.refusal());
     };
     let count = items.count;
     let entries = items.at;
-    BeefAnswer::Value(
+    let answer = BeefAnswer::Value(
         BeefHead {
             bumps: bumps as usize,
             transactions: count as usize,
             entries,
         },
         next,
-    )
+    );
+    Bundle {
+        answer,
+        bumps: heads,
+    }
 }
 
-// An input that is one BEEF, with a table of so many records lent.
-pub fn read_bundle(s: &[u8], room: usize) -> BeefAnswer
-    ensures { λ r. ⌜ beefAnswer r ≡ each beefHeadOf (beefWhole room (now (s .entry))) ⌝ }
+// An input that is one BEEF, with a table of so many records lent, and the heads of its BUMPs.
+pub fn read_bundle(s: &[u8], room: usize) -> Bundle
+    ensures { λ r. ⌜ (beefAnswer (r .answer) ≡ each beefHeadOf (beefWhole room (now (s .entry)))) × (r .bumps ≡ headsOf (beefWhole room (now (s .entry)))) ⌝ }
 {
     if MAX_INPUT < s.len() {
-        return BeefAnswer::Refused(Refusal {
+        return refused_bundle(Refusal {
             number: TOO_LONG,
             place: 0,
         });
     }
-    let field = beef_at(s, Beef::start(), room);
+    let bundle = beef_at(s, Beef::start(), room);
+    let field = bundle.answer;
     let BeefAnswer::Value(_, next) = field else {
-        return field;
+        return bundle;
     };
     let at = next.at;
     if at < s.len() {
-        return BeefAnswer::Refused(Refusal {
+        return refused_bundle(Refusal {
             number: EXTRA,
             place: at,
         });
     }
-    field
+    bundle
 }
 
 // An input that is one BEEF: how many BUMPs and transactions it has.
 pub fn read_beef(s: &[u8]) -> BeefAnswer
     ensures { λ r. ⌜ beefAnswer r ≡ each beefHeadOf (beefWhole MAX-TXS (now (s .entry))) ⌝ }
 {
-    read_bundle(s, Beef::MAX_TRANSACTIONS)
+    let bundle = read_bundle(s, Beef::MAX_TRANSACTIONS);
+    bundle.answer
 }

@@ -5,7 +5,6 @@ use super::field::one_byte;
 use super::field::read_varint;
 use super::level::Layout;
 use super::level::read_levels;
-use super::level::skip_level;
 use super::refusal::BAD_HEIGHT;
 use super::refusal::EXTRA;
 use super::refusal::OVER_LIMIT;
@@ -13,10 +12,8 @@ use super::refusal::Refusal;
 use super::refusal::TOO_LONG;
 use hash::MAX_INPUT;
 ghost use mathlib.Core.Path.{_≡_};
-ghost use lib.ListN.{length};
-ghost use Rattle.format.specs.Parse.{each, times};
+ghost use Rattle.format.specs.Parse.{each};
 ghost use Rattle.format.specs.FieldAnswer.{numberOf};
-ghost use Rattle.format.specs.Search.{looseLevel, looseBump};
 ghost use Rattle.format.specs.Bump.{blockField, heightField, bumpField, bumpWhole, headOf, bumpAnswer, refusalOfBump};
 
 // The format: its limits (01, "Sizes"; 02, Item 8), and where a reading of it starts.
@@ -121,49 +118,6 @@ pub fn bump_at(s: &[u8], c: Cursor) -> BumpAnswer
             block,
             height,
             leaves,
-            levels,
-        },
-        next,
-    )
-}
-
-fn skip_levels(s: &[u8], c: Cursor, count: u64) -> Number
-    ensures { λ r. ⌜ numberOf r ≡ each length (times (looseLevel Layout.Bump) count (now (s .entry)) (c .at)) ⌝ }
-{
-    let mut next = c;
-    let mut i: u64 = 0;
-    while i < count {
-        let field = skip_level(s, next, Layout::Bump);
-        let Number::Value(_, after) = field else {
-            return field;
-        };
-        next = after;
-        i += 1;
-    }
-    Number::Value(i, next)
-}
-
-// A BUMP that was read before: its leaves are not counted again.
-pub(crate) fn skip_bump(s: &[u8], c: Cursor) -> BumpAnswer
-    ensures { λ r. ⌜ bumpAnswer r ≡ looseBump (now (s .entry)) (c .at) ⌝ }
-{
-    let first = read_varint(s, c);
-    let Number::Value(block, second_at) = first else {
-        return BumpAnswer::Refused(first.refusal());
-    };
-    let second = one_byte(s, second_at);
-    let Number::Value(height, levels) = second else {
-        return BumpAnswer::Refused(second.refusal());
-    };
-    let third = skip_levels(s, levels, height);
-    let Number::Value(_, next) = third else {
-        return BumpAnswer::Refused(third.refusal());
-    };
-    BumpAnswer::Value(
-        BumpHead {
-            block,
-            height,
-            leaves: 0,
             levels,
         },
         next,

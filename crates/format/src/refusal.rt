@@ -45,7 +45,7 @@ pub const EMPTY: u8 = 12;
 // id not at level 0
 pub const NOT_LISTED: u8 = 13;
 
-// sibling not written
+// sibling not written and not to be worked out
 pub const MISSING: u8 = 14;
 
 // sibling equal to the working hash at an odd position
@@ -77,3 +77,15 @@ pub const UNLIKE: u8 = 23;
 
 // two proofs agree and prove one id
 pub const SAME_ID: u8 = 24;
+
+// an amount above its limit, or one that takes its transaction's running total above it (02, Item 9)
+pub const BAD_AMOUNT: u8 = 25;
+
+// output number not there
+pub const NO_OUTPUT: u8 = 26;
+
+// output spent twice
+pub const SPENT_TWICE: u8 = 27;
+
+// inputs come to too little
+pub const TOO_LITTLE: u8 = 28;

@@ -29,7 +29,7 @@ pub fn run() {
     let mut random = Random::of("judge");
     let chain = chain(&mut random, 256);
     compare("256 transactions, one anchored", &chain.draft().bytes, &chain.root_list());
-    let forest = Plan::random(&mut random, 256);
+    let forest = Plan { fee: 0, ..Plan::random(&mut random, 256) };
     compare("256 transactions, some anchored", &forest.draft().bytes, &forest.root_list());
 
     println!("\nBundles of transactions of 250 bytes, beside the hashing of these one by one");
@@ -46,7 +46,12 @@ pub fn run() {
         let name = format!("256 transactions in one BUMP of {height} full levels");
         worst(&name, &anchored_in_one(&mut random, height));
     }
-    worst("400,000 inputs, parent the first of 255", &many_inputs(&mut random));
+    for order in [Order::Parents, Order::Any] {
+        let name = format!("331,500 outputs of 255 spent, {}", order.words());
+        worst(&name, &all_spent(&mut random, order));
+    }
+    worst("932,000 outputs, 200,000 of two spent in turn", &two_in_turn(&mut random));
+    worst("400,000 inputs that spend one output (27)", &one_spent(&mut random));
     for (count, height) in [(64, 32), (26, 64)] {
         let name = format!("{count} BUMPs of {height} levels of 1,024 falling leaves");
         worst(&name, &many_bumps(&mut random, count, height));
@@ -57,8 +62,8 @@ fn compare(name: &str, bundle: &[u8], roots: &[u8]) {
     let read = beef::read(bundle).expect("a well-formed bundle");
     let count = read.entries.len();
     let mut table = vec![Record::default(); count];
-    let answer = barrowtide::judge_beef(bundle, roots, &mut table);
-    assert_eq!(answer.ok(), judge(bundle, roots, count).0.ok());
+    let answer = barrowtide::judge_beef(bundle, roots, 0, &mut table);
+    assert_eq!(answer, Ok(count as u64));
 
     let transactions: Vec<&[u8]> = read
         .entries
@@ -69,8 +74,8 @@ fn compare(name: &str, bundle: &[u8], roots: &[u8]) {
     let joins: u64 = read.entries.iter().filter_map(|entry| entry.anchor).map(height).sum();
     let node = [7; 32];
     let times = seconds(vec![
-        subject(|| barrowtide::judge_beef(bundle, roots, &mut table)),
-        subject(|| judge(bundle, roots, count)),
+        subject(|| barrowtide::judge_beef(bundle, roots, 0, &mut table)),
+        subject(|| judge(bundle, roots, 0, count)),
         subject(|| transactions.iter().filter_map(|bytes| sha256d(bytes).ok()).count()),
         subject(|| join(&node, &node)),
     ]);
@@ -85,20 +90,19 @@ fn compare(name: &str, bundle: &[u8], roots: &[u8]) {
 
 /// Prints the row of a chain of so many transactions of 250 bytes.
 fn of_250_bytes(random: &mut Random, count: usize) {
-    let plan = chain_of(random, count, |random, parent| {
-        let mut next = transaction::Plan::spending(random, &[parent]);
+    let plan = chain_of(random, count, |random, mut next| {
         next.inputs[0].2.clear();
-        next.outputs = vec![(1, random.bytes(25)), (2, random.bytes(25))];
+        next.outputs = vec![(next.outputs[0].0, random.bytes(25)), (0, random.bytes(25))];
         next.inputs[0].2 = random.bytes(250 - next.draft().bytes.len());
         next
     });
     let (bundle, roots) = (plan.draft().bytes, plan.root_list());
     let mut table = vec![Record::default(); count];
-    assert_eq!(barrowtide::judge_beef(&bundle, &roots, &mut table), Ok(count as u64));
+    assert_eq!(barrowtide::judge_beef(&bundle, &roots, 0, &mut table), Ok(count as u64));
     let transactions: Vec<_> = plan.entries.iter().map(|entry| entry.0.draft().bytes).collect();
     assert!(transactions.iter().all(|bytes| bytes.len() == 250));
     let mut subjects = vec![
-        subject(|| barrowtide::judge_beef(&bundle, &roots, &mut table)),
+        subject(|| barrowtide::judge_beef(&bundle, &roots, 0, &mut table)),
         subject(|| transactions.iter().filter_map(|bytes| sha256d(bytes).ok()).count()),
     ];
     if let Some(openssl) = OpenSsl::find() {
@@ -119,56 +123,126 @@ fn worst(name: &str, plan: &Plan) {
     let (bundle, roots) = (plan.draft().bytes, plan.root_list());
     let count = plan.entries.len();
     let mut table = vec![Record::default(); count];
+    let answer = barrowtide::judge_beef(&bundle, &roots, 0, &mut table);
+    let told = judge(&bundle, &roots, 0, count).0;
+    assert_eq!(
+        answer.map_err(|refusal| (refusal.reason.number(), refusal.carried)),
+        told.map_err(|refusal| (refusal.number, refusal.carried))
+    );
     row(
         name,
         bundle.len(),
-        seconds_of(|| barrowtide::judge_beef(&bundle, &roots, &mut table).expect("a sound bundle")),
-        seconds_of(|| judge(&bundle, &roots, count).0.expect("a sound bundle")),
+        seconds_of(|| barrowtide::judge_beef(&bundle, &roots, 0, &mut table)),
+        seconds_of(|| judge(&bundle, &roots, 0, count)),
     );
 }
 
 /// A bundle with one anchored transaction and a chain of others that spend from it.
 fn chain(random: &mut Random, count: usize) -> Plan {
-    chain_of(random, count, |random, parent| transaction::Plan::spending(random, &[parent]))
+    chain_of(random, count, |_, next| next)
 }
 
-/// The same, of transactions that are made for their parents.
+/// The same, of transactions that are changed as they are made. Each spends the first output of the
+/// one before it and leaves a satoshi.
 fn chain_of(
     random: &mut Random,
     count: usize,
-    spending: impl Fn(&mut Random, Hash) -> transaction::Plan,
+    changed: impl Fn(&mut Random, transaction::Plan) -> transaction::Plan,
 ) -> Plan {
+    let spending = |random: &mut Random, parent: Hash, pays: usize| {
+        let next = transaction::Plan::spending(random, &[(parent, 0)], &[pays as u64, 0]);
+        changed(random, next)
+    };
     let unknown = random.hash();
-    let first = spending(random, unknown);
+    let first = spending(random, unknown, count);
     let mut ids: Vec<Hash> = (0..1_000).map(|_| random.hash()).collect();
     ids[500] = first.id();
     let tree = Tree::new(ids);
     let mut last = first.id();
     let mut entries = vec![(first, Some(0))];
     while entries.len() < count {
-        let next = spending(random, last);
+        let next = spending(random, last, count - entries.len());
         last = next.id();
         entries.push((next, None));
     }
-    Plan { bumps: vec![path::Plan::of(&tree, &[500])], entries, roots: vec![tree.root()] }
+    Plan { bumps: vec![path::Plan::of(&tree, &[500])], entries, roots: vec![tree.root()], fee: 0 }
 }
 
 /// 256 transactions anchored in one BUMP of so many full levels.
 fn anchored_in_one(random: &mut Random, height: u32) -> Plan {
-    let entries: Vec<_> = (0..256).map(|_| (transaction::Plan::random(random), Some(0))).collect();
+    let entries: Vec<_> = (0..256).map(|_| (transaction::Plan::mined(random), Some(0))).collect();
     let tree = Tree::new(entries.iter().map(|entry| entry.0.id()).collect());
     let positions: Vec<u64> = (0..256).collect();
     let (bump, root) = buried(&tree, &positions, height);
-    Plan { bumps: vec![bump], entries, roots: vec![root] }
+    Plan { bumps: vec![bump], entries, roots: vec![root], fee: 0 }
 }
 
-/// 255 transactions in a chain, and one whose 400,000 inputs all spend from the first of them.
-fn many_inputs(random: &mut Random) -> Plan {
-    let mut plan = chain(random, 255);
-    let parent = plan.entries[0].0.id();
-    let mut greedy = transaction::Plan::spending(random, &[parent]);
-    greedy.inputs = (0..400_000).map(|number| (parent, number, Vec::new(), 0)).collect();
+/// Transactions of one block with so many outputs of one satoshi each.
+fn with_outputs(random: &mut Random, counts: &[usize]) -> Plan {
+    let with = |&count: &usize| {
+        let mut parent = transaction::Plan::spending(random, &[([7; 32], 0)], &[1]);
+        parent.outputs = vec![(1, Vec::new()); count];
+        (parent, Some(0))
+    };
+    let entries: Vec<_> = counts.iter().map(with).collect();
+    let tree = Tree::new(entries.iter().map(|entry| entry.0.id()).collect());
+    let positions: Vec<u64> = (0..counts.len() as u64).collect();
+    let bumps = vec![path::Plan::of(&tree, &positions)];
+    Plan { bumps, entries, roots: vec![tree.root()], fee: 0 }
+}
+
+/// Adds a transaction that spends outputs of others, and pays nothing.
+fn spend(plan: &mut Plan, random: &mut Random, outputs: impl Iterator<Item = (usize, u32)>) {
+    let ids: Vec<Hash> = plan.entries.iter().map(|entry| entry.0.id()).collect();
+    let mut greedy = transaction::Plan::spending(random, &[], &[0]);
+    greedy.inputs = outputs.map(|(entry, output)| (ids[entry], output, Vec::new(), 0)).collect();
     plan.entries.push((greedy, None));
+}
+
+/// The order of inputs.
+#[derive(Clone, Copy)]
+enum Order {
+    Parents,
+    Any,
+}
+
+impl Order {
+    fn words(self) -> &'static str {
+        match self {
+            Order::Parents => "in order",
+            Order::Any => "in any order",
+        }
+    }
+}
+
+/// 255 transactions with 1,300 outputs each, and one that spends all of them: as many as an input
+/// holds.
+fn all_spent(random: &mut Random, order: Order) -> Plan {
+    let mut plan = with_outputs(random, &[1_300; 255]);
+    let mut outputs: Vec<(usize, u32)> =
+        (0..255).flat_map(|entry| (0..1_300).map(move |output| (entry, output))).collect();
+    if let Order::Any = order {
+        random.shuffle(&mut outputs);
+    }
+    spend(&mut plan, random, outputs.into_iter());
+    plan
+}
+
+/// 255 transactions with 932,000 outputs, and one that spends 200,000 of the first two of them, from
+/// one and the other in turn.
+fn two_in_turn(random: &mut Random) -> Plan {
+    let mut counts = vec![100_000; 2];
+    counts.resize(255, 732_000 / 253);
+    let mut plan = with_outputs(random, &counts);
+    let outputs = (0..200_000).map(|number| (number % 2, number as u32 / 2));
+    spend(&mut plan, random, outputs);
+    plan
+}
+
+/// A transaction with 400,000 inputs that all spend one output of the first of 255.
+fn one_spent(random: &mut Random) -> Plan {
+    let mut plan = with_outputs(random, &[1; 255]);
+    spend(&mut plan, random, (0..400_000).map(|_| (0, 0)));
     plan
 }
 

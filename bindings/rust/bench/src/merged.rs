@@ -36,7 +36,7 @@ pub fn run() {
 
 /// A block of 1,024 ids of which 256 are a bundle's transactions, as client leaves and nothing else.
 fn clients_alone(random: &mut Random, order: &str) {
-    let entries: Vec<_> = (0..256).map(|_| (transaction::Plan::random(random), Some(0))).collect();
+    let entries: Vec<_> = (0..256).map(|_| (transaction::Plan::mined(random), Some(0))).collect();
     let mut ids: Vec<Hash> = entries.iter().map(|entry| entry.0.id()).collect();
     ids.resize_with(1_024, || random.hash());
     random.shuffle(&mut ids);
@@ -55,15 +55,15 @@ fn clients_alone(random: &mut Random, order: &str) {
         subject(|| check_clients(&bump)),
         subject(|| prove::all_clients(&bump)),
     );
-    let plan = bundle::Plan { bumps: vec![path], entries, roots: vec![tree.root()] };
+    let plan = bundle::Plan { bumps: vec![path], entries, roots: vec![tree.root()], fee: 0 };
     let (beef, roots) = (plan.draft().bytes, plan.root_list());
     let mut table = [Record::default(); 256];
-    assert_eq!(barrowtide::judge_beef(&beef, &roots, &mut table), Ok(256));
+    assert_eq!(barrowtide::judge_beef(&beef, &roots, 0, &mut table), Ok(256));
     long_row(
         "  256 of them judged",
         256 * 1_023,
-        subject(|| barrowtide::judge_beef(&beef, &roots, &mut table)),
-        subject(|| judge(&beef, &roots, 256)),
+        subject(|| barrowtide::judge_beef(&beef, &roots, 0, &mut table)),
+        subject(|| judge(&beef, &roots, 0, 256)),
     );
 }
 

@@ -22,7 +22,7 @@ extern "C" {
 /// Prints the table of the stack.
 pub fn run() {
     let mut random = Random::of("stack");
-    let own = transaction::Plan::random(&mut random);
+    let own = transaction::Plan::spending(&mut random, &[([7; 32], 0)], &[1_000]);
     let (id, raw) = (own.id(), own.draft());
     let mut ids = vec![[7; 32]; 1_000];
     ids[777] = id;
@@ -35,8 +35,9 @@ pub fn run() {
     proof.aim(4, &mut random);
     let proof = proof.draft().bytes;
     let root = prove_bump(&bump, &id).expect("a sound path").root;
-    let bundle =
-        bundle::Plan { bumps: vec![path], entries: vec![(own, Some(0))], roots: vec![root] };
+    let child = transaction::Plan::spending(&mut random, &[(id, 0)], &[1]);
+    let entries = vec![(own, Some(0)), (child, None)];
+    let bundle = bundle::Plan { bumps: vec![path], entries, roots: vec![root], fee: 0 };
     let (beef, roots) = (bundle.draft().bytes, bundle.root_list());
 
     println!("\nStack of a call, in bytes");

@@ -12,6 +12,7 @@ extern "C" {
         len: usize,
         roots: *const u8,
         roots_len: usize,
+        fee: u64,
         table: *mut Record,
         table_len: usize,
         blame: *mut Blame,
@@ -20,18 +21,21 @@ extern "C" {
 }
 
 /// The size and the fields of `barrowtide_record`.
-const _: () = assert!(size_of::<Record>() == 64);
+const _: () = assert!(size_of::<Record>() == 80);
 const _: () = assert!(offset_of!(Record, start) == 0);
 const _: () = assert!(offset_of!(Record, length) == 8);
 const _: () = assert!(offset_of!(Record, id) == 16);
 const _: () = assert!(offset_of!(Record, bump) == 48);
 const _: () = assert!(offset_of!(Record, anchored) == 52);
 const _: () = assert!(offset_of!(Record, position) == 56);
+const _: () = assert!(offset_of!(Record, outputs) == 64);
+const _: () = assert!(offset_of!(Record, total) == 72);
 
-/// `barrowtide_judge_beef`: a bundle against a list of roots, into a lent table.
+/// `barrowtide_judge_beef`: a bundle against a list of roots and a fee, into a lent table.
 pub fn judge_beef(
     data: &[u8],
     roots: &[u8],
+    fee: u64,
     table: &mut [Record],
     blame: &mut Blame,
     transactions: &mut u64,
@@ -45,6 +49,7 @@ pub fn judge_beef(
             data.len(),
             roots.as_ptr(),
             roots.len(),
+            fee,
             table.as_mut_ptr(),
             table.len(),
             blame,

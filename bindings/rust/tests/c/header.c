@@ -23,10 +23,11 @@ int main(void)
     printf("version %d.%d.%d, archive %" PRIu32 "\n", BARROWTIDE_VERSION_MAJOR,
            BARROWTIDE_VERSION_MINOR, BARROWTIDE_VERSION_PATCH, barrowtide_version());
     printf("of one version %d\n", barrowtide_version() == BARROWTIDE_VERSION_NUMBER);
-    for (uint32_t number = 0; number <= BARROWTIDE_SAME_ID + 1; number++)
+    for (uint32_t number = 0; number <= BARROWTIDE_TOO_LITTLE + 1; number++)
         printf("%" PRIu32 " %s\n", number, barrowtide_refusal_name(number));
     printf("input %d\n", BARROWTIDE_MAX_INPUT);
     printf("transactions %d\n", BARROWTIDE_MAX_TRANSACTIONS);
+    printf("total %" PRIu64 "\n", (uint64_t)BARROWTIDE_MAX_TOTAL);
     printf("page %d\n", BARROWTIDE_MAX_PAGE);
     printf("ids %d\n", BARROWTIDE_MAX_IDS);
     printf("write room %d\n", BARROWTIDE_WRITE_ROOM);
@@ -39,7 +40,7 @@ int main(void)
 
     print_call("hash of nothing", barrowtide_sha256d(NULL, 0, &blame, digest), &blame);
     print_call("no bundle",
-               barrowtide_judge_beef(NULL, 0, NULL, 0, NULL, 0, &blame, &transactions), &blame);
+               barrowtide_judge_beef(NULL, 0, NULL, 0, 0, NULL, 0, &blame, &transactions), &blame);
     print_call("no path", barrowtide_prove_page(NULL, 0, NULL, 0, NULL, 0, &blame), &blame);
     print_call("no paths",
                barrowtide_differences(NULL, 0, NULL, 0, NULL, 0, &blame, &written), &blame);

@@ -26,15 +26,18 @@ fn unreadable() -> Failure {
 }
 
 pub fn judge(words: &[OsString]) -> Answer {
-    let [beef, roots] = words else { return Err(Failure::Misused) };
+    let (fee, words) = input::option("--fee", words)?;
+    let [beef, roots] = words[..] else { return Err(Failure::Misused) };
+    let fee = fee.map_or(Ok(0), |word| input::number("fee", word))?;
     let (bundle, roots) = (input::bytes(beef)?, input::hashes(roots)?);
-    let verdict = barrowtide::judge(&bundle, &roots).map_err(refused(Asked::Judge, &bundle))?;
+    let verdict =
+        barrowtide::judge(&bundle, &roots, fee).map_err(refused(Asked::Judge, &bundle))?;
     let count = counted(verdict.records.len() as u64, "transaction", "transactions");
     let mut text = format!(
-        "accepted: each transaction is mined under a trusted root or spends only earlier ones of \
-         the bundle; {count}\n"
+        "accepted: each transaction is mined under a trusted root or spends what earlier ones of \
+         the bundle pay, once, and leaves more than the fee; {count}\n"
     );
-    text += "  no     start    length  anchored  bump    position  id\n";
+    text += "  no     start    length  anchored  bump    position  outputs             total  id\n";
     for (number, record) in verdict.records.iter().enumerate() {
         text += &row(number, record);
     }
@@ -48,8 +51,11 @@ fn row(number: usize, record: &Record) -> String {
     } else {
         ("no", "-".to_string(), "-".to_string())
     };
-    let Record { start, length, id, .. } = record;
-    format!("{number:4}  {start:8}  {length:8}  {anchored:8}  {bump:>4}  {position:>10}  {id}\n")
+    let Record { start, length, id, outputs, total, .. } = record;
+    format!(
+        "{number:4}  {start:8}  {length:8}  {anchored:8}  {bump:>4}  {position:>10}  {outputs:7}  \
+         {total:16}  {id}\n"
+    )
 }
 
 fn record_json(record: &Record) -> Json {
@@ -61,6 +67,8 @@ fn record_json(record: &Record) -> Json {
         ("anchored", anchored.into()),
         ("bump", anchored.then_some(u64::from(record.bump)).into()),
         ("position", anchored.then_some(record.position).into()),
+        ("outputs", record.outputs.into()),
+        ("total", record.total.into()),
     ])
 }
 

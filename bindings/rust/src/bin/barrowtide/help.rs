@@ -17,6 +17,8 @@ pub struct Command {
     pub about: &'static str,
     /// An example, to be run at the top of the repository.
     pub example: &'static str,
+    /// Options of its own, each with a value after it.
+    pub options: &'static [&'static str],
     /// Whether it gives bytes.
     pub gives_bytes: bool,
     /// Whether it gives a picture.
@@ -31,6 +33,7 @@ const PLAIN: Command = Command {
     brief: "",
     about: "",
     example: "",
+    options: &[],
     gives_bytes: false,
     gives_picture: false,
     run: commands::judge,
@@ -40,21 +43,29 @@ const PLAIN: Command = Command {
 pub const COMMANDS: [Command; 11] = [
     Command {
         name: "judge",
-        usage: "judge BEEF ROOTS",
+        usage: "judge BEEF ROOTS [--fee N]",
         brief: "judge a BEEF bundle against trusted roots",
         about: "\
 BEEF is a file with the bundle. ROOTS is a file with a trusted Merkle root on each
 line. If every transaction is mined under one of them, or spends only earlier ones
 of the bundle, the table of transactions is printed: where each starts, how long
-it is, and the BUMP and position in the block that anchor it.
+it is, the BUMP and position in the block that anchor it, how many outputs it has
+and what they come to, in satoshi.
+
+A transaction that is not mined must spend outputs that are there, none of them
+spent already by itself or by another such one, and take in more than it pays out
+and N satoshi of fee besides. N is 0 if it is not given: then one satoshi that is
+left is enough.
 
 What acceptance does not say:
 - Scripts and signatures are not run.
-- Amounts, output numbers and double spends are not looked at.
+- What mined transactions spend is not looked at: a payment may spend it again.
 - Until a block holds a transaction, what it spends can still be spent elsewhere.
 - A BUMP's block height is the sender's word.
 - Which transaction is the payment, and whom it pays, is not asked.",
-        example: "    ./barrowtide judge bindings/rust/tests/data/004-bundle.hex bindings/rust/tests/data/004-roots.txt",
+        example: "    ./barrowtide judge bindings/rust/tests/data/004-bundle.hex bindings/rust/tests/data/004-roots.txt
+    ./barrowtide judge bindings/rust/tests/data/004-bundle.hex bindings/rust/tests/data/004-roots.txt --fee 1",
+        options: &["--fee"],
         run: commands::judge,
         ..PLAIN
     },

@@ -1,6 +1,6 @@
 //! Files that the commands read, and words on the command line.
 
-use std::ffi::OsStr;
+use std::ffi::{OsStr, OsString};
 use std::fs::File;
 use std::io::{self, Read};
 
@@ -138,6 +138,25 @@ pub fn id(word: &OsStr) -> Result<Hash, Failure> {
     text.parse().map_err(|_| {
         Failure::unusable(format!("not an id, which is 64 hex digits: {}", shown(&text)))
     })
+}
+
+/// The value of an option, if it is given, and the other words.
+pub fn option<'a>(
+    name: &str,
+    words: &'a [OsString],
+) -> Result<(Option<&'a OsStr>, Vec<&'a OsStr>), Failure> {
+    let (mut value, mut others) = (None, Vec::new());
+    let mut words = words.iter();
+    while let Some(word) = words.next() {
+        if word != name {
+            others.push(word.as_os_str());
+        } else if value.is_some() {
+            return Err(Failure::Misused);
+        } else {
+            value = Some(words.next().ok_or(Failure::Misused)?.as_os_str());
+        }
+    }
+    Ok((value, others))
 }
 
 /// A number given on the command line.

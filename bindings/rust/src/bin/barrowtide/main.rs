@@ -64,7 +64,9 @@ fn plain(text: String) -> Told {
 }
 
 fn run(command: &Command, words: &[OsString], style: Style) -> answer::Answer {
-    if let Some(option) = words.iter().find(|word| word.len() > 1 && starts_with_dash(word)) {
+    let known = |word: &OsString| command.options.iter().any(|option| word == option);
+    let unknown = |word: &&OsString| word.len() > 1 && starts_with_dash(word) && !known(word);
+    if let Some(option) = words.iter().find(unknown) {
         let option = option.to_string_lossy();
         return Err(Failure::unusable(format!("no option {option}; --help lists them")));
     }

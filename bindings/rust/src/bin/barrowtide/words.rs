@@ -2,7 +2,7 @@
 
 use std::fmt;
 
-use barrowtide::{Blames, Reason, Refusal, MAX_IDS, MAX_INPUT, MAX_PAGE};
+use barrowtide::{Blames, Reason, Refusal, MAX_IDS, MAX_INPUT, MAX_PAGE, MAX_TOTAL};
 
 use crate::json::Json;
 use crate::looks;
@@ -268,6 +268,26 @@ impl Refused {
             }
             (Reason::SameId, _) => {
                 "the two proofs agree: one id, at one position, under one root.".to_string()
+            }
+            (Reason::BadAmount, _) => format!(
+                "the amount here is over {MAX_TOTAL} satoshi, or brings the outputs of its \
+                 transaction over that, which is more than there is. {software}."
+            ),
+            (Reason::NoOutput, _) => {
+                "it spends an output that its parent does not have. Don't accept the payment; ask \
+                 the sender for one that spends what is there."
+                    .to_string()
+            }
+            (Reason::SpentTwice, _) => {
+                "it spends an output that was spent already, by itself or by an earlier \
+                 transaction of the bundle. Don't accept the payment; the sender must leave one of \
+                 the two out."
+                    .to_string()
+            }
+            (Reason::TooLittle, _) => {
+                "what it spends is not more than what it pays out and the fee that you ask for. Ask \
+                 the sender for a payment that leaves more, or ask for a smaller fee."
+                    .to_string()
             }
             (reason, _) => format!("{}.", reason.meaning()),
         }

@@ -7,6 +7,9 @@ use crate::refusal::{
 };
 use crate::transaction::{self, Transaction};
 
+/// The most that an amount, and the running total of a transaction's amounts, may be (02, Item 9).
+pub const MAX_TOTAL: u64 = 2_100_000_000_000_000;
+
 /// A transaction of the bundle.
 #[derive(Debug, Clone, PartialEq, Eq)]
 pub struct Entry {
@@ -59,7 +62,7 @@ pub fn read_into(mut cursor: Cursor, room: usize) -> Result<Beef, Refusal> {
 }
 
 fn read_entry(cursor: &mut Cursor, bump_count: u64) -> Result<Entry, Refusal> {
-    let transaction = transaction::read_at(cursor)?;
+    let transaction = transaction::read_at(cursor, Some(MAX_TOTAL))?;
     let byte_place = cursor.place();
     let anchor = match cursor.byte()? {
         0 => None,

@@ -79,3 +79,11 @@ pub const NO_ROOM: u32 = 22;
 pub const UNLIKE: u32 = 23;
 /// They agree and prove one id.
 pub const SAME_ID: u32 = 24;
+/// An amount, or the running total of its transaction, over its limit (02, Item 9).
+pub const BAD_AMOUNT: u32 = 25;
+/// Output number not there.
+pub const NO_OUTPUT: u32 = 26;
+/// Output spent twice.
+pub const SPENT_TWICE: u32 = 27;
+/// Too little comes in.
+pub const TOO_LITTLE: u32 = 28;

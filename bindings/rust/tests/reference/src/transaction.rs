@@ -3,7 +3,7 @@
 use std::ops::Range;
 
 use crate::fields::Cursor;
-use crate::refusal::{refuse, Refusal, BAD_TX};
+use crate::refusal::{refuse, Refusal, BAD_AMOUNT, BAD_TX};
 use crate::sha256::sha256d;
 use crate::Hash;
 
@@ -48,16 +48,24 @@ pub struct Transaction {
     pub id: Hash,
 }
 
+impl Transaction {
+    /// What its outputs come to.
+    pub fn total(&self) -> u128 {
+        self.outputs.iter().map(|output| u128::from(output.amount)).sum()
+    }
+}
+
 /// Reads an input that is one raw transaction.
 pub fn read(data: &[u8]) -> Result<Transaction, Refusal> {
     let mut cursor = Cursor::new(data)?;
-    let transaction = read_at(&mut cursor)?;
+    let transaction = read_at(&mut cursor, None)?;
     cursor.end()?;
     Ok(transaction)
 }
 
-/// Reads a raw transaction that other bytes may follow.
-pub fn read_at(cursor: &mut Cursor) -> Result<Transaction, Refusal> {
+/// Reads a raw transaction that other bytes may follow, with the most that its amounts may come to if
+/// they have a limit.
+pub fn read_at(cursor: &mut Cursor, most: Option<u64>) -> Result<Transaction, Refusal> {
     let mut from_start = cursor.clone();
     let start = cursor.place();
     let version = u32::from_le_bytes(cursor.array()?);
@@ -69,8 +77,15 @@ pub fn read_at(cursor: &mut Cursor) -> Result<Transaction, Refusal> {
             sequence: u32::from_le_bytes(cursor.array()?),
         })
     })?;
+    let mut total = 0;
     let outputs = some(cursor, |cursor| {
-        Ok(Output { amount: u64::from_le_bytes(cursor.array()?), script: script(cursor)? })
+        let amount_place = cursor.place();
+        let amount = u64::from_le_bytes(cursor.array()?);
+        total += u128::from(amount);
+        if most.is_some_and(|most| amount > most || total > u128::from(most)) {
+            return refuse(BAD_AMOUNT, amount_place);
+        }
+        Ok(Output { amount, script: script(cursor)? })
     })?;
     let lock_time = u32::from_le_bytes(cursor.array()?);
     let length = cursor.place() - start;
@@ -81,7 +96,7 @@ pub fn read_at(cursor: &mut Cursor) -> Result<Transaction, Refusal> {
 /// A count, at least one, and as many items.
 fn some<'a, T>(
     cursor: &mut Cursor<'a>,
-    item: impl Fn(&mut Cursor<'a>) -> Result<T, Refusal>,
+    mut item: impl FnMut(&mut Cursor<'a>) -> Result<T, Refusal>,
 ) -> Result<Vec<T>, Refusal> {
     let count_place = cursor.place();
     let count = cursor.varint()?;

@@ -1,4 +1,5 @@
 use borrow.Author.Needs.{needs}
+use Prim.Native.Nat.{suc}
 use mathlib.Core.Path.{_∙_}
 use Rattle.bundle.specs.AheadLaws.{spans-made}
 use Rattle.bundle.proofs.ids.spans_from.Statement.{statement}
@@ -18,11 +19,13 @@ span-at-requires-4 c κs = search needs
 
 returns : tie.Need-returns
 returns c =
-    let first = c .before .before .before .before .before .before .before .before .before .before .span-at .ensures in
-    let second = c .before .before .before .before .before .before .before .span-at2 .ensures in
-    let third = c .before .before .before .before .span-at3 .ensures in
-    let fourth = c .before .span-at4 .ensures in
-    spans-made _ _ _ _ _ _ _ (first .0) (second .0 ∙ first .1 0) (third .0 ∙ second .1 0 ∙ first .1 1) (fourth .0 ∙ third .1 0 ∙ second .1 1 ∙ first .1 2)
+    let first = c .before .before .before .before .before .before .before .before .before .before .before .span-at .ensures in
+    let second = c .before .before .before .before .before .before .before .before .span-at2 .ensures in
+    let third = c .before .before .before .before .before .span-at3 .ensures in
+    let fourth = c .before .before .span-at4 .ensures in (
+      spans-made _ _ _ _ _ _ _ _ (first .0) (second .0 ∙ first .1 0) (third .0 ∙ second .1 0 ∙ first .1 1) (fourth .0 ∙ third .1 0 ∙ second .1 1 ∙ first .1 2),
+      λ m. fourth .1 m ∙ third .1 (suc m) ∙ second .1 (suc (suc m)) ∙ first .1 (suc (suc (suc m))),
+    )
 
 pub spans-from-spec : {M : Type 1} → statement M
 spans-from-spec =

@@ -4,7 +4,7 @@ use borrow.Author.Needs.{needs}
 use Rattle.format.specs.ParseLaws.{answered}
 use Rattle.format.specs.BeefAnswer.{beefAnswer}
 use Rattle.bundle.specs.BundleAnswer.{judgementOf}
-use Rattle.bundle.specs.BundleRead.{judge-long, judge-roots, judge-refused, judge-read, read-few}
+use Rattle.bundle.specs.BundleRead.{judge-long, judge-roots, judge-refused, judge-read, read-few, read-every, answers-at}
 use Rattle.bundle.proofs.judging.judge_flat.Statement.{statement}
 use Rattle.bundle.proofs.judging.judge_flat.Tie as tie
 
@@ -25,14 +25,14 @@ refused-requires-3 c κs = search needs
 
 returns-3 : tie.Need-returns-3
 unfolding judgementOf
-returns-3 c = λ wide long. rw (c .refused3 .ensures) (judge-long _ _ _ (c .before .if3 .taken))
+returns-3 c = λ wide long. rw (c .refused3 .ensures) (judge-long _ _ _ _ (c .before .if3 .taken))
 
 refused-requires-4 : tie.Need-refused-requires-4
 refused-requires-4 c κs = search needs
 
 returns-4 : tie.Need-returns-4
 unfolding judgementOf
-returns-4 c = λ wide long. rw (c .refused4 .ensures) (judge-roots _ _ _ (c .before .before .if3 .left) (c .before .if4 .taken))
+returns-4 c = λ wide long. rw (c .refused4 .ensures) (judge-roots _ _ _ _ (c .before .before .if3 .left) (c .before .if4 .taken))
 
 read-bundle-requires : tie.Need-read-bundle-requires
 read-bundle-requires c κs = search needs
@@ -46,19 +46,37 @@ reject-reading-requires c κs = search needs
 enum-known-answer-2 : tie.Need-enum-known-answer-2
 enum-known-answer-2 c = search needs
 
-bump-heads-requires : tie.Need-bump-heads-requires
-bump-heads-requires c κs = search needs
+write-ids-requires : tie.Need-write-ids-requires
+write-ids-requires c κs = read-few _ _ _ _ (answered beefAnswer (c .before .before .before .before .before .before .read-bundle .ensures .0) (c .before .before .before .before .answer2 .given .1))
+
+in-order-requires : tie.Need-in-order-requires
+in-order-requires c κs = search needs
+
+slice-aggregate-judge-entries : tie.Need-slice-aggregate-judge-entries
+slice-aggregate-judge-entries c = search needs
 
 judge-entries-requires : tie.Need-judge-entries-requires
 judge-entries-requires c κs =
-    let few = read-few _ _ _ _ (answered beefAnswer (c .before .before .before .before .before .before .before .read-bundle .ensures) (c .before .before .before .before .before .answer2 .given .1)) in
-    (few, (c .before .before .before .before .before .before .before .before .before .before .before .if1 .left, c .before .before .before .before .before .before .before .before .before .before .if2 .left))
+    let read = answered beefAnswer (c .before .before .before .before .before .before .before .before .before .before .before .before .before .before .read-bundle .ensures .0) (c .before .before .before .before .before .before .before .before .before .before .before .before .answer2 .given .1) in
+    let same = c .before .before .before .before .before .before .before .write-ids .kept .1 .1 .1 .1 .0 in
+    let wide = c .before .before .before .before .before .before .before .before .before .before .before .before .before .before .before .before .before .before .if1 .left in
+    (read-few _ _ _ _ read, (omega arith, (c .before .before .before .before .before .before .before .before .before .before .before .before .before .before .before .before .before .if2 .left, (c .before .before .before .before .before .before .before .write-ids .ensures, read-every _ _ _ _ read))))
+
+slice-aggregate-judge-amounts : tie.Need-slice-aggregate-judge-amounts
+slice-aggregate-judge-amounts c = search needs
+
+reached-requires : tie.Need-reached-requires
+reached-requires c κs = search needs
+
+judge-amounts-requires : tie.Need-judge-amounts-requires
+judge-amounts-requires c κs = search needs
+
+settle-requires : tie.Need-settle-requires
+settle-requires c κs = search needs
 
 returns-5 : tie.Need-returns-5
 unfolding judgementOf
-returns-5 c =
-    λ wide long. rw (c .reject-reading .ensures)
-    (judge-refused _ _ _ (c .before .before .before .before .before .before .if3 .left) (c .before .before .before .before .before .if4 .left) _ (answered beefAnswer (c .before .before .before .before .read-bundle .ensures) (c .before .before .answer .given .1)))
+returns-5 c = λ wide long. rw (c .reject-reading .ensures) (judge-refused _ _ _ _ (c .before .before .before .before .before .before .if3 .left) (c .before .before .before .before .before .if4 .left) _ (answered beefAnswer (c .before .before .before .before .read-bundle .ensures .0) (c .before .before .answer .given .1)))
 
 same-length : tie.Need-same-length
 same-length c = search needs
@@ -67,9 +85,10 @@ same-length-2 : tie.Need-same-length-2
 same-length-2 c = search needs
 
 returns-6 : tie.Need-returns-6
-returns-6 c =
-    λ wide long. c .before .before .before .before .judge-entries .ensures
-    ∙ judge-read _ _ _ (c .before .before .before .before .before .before .before .before .before .before .before .before .before .before .if3 .left) (c .before .before .before .before .before .before .before .before .before .before .before .before .before .if4 .left) _ _ (answered beefAnswer (c .before .before .before .before .before .before .before .before .before .before .before .before .read-bundle .ensures) (c .before .before .before .before .before .before .before .before .before .before .answer2 .given .1)) (c .before .before .before .before .before .before .before .before .bump-heads .ensures)
+returns-6 c = λ wide long.
+    let e = c .before .before .before .before .before .before .before .before .judge-entries .ensures in
+    c .settle .ensures _ _
+    ∙ judge-read _ _ _ _ (c .before .before .before .before .before .before .before .before .before .before .before .before .before .before .before .before .before .before .before .before .before .before .before .before .before .if3 .left) (c .before .before .before .before .before .before .before .before .before .before .before .before .before .before .before .before .before .before .before .before .before .before .before .before .if4 .left) _ _ (answered beefAnswer (c .before .before .before .before .before .before .before .before .before .before .before .before .before .before .before .before .before .before .before .before .before .before .before .read-bundle .ensures .0) (c .before .before .before .before .before .before .before .before .before .before .before .before .before .before .before .before .before .before .before .before .before .answer2 .given .1)) (c .before .before .before .before .before .before .before .before .before .before .before .before .before .before .before .before .before .before .before .before .before .before .before .read-bundle .ensures .1) _ _ _ _ (e .0) (e .1) (answers-at _ _ _ _ _ (c .before .before .reached .ensures) (c .before .judge-amounts .ensures))
 
 pub judge-flat-spec : {M : Type 1} → statement M
 judge-flat-spec =
@@ -87,8 +106,14 @@ judge-flat-spec =
     enum-known-answer
     reject-reading-requires
     enum-known-answer-2
-    bump-heads-requires
+    write-ids-requires
+    in-order-requires
+    slice-aggregate-judge-entries
     judge-entries-requires
+    slice-aggregate-judge-amounts
+    reached-requires
+    judge-amounts-requires
+    settle-requires
     returns-5
     same-length
     same-length-2

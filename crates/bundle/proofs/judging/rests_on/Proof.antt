@@ -3,20 +3,20 @@ use mathlib.Core.Path.{_≡_, sym, _∙_}
 use native.Mathlib.Omega.{arith}
 use native.Mathlib.Nat.{sub-zero}
 use borrow.Author.Needs.{needs}
-use borrow.Author.Tests.{not-true, not-false}
 use Rattle.format.specs.ParseLaws.{answered}
 use Rattle.format.specs.TransactionAnswer.{inputAnswer}
 use Rattle.spv.specs.Hashes.{hashesOf}
+use Rattle.bundle.specs.FlatLaws.{finds-some, finds-none}
 use Rattle.bundle.specs.BundleHeads.{restsFrom}
 use Rattle.bundle.specs.BundleHeadLaws.{parents-refused, parents-missing, parents-on, parents-end}
 use Rattle.bundle.proofs.judging.rests_on.Statement.{statement}
 use Rattle.bundle.proofs.judging.rests_on.Tie as tie
 
 abbrev Inv-loop : tie.InvT-loop
-Inv-loop s ids count next₀ i₀ next i = (i ≤ count) × (restsFrom s (hashesOf ids) (count - i) (next .at) ≡ restsFrom s (hashesOf ids) count (next₀ .at))
+Inv-loop s ids order count next₀ parent₀ i₀ next parent i = (i ≤ count) × (restsFrom s (hashesOf ids) (count - i) (next .at) ≡ restsFrom s (hashesOf ids) count (next₀ .at))
 
 abbrev μ-loop : tie.MeasureT-loop
-μ-loop s ids count next₀ i₀ next i = count - i
+μ-loop s ids order count next₀ parent₀ i₀ next parent i = count - i
 
 loop-holds : tie.Need-loop-holds Inv-loop μ-loop
 loop-holds c = (search needs, simp sub-zero)
@@ -38,12 +38,12 @@ returns c =
 hash-at-requires : tie.Need-hash-at-requires Inv-loop μ-loop
 hash-at-requires c κs = search needs
 
-is-among-requires : tie.Need-is-among-requires Inv-loop μ-loop
-is-among-requires c κs = search needs
+place-among-requires : tie.Need-place-among-requires Inv-loop μ-loop
+place-among-requires c κs = search needs
 
 returns-2 : tie.Need-returns-2 Inv-loop μ-loop
 returns-2 c =
-    let a = c .before .before .before .before .before .before .before .before .before .before .before .before .args in
+    let a = c .before .before .before .before .before .before .before .before .before .before .before .before .before .args in
     let l = c .before .before .before .before .before .before .before .before .loop in
     let low : l .i < a .inputs .count = omega arith in
     sym
@@ -51,7 +51,7 @@ returns-2 c =
     ∙ parents-missing (a .s .now) (hashesOf (a .ids .now)) (a .inputs .count) (l .i) (l .next .at) low
     (answered inputAnswer (c .before .before .before .before .before .before .read-input .ensures) (c .before .before .before .before .field .given .1))
     (c .before .before .hash-at .ensures)
-    (sym (c .before .is-among .ensures) ∙ not-true _ (c .if1 .taken)))
+    (finds-none _ _ _ (c .before .place-among .ensures) (c .if1 .taken)))
 
 add-i : tie.Need-add-i Inv-loop μ-loop
 add-i c = search needs
@@ -61,7 +61,7 @@ loop-less c = search needs
 
 loop-again : tie.Need-loop-again Inv-loop μ-loop
 loop-again c =
-    let a = c .before .before .before .before .before .before .before .before .before .before .before .before .args in
+    let a = c .before .before .before .before .before .before .before .before .before .before .before .before .before .args in
     let l = c .before .before .before .before .before .before .before .before .loop in
     let low : l .i < a .inputs .count = omega arith in (
       search needs,
@@ -69,7 +69,7 @@ loop-again c =
           (parents-on (a .s .now) (hashesOf (a .ids .now)) (a .inputs .count) (l .i) (l .next .at) low
           (answered inputAnswer (c .before .before .before .before .before .before .read-input .ensures) (c .before .before .before .before .field .given .1))
           (c .before .before .hash-at .ensures)
-          (sym (c .before .is-among .ensures) ∙ not-false _ (c .if1 .left)))
+          (finds-some _ _ _ (c .before .place-among .ensures) (omega (arith, c .if1 .left))))
           ∙ l .inv .1,
     )
 
@@ -90,7 +90,7 @@ rests-on-spec =
     enum-told
     returns
     hash-at-requires
-    is-among-requires
+    place-among-requires
     returns-2
     add-i
     loop-less

@@ -6,7 +6,7 @@ read-bundle-requires : tie.Need-read-bundle-requires
 read-bundle-requires c κs = search needs
 
 returns : tie.Need-returns
-returns c = c .read-bundle .ensures
+returns c = c .read-bundle .ensures .0
 
 pub read-beef-spec : {M : Type 1} → statement M
 read-beef-spec = tie.close (tie.spec read-bundle-requires returns)

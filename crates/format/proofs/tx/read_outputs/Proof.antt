@@ -1,24 +1,25 @@
 use borrow.Author.Needs.{needs}
 use native.Mathlib.Omega.{arith}
 use mathlib.Core.Path.{_≡_, sym, _∙_}
-use Rattle.format.specs.FieldAnswer.{runOf}
-use Rattle.format.specs.ParseLaws.{answered, count-start, count-step, count-refused, count-done}
-use Rattle.format.specs.Parse.{times, each}
-use Rattle.format.specs.Transaction.{outputField}
+use Rattle.format.specs.FieldAnswer.{numberOf}
+use Rattle.format.specs.ParseLaws.{answered}
+use Rattle.format.specs.Parse.{each, many}
+use Rattle.format.specs.Transaction.{takes, outputField, outputsField}
+use Rattle.format.specs.TransactionLaws.{output-told, outputs-start, outputs-step, outputs-refused, outputs-done}
 use Prim.Native.Nat.{_≤_, _-_, _+_}
 use lib.ListN.{length}
 use Rattle.format.proofs.tx.read_outputs.Statement.{statement}
 use Rattle.format.proofs.tx.read_outputs.Tie as tie
 
 abbrev Inv-loop : tie.InvT-loop
-Inv-loop s count next₀ i₀ next i =
-    (i ≤ count) × (each length (times outputField count s (next₀ .at)) ≡ each (λ l. i + length l) (times outputField (count - i) s (next .at)))
+Inv-loop s limited count next₀ total₀ i₀ next total i =
+    (i ≤ count) × (each length (outputsField limited count s (next₀ .at)) ≡ each (λ l. i + length l) (many (λ total. outputField (takes limited total)) _+_ (count - i) total s (next .at)))
 
 abbrev μ-loop : tie.MeasureT-loop
-μ-loop s count next₀ i₀ next i = count - i
+μ-loop s limited count next₀ total₀ i₀ next total i = count - i
 
 loop-holds : tie.Need-loop-holds Inv-loop μ-loop
-loop-holds c = (omega arith, count-start _ _ _ _ _ _)
+loop-holds c = (omega arith, outputs-start _ _ _ _)
 
 read-output-requires : tie.Need-read-output-requires Inv-loop μ-loop
 read-output-requires c κs = search needs
@@ -29,13 +30,13 @@ enum-known-field c = search needs
 enum-told : tie.Need-enum-told Inv-loop μ-loop
 enum-told c = search needs
 
-refusal-requires : tie.Need-refusal-requires Inv-loop μ-loop
-refusal-requires c κs = search needs
-
 returns : tie.Need-returns Inv-loop μ-loop
 returns c =
-    rw (c .refusal .ensures, c .before .enum-told .given .1)
-    (sym (c .before .before .before .before .before .loop .inv .1 ∙ count-refused _ _ _ _ _ _ _ (c .before .before .before .before .loop-test .taken) (answered runOf (c .before .before .before .read-output .ensures) (c .before .enum-told .given .1))))
+    rw (c .enum-told .given .1)
+    (sym (c .before .before .before .before .loop .inv .1 ∙ outputs-refused _ _ _ _ _ _ (c .before .before .before .loop-test .taken) (answered numberOf (c .before .before .read-output .ensures) (c .enum-told .given .1))))
+
+add-amount-requires : tie.Need-add-amount-requires Inv-loop μ-loop
+add-amount-requires c κs = search needs
 
 add-i : tie.Need-add-i Inv-loop μ-loop
 add-i c = search needs
@@ -45,10 +46,14 @@ loop-less c = search needs
 
 loop-again : tie.Need-loop-again Inv-loop μ-loop
 loop-again c =
-    (omega arith, c .before .before .before .before .before .loop .inv .1 ∙ count-step _ _ _ _ _ _ _ (c .before .before .before .before .loop-test .taken) (answered runOf (c .before .before .before .read-output .ensures) (c .before .field .given .1)))
+    let read = answered numberOf (c .before .before .before .before .read-output .ensures) (c .before .before .field .given .1) in (
+      omega arith,
+      c .before .before .before .before .before .before .loop .inv .1 ∙ outputs-step _ _ _ _ _ _ _ (c .before .before .before .before .before .loop-test .taken) read
+          (λ is. c .add-amount .ensures is (output-told _ _ _ read .0)),
+    )
 
 returns-2 : tie.Need-returns-2 Inv-loop μ-loop
-returns-2 c = sym (c .before .loop .inv .1 ∙ count-done _ _ _ _ _ _ _ (c .loop-test .left))
+returns-2 c = sym (c .before .loop .inv .1 ∙ outputs-done _ _ _ _ _ _ (c .loop-test .left))
 
 pub read-outputs-spec : {M : Type 1} → statement M
 read-outputs-spec =
@@ -60,8 +65,8 @@ read-outputs-spec =
     read-output-requires
     enum-known-field
     enum-told
-    refusal-requires
     returns
+    add-amount-requires
     add-i
     loop-less
     loop-again

@@ -2,6 +2,7 @@
 
 use super::draft::Draft;
 use super::random::Random;
+use crate::beef::MAX_TOTAL;
 use crate::sha256::sha256d;
 use crate::Hash;
 
@@ -18,22 +19,38 @@ pub struct Plan {
     pub lock_time: u32,
 }
 
+/// An output to spend: its transaction's id, and its number there.
+pub type Outpoint = (Hash, u32);
+
 impl Plan {
-    /// A transaction that spends from these parents.
-    pub fn spending(random: &mut Random, parents: &[Hash]) -> Self {
-        let inputs = parents
+    /// A transaction that spends these outputs and pays these amounts.
+    pub fn spending(random: &mut Random, outpoints: &[Outpoint], amounts: &[u64]) -> Self {
+        let inputs = outpoints
             .iter()
-            .map(|parent| (*parent, random.bits() as u32 % 3, script(random), random.bits() as u32))
+            .map(|(parent, output)| (*parent, *output, script(random), random.bits() as u32))
             .collect();
-        let outputs =
-            (0..random.within(1..=3)).map(|_| (random.number(), script(random))).collect();
+        let outputs = amounts.iter().map(|amount| (*amount, script(random))).collect();
         Self { version: random.pick(&[1, 2]), inputs, outputs, lock_time: random.bits() as u32 }
     }
 
-    /// A transaction of one to three inputs whose parents nobody knows.
+    /// A transaction of one to three inputs whose parents nobody knows, with amounts that a bundle
+    /// takes.
+    pub fn mined(random: &mut Random) -> Self {
+        let amounts = amounts(random);
+        let outpoints = unknown(random);
+        Self::spending(random, &outpoints, &amounts)
+    }
+
+    /// The same with any amounts.
     pub fn random(random: &mut Random) -> Self {
-        let parents: Vec<Hash> = (0..random.within(1..=3)).map(|_| random.hash()).collect();
-        Self::spending(random, &parents)
+        let amounts: Vec<u64> = (0..random.within(1..=3)).map(|_| random.number()).collect();
+        let outpoints = unknown(random);
+        Self::spending(random, &outpoints, &amounts)
+    }
+
+    /// What its outputs come to.
+    pub fn total(&self) -> u128 {
+        self.outputs.iter().map(|output| u128::from(output.0)).sum()
     }
 
     /// Its bytes.
@@ -62,6 +79,30 @@ impl Plan {
     pub fn id(&self) -> Hash {
         sha256d(&self.draft().bytes)
     }
+}
+
+/// Outputs of one to three transactions that nobody knows.
+fn unknown(random: &mut Random) -> Vec<Outpoint> {
+    (0..random.within(1..=3)).map(|_| (random.hash(), random.bits() as u32 % 3)).collect()
+}
+
+/// One to three amounts: nothing, a few satoshi, some coins, or all that there is. Together they come
+/// to no more than [`MAX_TOTAL`].
+pub fn amounts(random: &mut Random) -> Vec<u64> {
+    let mut left = MAX_TOTAL;
+    (0..random.within(1..=3))
+        .map(|_| {
+            let amount = match random.within(0..=9) {
+                0 => 0,
+                1 => left,
+                2 | 3 => random.within(1..=9),
+                _ => random.within(1_000..=1_000_000_000),
+            };
+            let amount = amount.min(left);
+            left -= amount;
+            amount
+        })
+        .collect()
 }
 
 /// A script: often none or short, now and then longer than one VarInt byte can say.
