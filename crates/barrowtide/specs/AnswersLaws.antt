@@ -12,7 +12,7 @@ use Rattle.spv.specs.declared.clients.Checked.{Checked}
 use Rattle.spv.specs.declared.comparing.Comparison.{Comparison}
 use Rattle.spv.specs.declared.comparing.Compared.{Compared}
 use Rattle.bundle.specs.declared.judging.Verdict.{Verdict}
-use Rattle.encoder.specs.declared.block.Written.{Written}
+use Rattle.block.specs.declared.block.Written.{Written}
 use Rattle.page.specs.declared.Answer.{Answer}
 use Rattle.page.specs.declared.Paged.{Paged}
 use Rattle.spv.specs.Result.{Result, accepted, refused, carrying}
@@ -21,7 +21,7 @@ use Rattle.spv.specs.Shapes.{comparedOf, refusedPair}
 use Rattle.spv.specs.ClientsShapes.{checkedOf, refusedCheck}
 use Rattle.bundle.specs.Bundle.{Judgement, verdictOf}
 use Rattle.bundle.specs.declared.table.Record.{Record}
-use Rattle.encoder.specs.Output.{writtenOf}
+use Rattle.block.specs.Output.{writtenOf}
 use Rattle.page.specs.Page.{pagedOf}
 use Rattle.barrowtide.specs.Answers.{ofHashed}
 

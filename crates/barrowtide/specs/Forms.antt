@@ -2,7 +2,7 @@
 use Prim.Native.Nat.{ℕ}
 use lib.Dec.{eqb}
 use Rattle.format.specs.Parse.{pick}
-use Rattle.format.specs.declared.path.Form.{Form}
+use Rattle.path.specs.declared.path.Form.{Form}
 
 unfoldable pub formOf : ℕ → Form
 formOf n = pick (eqb n 0) Form.Bump (pick (eqb n 1) Form.Cmp Form.Tsc)

@@ -2,7 +2,7 @@
 use Prim.Native.Nat.{ℕ}
 use mathlib.Core.Path.{_≡_}
 use borrow.Author.Tests.{eq-eqb, ne-eqb}
-use Rattle.format.specs.declared.path.Form.{Form}
+use Rattle.path.specs.declared.path.Form.{Form}
 use Rattle.barrowtide.specs.Forms.{formOf}
 
 module _ (n : ℕ) where

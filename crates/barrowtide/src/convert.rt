@@ -2,8 +2,8 @@
 use super::write::tell;
 ghost use mathlib.Core.Path.{_≡_};
 ghost use lib.ListN.{length};
-ghost use Rattle.encoder.specs.Output.{outputAfter};
-ghost use Rattle.encoder.specs.Convert.{tscToBump, bumpToTsc};
+ghost use Rattle.block.specs.Output.{outputAfter};
+ghost use Rattle.conversion.specs.Convert.{tscToBump, bumpToTsc};
 ghost use Rattle.barrowtide.specs.Interface as I;
 
 #[no_mangle]
@@ -20,7 +20,7 @@ pub extern "C" fn barrowtide_tsc_to_bump(
         × (now (blame .exit) ≡ I.blame v (now (blame .entry)))
         × (now (written .exit) ≡ I.taken length v (now (written .entry)))) ⌝ }
 {
-    let answer = encoder::tsc_to_bump(message, block, out);
+    let answer = conversion::tsc_to_bump(message, block, out);
     tell(answer, blame, written)
 }
 
@@ -38,6 +38,6 @@ pub extern "C" fn barrowtide_bump_to_tsc(
         × (now (blame .exit) ≡ I.blame v (now (blame .entry)))
         × (now (written .exit) ≡ I.taken length v (now (written .entry)))) ⌝ }
 {
-    let answer = encoder::bump_to_tsc(message, *id, out);
+    let answer = conversion::bump_to_tsc(message, *id, out);
     tell(answer, blame, written)
 }

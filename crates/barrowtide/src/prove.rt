@@ -1,6 +1,6 @@
 // Proving an id, the all-clients check, and comparing two proofs.
 use super::blame::blame_of;
-use format::Form;
+use path::Form;
 use spv::Agreement;
 use spv::Comparison;
 use spv::Outcome;

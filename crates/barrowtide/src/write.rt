@@ -1,13 +1,13 @@
 // Writing the BUMP of chosen positions of a block.
 use super::blame::blame_of;
-use encoder::Written;
+use block::Written;
 ghost use mathlib.Core.Path.{_≡_};
 ghost use mathlib.Core.List.{List};
 ghost use Prim.Native.Nat.{ℕ};
 ghost use lib.ListN.{length};
 ghost use Rattle.spv.specs.Result.{Result};
-ghost use Rattle.encoder.specs.BlockBump.{writing};
-ghost use Rattle.encoder.specs.Output.{writtenOf, outputAfter};
+ghost use Rattle.block.specs.BlockBump.{writing};
+ghost use Rattle.block.specs.Output.{writtenOf, outputAfter};
 ghost use Rattle.barrowtide.specs.Interface as I;
 
 // The number of an answer; what a refusal blames, or how many bytes were written, is written.
@@ -44,6 +44,6 @@ pub extern "C" fn barrowtide_write_bump(
         × (now (blame .exit) ≡ I.blame v (now (blame .entry)))
         × (now (written .exit) ≡ I.taken length v (now (written .entry)))) ⌝ }
 {
-    let answer = encoder::write_bump(block, ids, chosen, out);
+    let answer = block::write_bump(block, ids, chosen, out);
     tell(answer, blame, written)
 }

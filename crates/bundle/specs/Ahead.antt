@@ -5,8 +5,7 @@ use mathlib.Core.Bool.{Bool}
 use mathlib.Core.List.{List}
 use lib.ListN.{length}
 use Rattle.format.specs.declared.beef.EntryHead.{EntryHead}
-use Rattle.format.specs.Bytes.{setHash}
-use Rattle.format.specs.Search.{hashAt}
+use Rattle.format.specs.Bytes.{setHash, hashAt}
 use Rattle.format.specs.Parse.{Parse, pick, otherwise, each}
 use Rattle.format.specs.Beef.{entryField}
 use Rattle.format.specs.BeefAnswer.{entryHeadOf}

@@ -13,9 +13,8 @@ use borrow.Author.Tests.{ltb-true, ltb-false}
 use Rattle.hash.specs.Sha256.{hashed}
 use Rattle.format.specs.declared.beef.EntryHead.{EntryHead}
 use Rattle.format.specs.Parse.{got, bad}
-use Rattle.format.specs.Bytes.{setHash}
+use Rattle.format.specs.Bytes.{setHash, hashAt}
 use Rattle.format.specs.BytesLaws.{set-inside, set-outside}
-use Rattle.format.specs.Search.{hashAt}
 use Rattle.format.specs.Id.{spanHash}
 use Rattle.format.specs.IdLaws.{span-inside, span-length}
 use Rattle.spv.specs.KeptLaws.{stored-here, stored-other}

@@ -8,7 +8,7 @@ use Rattle.format.specs.declared.tx.Input.{Input}
 use Rattle.format.specs.declared.beef.Anchor.{Anchor}
 use Rattle.format.specs.declared.beef.Anchor.the-variants.{Unanchored, Bump as InBump}
 use Rattle.format.specs.Parse.{Parse, got, bad, pick}
-use Rattle.format.specs.Search.{hashAt}
+use Rattle.format.specs.Bytes.{hashAt}
 use Rattle.format.specs.Bump.{Bump}
 use Rattle.format.specs.Padded.{padded}
 use Rattle.format.specs.Id.{txid}

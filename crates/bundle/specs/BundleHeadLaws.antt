@@ -8,14 +8,14 @@ use lib.ListN.{getD}
 use borrow.Author.Tests.{lt-ltb, le-ltb}
 use Rattle.format.specs.declared.tx.Input.{Input}
 use Rattle.format.specs.declared.bump.BumpHead.{BumpHead}
-use Rattle.format.specs.declared.path.Path.{Path}
+use Rattle.path.specs.declared.path.Path.{Path}
 use Rattle.format.specs.declared.beef.Anchor.{Anchor}
 use Rattle.format.specs.declared.beef.Anchor.the-variants.{Unanchored, Bump as InBump}
 use Rattle.format.specs.declared.beef.EntryHead.{EntryHead}
 use Rattle.format.specs.Parse.{got, bad, many}
 use Rattle.format.specs.ParseLaws.{many-told}
-use Rattle.format.specs.Search.{hashAt}
-use Rattle.format.specs.Path.{bumpPathOf}
+use Rattle.format.specs.Bytes.{hashAt}
+use Rattle.path.specs.Path.{bumpPathOf}
 use Rattle.format.specs.Transaction.{inputField, takes, outputField}
 use Rattle.bundle.specs.Amounts.{total}
 use Rattle.format.specs.BeefAnswer.{noBump}

@@ -11,14 +11,14 @@ use Rattle.format.specs.declared.beef.Anchor.{Anchor}
 use Rattle.format.specs.declared.beef.Anchor.the-variants.{Unanchored, Bump as InBump}
 use Rattle.format.specs.declared.beef.EntryHead.{EntryHead}
 use Rattle.format.specs.Parse.{pick, otherwise, each}
-use Rattle.format.specs.Search.{hashAt}
-use Rattle.format.specs.Path.{bumpPathOf}
+use Rattle.format.specs.Bytes.{hashAt}
+use Rattle.path.specs.Path.{bumpPathOf}
 use Rattle.format.specs.Transaction.{inputField, takes, outputField}
 use Rattle.format.specs.Beef.{entryField}
 use Rattle.format.specs.BeefAnswer.{noBump, entryHeadOf}
 use Rattle.format.specs.Id.{spanHash}
 use Rattle.format.specs.Refusals.{BAD-INDEX, SAME-TX, NO-PARENT, MAX-BUMPS}
-use Rattle.format.specs.declared.path.Path.{Path}
+use Rattle.path.specs.declared.path.Path.{Path}
 use Rattle.bundle.specs.declared.judging.Kept.{Kept}
 use Rattle.bundle.specs.declared.table.Record.{Record}
 use Rattle.bundle.specs.declared.judging.Standing.the-variants.{Refuses, Passes}

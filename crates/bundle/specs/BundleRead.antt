@@ -10,8 +10,8 @@ use lib.Seq.{take-all, ext-getD, getD-take}
 use borrow.Author.Tests.{lt-ltb, lt-leb, le-leb, eq-eqb, ne-eqb}
 use Rattle.format.specs.Parse.{many, times, each, got, bad, pick}
 use Rattle.format.specs.ParseLaws.{many-told, each-got, each-bad}
-use Rattle.format.specs.Search.{hashAt}
-use Rattle.format.specs.Path.{bumpPathOf}
+use Rattle.format.specs.Bytes.{hashAt}
+use Rattle.path.specs.Path.{bumpPathOf}
 use Rattle.format.specs.Bump.{headOf}
 use Rattle.format.specs.BumpLaws.{BumpRead, bump-told}
 use Rattle.format.specs.Padded.{padded}

@@ -14,9 +14,8 @@ use Rattle.format.specs.declared.tx.Input.{Input}
 use Rattle.format.specs.declared.beef.Anchor.{Anchor}
 use Rattle.format.specs.declared.beef.Anchor.the-variants.{Unanchored, Bump as InBump}
 use Rattle.format.specs.Parse.{pick}
-use Rattle.format.specs.Bytes.{same}
+use Rattle.format.specs.Bytes.{same, hashAt}
 use Rattle.format.specs.BytesLaws.{same-eq, eq-same}
-use Rattle.format.specs.Search.{hashAt}
 use Rattle.format.specs.Beef.{Entry, Beef}
 use Rattle.format.specs.Refusals.{UNTRUSTED, SAME-TX, NO-PARENT}
 use Rattle.bundle.specs.declared.judging.Standing.the-variants.{Refuses, Passes}

@@ -16,8 +16,8 @@ use Rattle.format.specs.declared.beef.EntryHead.{EntryHead}
 use Rattle.format.specs.declared.beef.Anchor.{Anchor}
 use Rattle.format.specs.declared.beef.Anchor.the-variants.{Unanchored, Bump as InBump}
 use Rattle.format.specs.Parse.{each, got, bad, pick}
-use Rattle.format.specs.Search.{hashAt}
-use Rattle.format.specs.SearchLaws.{hash-there}
+use Rattle.format.specs.Bytes.{hashAt}
+use Rattle.format.specs.BytesLaws.{hash-there}
 use Rattle.format.specs.Beef.{entryField}
 use Rattle.format.specs.BeefAnswer.{entryHeadOf}
 use Rattle.format.specs.IdLaws.{span-length}

@@ -11,9 +11,8 @@ use Rattle.format.specs.declared.tx.Input.{Input}
 use Rattle.format.specs.Basics.{one-less}
 use Rattle.format.specs.Parse.{got, bad, pick, many, times}
 use Rattle.format.specs.ParseLaws.{many-told}
-use Rattle.format.specs.Bytes.{same}
+use Rattle.format.specs.Bytes.{same, hashAt}
 use Rattle.format.specs.Field.{le4}
-use Rattle.format.specs.Search.{hashAt}
 use Rattle.format.specs.Transaction.{inputField}
 use Rattle.format.specs.TransactionLaws.{input-told}
 use Rattle.bundle.specs.Amounts.{outpointOf, Payment, idsOf, outputsOf, exist}

@@ -13,9 +13,8 @@ use borrow.Author.Tests.{le-leb, lt-ltb, ltb-true, ltb-false, lt-leb, le-ltb, eq
 use Rattle.format.specs.declared.tx.Input.{Input}
 use Rattle.format.specs.Basics.{one-less, or-true}
 use Rattle.format.specs.Parse.{got, bad, pick}
-use Rattle.format.specs.Bytes.{same}
+use Rattle.format.specs.Bytes.{same, hashAt}
 use Rattle.format.specs.BytesLaws.{same-eq, eq-same}
-use Rattle.format.specs.Search.{hashAt}
 use Rattle.format.specs.Field.{le4, number}
 use Rattle.format.specs.Transaction.{inputField}
 use Rattle.spv.specs.Hashes.{hashes, hashesOf, among}

@@ -13,9 +13,9 @@ use Rattle.format.specs.declared.level.Leaf.{Leaf}
 use Rattle.format.specs.declared.tx.Input.{Input}
 use Rattle.format.specs.declared.beef.Anchor.{Anchor}
 use Rattle.format.specs.declared.beef.Anchor.the-variants.{Unanchored, Bump as InBump}
-use Rattle.format.specs.declared.path.Found.the-variants.{Here}
+use Rattle.path.specs.declared.path.Found.the-variants.{Here}
 use Rattle.format.specs.Parse.{pick}
-use Rattle.format.specs.Search.{hashAt, lookup, carries}
+use Rattle.path.specs.Search.{lookup, carries}
 use Rattle.format.specs.Bump.{Bump}
 use Rattle.format.specs.Transaction.{Transaction}
 use Rattle.format.specs.Beef.{Entry, Beef}
@@ -37,6 +37,7 @@ use Rattle.bundle.specs.BundleLaws.{from-refuses, from-passes}
 use Rattle.bundle.specs.BundleTheorems.{emptyEntry}
 use Rattle.bundle.specs.RereadBundle.{leafSaid, bumpSaid, TxSaid, txSaid}
 use Rattle.bundle.specs.Amounts.{Outpoint, outpointOf, Payment, paymentOf, isAnchored, idsOf, exist, fresh, spends, enough, funded, passes, refuses}
+use Rattle.format.specs.Bytes.{hashAt}
 
 -- ---- what says the same is judged the same
 

@@ -11,7 +11,7 @@ use Rattle.format.specs.declared.level.Kind.the-variants.{Plain, Copy, Client}
 use Rattle.format.specs.declared.level.Leaf.{Leaf}
 use Rattle.format.specs.declared.beef.Anchor.{Anchor}
 use Rattle.format.specs.Parse.{Reader, got, _passing_else_, times}
-use Rattle.format.specs.Search.{hashAt}
+use Rattle.format.specs.Bytes.{hashAt}
 use Rattle.format.specs.Field.{bytes, byte, le4, le8, number, varint}
 use Rattle.format.specs.Level.{holds, offsetField, flagAllowed, flagField, kindField, carriedField, leafField, andOffset, levelField, levelInTurn, nextTurn, levelFields}
 use Rattle.format.specs.Bump.{Bump, blockField, heightField, bumpField}

@@ -13,11 +13,8 @@ use format::BumpHead;
 use format::Cursor;
 use format::EntryAnswer;
 use format::EntryHead;
-use format::Form;
 use format::InputAnswer;
 use format::Items;
-use format::LAYERS;
-use format::Path;
 use format::TxHead;
 use format::refusal::BAD_INDEX;
 use format::refusal::BAD_ROOTS;
@@ -27,6 +24,9 @@ use format::refusal::SAME_TX;
 use format::refusal::SHORT;
 use format::refusal::TOO_LONG;
 use format::refusal::UNTRUSTED;
+use path::Form;
+use path::LAYERS;
+use path::Path;
 use spv::Outcome;
 use spv::Rejection;
 use spv::prove_in;
@@ -167,7 +167,7 @@ fn keep_path(s: &[u8], bumps: [BumpHead; Beef::MAX_BUMPS], anchor: Anchor, kept:
         return kept;
     }
     let head = bumps[n as usize];
-    let path = format::bump_path(s, head);
+    let path = path::bump_path(s, head);
     Kept { bump: n, path }
 }
 

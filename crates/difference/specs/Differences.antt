@@ -7,7 +7,7 @@ use lib.Dec.{eqb, leb}
 use lib.ListN.{getD}
 use Rattle.format.specs.Bytes.{same}
 use Rattle.format.specs.Parse.{pick}
-use Rattle.format.specs.BumpBytes.{Carried, plain, copy, client, Entry, Content}
+use Rattle.encoding.specs.BumpBytes.{Carried, plain, copy, client, Entry, Content}
 
 -- what stands at a place
 pub data Standing : Type 0 where

@@ -6,7 +6,7 @@ use Rattle.format.specs.Parse.{each, many, whole}
 use Rattle.format.specs.Field.{bytes, byte, varint}
 use Rattle.format.specs.Level.{holds, offsetField, flagField, kindField, carriedField, leafField, levelField, levelOfTurn}
 use Rattle.format.specs.Bump.{blockField, heightField, bumpField}
-use Rattle.format.specs.BumpBytes.{Content, Entry, plain, copy, client, carriedOf}
+use Rattle.encoding.specs.BumpBytes.{Content, Entry, plain, copy, client, carriedOf}
 use Rattle.format.specs.Bytes.{same}
 use Rattle.spv.specs.Result.{refused, carrying}
 use Rattle.difference.specs.Differences.{first, second, both, Difference, block, height, leaf, at, standing, equal, told, tell, offsetsFrom, levelsFrom, unless, higher, differences}

@@ -6,7 +6,7 @@ use lib.Dec.{leb}
 use Rattle.format.specs.Parse.{pick}
 use Rattle.format.specs.Refusals.{NO-ROOM}
 use Rattle.format.specs.Bump.{bumpWhole}
-use Rattle.format.specs.BumpBytes.{contentOf}
+use Rattle.encoding.specs.BumpBytes.{contentOf}
 use Rattle.spv.specs.Result.{Result, accepted, refused, carrying, afterReading}
 use Rattle.difference.specs.declared.listing.Listed.{Listed}
 use Rattle.difference.specs.Differences.{Side, first, second, both, Difference, block, height, leaf, differences}

@@ -12,7 +12,7 @@ use Rattle.format.specs.Parse.{each, got, bad}
 use Rattle.format.specs.ParseLaws.{each-got, each-bad}
 use Rattle.format.specs.Refusals.{NO-ROOM}
 use Rattle.format.specs.Bump.{Bump, bumpWhole, headOf}
-use Rattle.format.specs.BumpBytes.{contentOf}
+use Rattle.encoding.specs.BumpBytes.{contentOf}
 use Rattle.spv.specs.declared.rejection.Rejection.{Rejection}
 use Rattle.spv.specs.Result.{Result, accepted, refused, carrying, refusedReading}
 use Rattle.difference.specs.declared.listing.Listed.{Listed}

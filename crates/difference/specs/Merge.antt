@@ -8,7 +8,7 @@ use Rattle.format.specs.declared.level.Kind.{Kind}
 use Rattle.format.specs.declared.level.Kind.the-variants.{Plain, Copy, Client}
 use Rattle.format.specs.declared.bump.BumpHead.{BumpHead}
 use Rattle.format.specs.Refusals.{MAX-LEAVES}
-use Rattle.format.specs.BumpBytes.{Entry, carriedOf}
+use Rattle.encoding.specs.BumpBytes.{Entry, carriedOf}
 use Rattle.difference.specs.declared.level.Next.{Next}
 use Rattle.difference.specs.declared.level.Next.the-variants.{Offset, End}
 use Rattle.difference.specs.declared.level.Spot.{Spot}

@@ -17,9 +17,9 @@ use Rattle.format.specs.declared.level.Kind.{Kind}
 use Rattle.format.specs.declared.level.Kind.the-variants.{Plain, Copy, Client}
 use Rattle.format.specs.declared.bump.BumpHead.{BumpHead}
 use Rattle.format.specs.Refusals.{MAX-LEAVES}
-use Rattle.format.specs.Bytes.{same}
-use Rattle.format.specs.Search.{looseLeaf, hashAt}
-use Rattle.format.specs.BumpBytes.{Entry, copy, carriedOf}
+use Rattle.format.specs.Bytes.{same, hashAt}
+use Rattle.path.specs.Loose.{looseLeaf}
+use Rattle.encoding.specs.BumpBytes.{Entry, copy, carriedOf}
 use Rattle.difference.specs.declared.level.Next.{Next}
 use Rattle.difference.specs.declared.level.Next.the-variants.{Offset, End}
 use Rattle.difference.specs.Differences.{Standing, stands, nothing, equal, told, tell, higher}

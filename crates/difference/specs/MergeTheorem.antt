@@ -8,7 +8,7 @@ use lib.Dec.{eqb}
 use native.Mathlib.Omega.{arith}
 use borrow.Author.Tests.{eqb-true, eqb-false, ne-eqb, lt-ltb, le-ltb}
 use Rattle.format.specs.Parse.{pick}
-use Rattle.format.specs.BumpBytes.{Entry}
+use Rattle.encoding.specs.BumpBytes.{Entry}
 use Rattle.difference.specs.declared.level.Next.the-variants.{Offset}
 use Rattle.difference.specs.Differences.{Standing, stands, nothing, at, Told, told, tell, offsetsFrom}
 use Rattle.difference.specs.InOrder.{From, Under, InOrder, from-weaken, under-weaken, at-below}

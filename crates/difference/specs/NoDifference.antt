@@ -8,7 +8,7 @@ use native.Mathlib.Omega.{arith}
 use borrow.Author.Tests.{eqb-true, eq-eqb}
 use Rattle.format.specs.BytesLaws.{same-eq, same-refl}
 use Rattle.format.specs.Parse.{pick}
-use Rattle.format.specs.BumpBytes.{Carried, plain, copy, client, Content}
+use Rattle.encoding.specs.BumpBytes.{Carried, plain, copy, client, Content}
 use Rattle.difference.specs.Differences.{Standing, stands, nothing, standing, Side, first, second, both, Difference, block, height, leaf, equal, Told, alike, differ, told, tell, offsetsFrom, levelsFrom, unless, higher, differences}
 use Rattle.difference.specs.Once.{count, one, differs, isTold, sameSide, Within, once}
 

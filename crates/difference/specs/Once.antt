@@ -9,7 +9,7 @@ use native.Mathlib.Nat.{le-trans}
 use lib.Pow.{pow-mono}
 use borrow.Author.Tests.{eqb-true, eqb-false, eq-eqb, ne-eqb, leb-true, leb-false, ltb-true, ltb-false}
 use Rattle.format.specs.Parse.{pick}
-use Rattle.format.specs.BumpBytes.{Content}
+use Rattle.encoding.specs.BumpBytes.{Content}
 use Rattle.difference.specs.Differences.{stands, nothing, standing, Side, first, second, both, Difference, block, height, leaf, Told, alike, differ, told, tell, offsetsFrom, levelsFrom, unless, higher, differences}
 
 -- ---- the statement

@@ -6,7 +6,7 @@ use Prim.Native.Nat.{ℕ, zero, suc, _^_, _<_, _≤_}
 use lib.Dec.{eqb, ltb}
 use native.Mathlib.Omega.{arith}
 use borrow.Author.Tests.{eq-eqb, lt-ltb, le-ltb}
-use Rattle.format.specs.BumpBytes.{Content}
+use Rattle.encoding.specs.BumpBytes.{Content}
 use Rattle.difference.specs.Differences.{standing, Side, Difference, block, height, leaf, Told, alike, differ, told, tell, offsetsFrom, levelsFrom, unless, higher, differences}
 
 -- d comes before e

@@ -18,7 +18,7 @@ use Rattle.format.specs.Level.{holds, leafField, andOffset, levelField, levelOf
 use Rattle.format.specs.LevelLaws.{holds-snoc}
 use Rattle.format.specs.Bump.{Bump, bumpWhole}
 use Rattle.format.specs.BumpLaws.{bump-whole-told}
-use Rattle.format.specs.BumpBytes.{Carried, Entry, Content, entryOf, contentOf}
+use Rattle.encoding.specs.BumpBytes.{Carried, Entry, Content, entryOf, contentOf}
 use Rattle.difference.specs.Differences.{Standing, stands, nothing, at, standing, Difference, equal, differences}
 use Rattle.difference.specs.Once.{one, count, differs, once}
 use Rattle.difference.specs.NoDifference.{equal-eq, equal-refl, Alike, none-alike, alike-none}

@@ -21,7 +21,7 @@ use Rattle.format.specs.Refusals.{OVER-LIMIT, MAX-LEAVES}
 use Rattle.format.specs.Level.{leafField, andOffset, levelField, levelOfTurn, levelInTurn, nextTurn}
 use Rattle.format.specs.Bump.{Bump, bumpWhole, headOf}
 use Rattle.format.specs.BumpLaws.{bump-whole-told}
-use Rattle.format.specs.BumpBytes.{Entry, Content, entryOf, levelsOf, contentOf}
+use Rattle.encoding.specs.BumpBytes.{Entry, Content, entryOf, levelsOf, contentOf}
 use Rattle.difference.specs.Differences.{nothing, at, standing, Difference, offsetsFrom, levelsFrom, higher, differences}
 use Rattle.difference.specs.Once.{Within, higher-bounds}
 use Rattle.difference.specs.Filling.{Filling, putAll, putUnless}

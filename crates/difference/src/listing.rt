@@ -14,7 +14,7 @@ use format::refusal::NO_ROOM;
 use spv::Rejection;
 ghost use mathlib.Core.Path.{_≡_};
 ghost use lib.ListN.{length};
-ghost use Rattle.format.specs.BumpBytes.{carriedOf};
+ghost use Rattle.encoding.specs.BumpBytes.{carriedOf};
 ghost use Rattle.difference.specs.Differences.{equal, told, higher as higherOf};
 ghost use Rattle.difference.specs.Listing.{listing, listedOf, wordsIn, roomIn};
 ghost use Rattle.difference.specs.Filling.{filling, putOn, putAll, toldWord, putPlace, putUnless};

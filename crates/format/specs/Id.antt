@@ -7,7 +7,7 @@ use lib.ListN.{length, take, drop, replicate}
 use Rattle.hash.specs.Sha256.{sha256d, hashed}
 use Rattle.format.specs.declared.tsc.Subject.{Subject}
 use Rattle.format.specs.Parse.{pick}
-use Rattle.format.specs.Search.{hashAt}
+use Rattle.format.specs.Bytes.{hashAt}
 use Rattle.format.specs.Transaction.{Transaction}
 
 unfoldable pub txid : List ℕ → Transaction → List ℕ
@@ -23,7 +23,3 @@ subjectId s (Subject.Transaction start end) = sha256d (take (end - start) (drop 
 -- 32 bytes of a part of the input: its hash, or zeros if it does not lie in the input
 unfoldable pub spanHash : List ℕ → ℕ → ℕ → List ℕ
 spanHash s start end = pick (leb start end && leb end (length s)) (hashed (take (end - start) (drop start s)) .digest) (replicate 32 0)
-
-unfoldable pub subjectHash : List ℕ → Subject → List ℕ
-subjectHash s (Subject.Id p) = hashAt s p
-subjectHash s (Subject.Transaction start end) = spanHash s start end

@@ -1,8 +1,6 @@
 -- What the answers of the readers of leaves say.
-use Rattle.format.specs.declared.level.Leaf.{Leaf}
 use Rattle.format.specs.declared.level.Kind.{Kind}
 use Rattle.format.specs.declared.level.KindAnswer.{KindAnswer}
-use Rattle.format.specs.declared.level.LeafAnswer.{LeafAnswer}
 use Rattle.format.specs.declared.refusal.Refusal.{Refusal}
 use Rattle.format.specs.Parse.{Parse, got, bad}
 
@@ -13,11 +11,3 @@ kindOf (KindAnswer.Refused r) = bad (r .number) (r .place)
 abbrev pub refusalOfKind : KindAnswer → Refusal
 refusalOfKind (KindAnswer.Value v c) = record { number = 0; place = 0 }
 refusalOfKind (KindAnswer.Refused r) = r
-
-abbrev pub leafOf : LeafAnswer → Parse Leaf
-leafOf (LeafAnswer.Value v c) = got v (c .at)
-leafOf (LeafAnswer.Refused r) = bad (r .number) (r .place)
-
-abbrev pub refusalOfLeaf : LeafAnswer → Refusal
-refusalOfLeaf (LeafAnswer.Value v c) = record { number = 0; place = 0 }
-refusalOfLeaf (LeafAnswer.Refused r) = r

@@ -11,8 +11,7 @@ use Rattle.format.specs.declared.field.Number.{Number}
 use Rattle.format.specs.declared.field.Run.{Run}
 use Rattle.format.specs.FieldAnswer.{numberOf, runOf}
 use Rattle.format.specs.declared.level.KindAnswer.{KindAnswer}
-use Rattle.format.specs.declared.level.LeafAnswer.{LeafAnswer}
-use Rattle.format.specs.LevelAnswer.{kindOf, leafOf}
+use Rattle.format.specs.LevelAnswer.{kindOf}
 use Rattle.format.specs.declared.tsc.SubjectAnswer.{SubjectAnswer}
 use Rattle.format.specs.declared.tsc.TscAnswer.{TscAnswer}
 use Rattle.format.specs.TscAnswer.{subjectAnswer, tscAnswer}
@@ -99,13 +98,6 @@ kind-one = one-reading kindOf KindAnswer.Value KindAnswer.Refused undone
     undone : (x : KindAnswer) → rebuilt KindAnswer.Value KindAnswer.Refused (kindOf x) ≡ x
     undone (KindAnswer.Value v c) = refl
     undone (KindAnswer.Refused r) = refl
-
-pub leaf-one : (a b : LeafAnswer) → leafOf a ≡ leafOf b → a ≡ b
-leaf-one = one-reading leafOf LeafAnswer.Value LeafAnswer.Refused undone
-  where
-    undone : (x : LeafAnswer) → rebuilt LeafAnswer.Value LeafAnswer.Refused (leafOf x) ≡ x
-    undone (LeafAnswer.Value v c) = refl
-    undone (LeafAnswer.Refused r) = refl
 
 pub number-one : (a b : Number) → numberOf a ≡ numberOf b → a ≡ b
 number-one = one-reading numberOf Number.Value Number.Refused undone

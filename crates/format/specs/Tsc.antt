@@ -11,7 +11,7 @@ use Rattle.format.specs.declared.tsc.TscHead.{TscHead}
 use Rattle.format.specs.Parse.{Parse, Reader, pick, pure, here, onward, _>>=_, _>>_, given, _passing_else_, require, times, whole, got, bad}
 use Rattle.format.specs.Field.{bytes, byte, varint}
 use Rattle.format.specs.Node.{nodeField}
-use Rattle.format.specs.Search.{hashAt}
+use Rattle.format.specs.Bytes.{hashAt}
 use Rattle.format.specs.Transaction.{Listed, Transaction, txField}
 use Rattle.format.specs.Refusals.{OVER-LIMIT, BAD-OFFSET, BAD-FLAG, BAD-TX, MAX-HEIGHT}
 

@@ -19,7 +19,7 @@ use Rattle.format.specs.ParseLaws.{passing-told, onward-told, each-got, 
 use Rattle.format.specs.Field.{bytes, byte, varint}
 use Rattle.format.specs.Span.{picked-told, BytesRead, bytes-told}
 use Rattle.format.specs.Node.{nodeField}
-use Rattle.format.specs.SearchLaws.{hash-none}
+use Rattle.format.specs.BytesLaws.{hash-none}
 use Rattle.format.specs.Transaction.{Listed, Transaction, txField, itemsOf, txHeadOf}
 use Rattle.format.specs.TransactionLaws.{tx-told}
 use Rattle.format.specs.Tsc.{flagsAllowed, flagsField, hasTransaction, hasHeader, exactly, exactField, asSubject, statedField, subjectField, targetField, indexFits, nodeCountField, nodesField, Tsc, tscField, tscWhole, tscHeadOf, targetRoot}

@@ -1,7 +1,6 @@
 // Hashes as 32 bytes.
 ghost use mathlib.Core.Path.{_≡_};
-ghost use Rattle.format.specs.Bytes.{same, setHash};
-ghost use Rattle.format.specs.Search.{hashAt};
+ghost use Rattle.format.specs.Bytes.{same, setHash, hashAt};
 
 // Whether two hashes are the same 32 bytes. All are compared, whatever the first ones are, so that many are at once.
 pub fn same_bytes(a: [u8; 32], b: [u8; 32]) -> bool

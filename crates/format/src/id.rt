@@ -1,9 +1,7 @@
 // Ids of transactions (01, "Raw transaction").
-use super::bytes::hash_at;
-use super::tsc::Subject;
 use super::tx::TxHead;
 ghost use mathlib.Core.Path.{_≡_};
-ghost use Rattle.format.specs.Id.{spanHash, subjectHash};
+ghost use Rattle.format.specs.Id.{spanHash};
 
 // The hash of a part of the input; zero if it does not lie in it.
 pub fn span_hash(s: &[u8], start: usize, end: usize) -> [u8; 32]
@@ -24,14 +22,4 @@ pub fn tx_id(s: &[u8], tx: TxHead) -> [u8; 32]
     ensures { λ r. ⌜ r ≡ spanHash (now (s .entry)) (tx .start) (tx .end) ⌝ }
 {
     span_hash(s, tx.start, tx.end)
-}
-
-// A TSC proof's own id: the one written, or its transaction's.
-pub fn subject_id(s: &[u8], subject: Subject) -> [u8; 32]
-    ensures { λ r. ⌜ r ≡ subjectHash (now (s .entry)) subject ⌝ }
-{
-    match subject {
-        Subject::Id(place) => hash_at(s, place),
-        Subject::Transaction(start, end) => span_hash(s, start, end),
-    }
 }

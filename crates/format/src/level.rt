@@ -12,15 +12,14 @@ use super::refusal::REPEATED;
 use super::refusal::Refusal;
 ghost use mathlib.Core.Path.{_≡_};
 ghost use mathlib.Core.List.{[]};
-ghost use Prim.Native.Nat.{_+_, _-_, _≤_, _<_, _^_};
+ghost use Prim.Native.Nat.{_+_, _≤_, _<_, _^_};
 ghost use lib.ListN.{length};
-ghost use Rattle.format.specs.Parse.{each, times};
+ghost use Rattle.format.specs.Parse.{each};
 ghost use Rattle.format.specs.FieldAnswer.{numberOf};
 ghost use Rattle.format.specs.Refusals.{MAX-HEIGHT, MAX-LEAVES};
 ghost use Rattle.format.specs.Level.{holds, offsetField, flagField, flagAllowed, kindField, carriedField, leafField, leafFields, levelField, levelOfTurn, levelInTurn, levelFields, total};
-ghost use Rattle.format.specs.Steps.{offsetOf, keepOffset, Above, Slotted, leafWith, Tells, refusalAt};
-ghost use Rattle.format.specs.LevelAnswer.{kindOf, leafOf, refusalOfKind, refusalOfLeaf};
-ghost use Rattle.format.specs.Search.{looseCarried, looseLeaf, looseLevel};
+ghost use Rattle.format.specs.LevelAnswer.{kindOf, refusalOfKind};
+ghost use Rattle.format.specs.Seen.{offsetOf, keepOffset, Above, Slotted};
 
 // Which of the two layouts.
 pub enum Layout {
@@ -50,11 +49,6 @@ pub enum KindAnswer {
     Refused(Refusal),
 }
 
-pub enum LeafAnswer {
-    Value(Leaf, Cursor),
-    Refused(Refusal),
-}
-
 impl KindAnswer {
     pub fn refusal(self) -> Refusal
         ensures { λ r. ⌜ r ≡ refusalOfKind self ⌝ }
@@ -62,20 +56,6 @@ impl KindAnswer {
         match self {
             KindAnswer::Refused(x) => x,
             KindAnswer::Value(_, _) => Refusal {
-                number: 0,
-                place: 0,
-            },
-        }
-    }
-}
-
-impl LeafAnswer {
-    pub fn refusal(self) -> Refusal
-        ensures { λ r. ⌜ r ≡ refusalOfLeaf self ⌝ }
-    {
-        match self {
-            LeafAnswer::Refused(x) => x,
-            LeafAnswer::Value(_, _) => Refusal {
                 number: 0,
                 place: 0,
             },
@@ -354,14 +334,18 @@ fn greatest_of(n: u64) -> u64
     half - 1 + half
 }
 
-// The level that is written in turn i.
-pub(crate) fn level_in_turn(layout: Layout, height: u64, i: u64) -> u64
-    requires { ⌜ i < height ⌝ }
+// The level that is written in turn i; past a CMP's last turn it is 0.
+pub fn level_in_turn(layout: Layout, height: u64, i: u64) -> u64
     ensures { λ r. ⌜ r ≡ levelOfTurn layout height i ⌝ }
 {
     match layout {
         Layout::Bump => i,
-        Layout::Cmp => height - (i + 1),
+        Layout::Cmp => {
+            if height <= i {
+                return 0;
+            }
+            height - (i + 1)
+        }
     }
 }
 
@@ -391,124 +375,4 @@ pub(crate) fn read_levels(s: &[u8], c: Cursor, layout: Layout, height: u64) -> N
         i += 1;
     }
     Number::Value(leaves, next)
-}
-
-fn loose_flagged(s: &[u8], c: Cursor) -> KindAnswer
-    ensures { λ r. ⌜ kindOf r ≡ looseCarried Layout.Bump (now (s .entry)) (c .at) ⌝ }
-{
-    let first = one_byte(s, c);
-    let Number::Value(flag, next) = first else {
-        return KindAnswer::Refused(first.refusal());
-    };
-    read_kind(s, next, flag)
-}
-
-fn loose_carried(s: &[u8], c: Cursor, layout: Layout) -> KindAnswer
-    ensures { λ r. ⌜ kindOf r ≡ looseCarried layout (now (s .entry)) (c .at) ⌝ }
-{
-    match layout {
-        Layout::Bump => loose_flagged(s, c),
-        Layout::Cmp => read_kind(s, c, 0),
-    }
-}
-
-// A leaf of a level that was read before: no test of its offset or flags.
-pub fn leaf_at(s: &[u8], c: Cursor, layout: Layout) -> LeafAnswer
-    ensures { λ r. ⌜ leafOf r ≡ looseLeaf layout (now (s .entry)) (c .at) ⌝ }
-{
-    let first = read_varint(s, c);
-    let Number::Value(offset, second_at) = first else {
-        return LeafAnswer::Refused(first.refusal());
-    };
-    let second = loose_carried(s, second_at, layout);
-    let KindAnswer::Value(kind, next) = second else {
-        return LeafAnswer::Refused(second.refusal());
-    };
-    LeafAnswer::Value(Leaf { offset, kind }, next)
-}
-
-// What a search looks at in a leaf: its offset, the place of its 32 bytes if it isn't a copy, and the cursor after it.
-pub(crate) enum Step {
-    Hash(u64, usize, Cursor),
-    Copy(u64, Cursor),
-    Stuck,
-}
-
-fn step_kind(s: &[u8], c: Cursor, flags: u64, offset: u64) -> Step
-    ensures { λ r. ⌜ Tells r (leafWith offset (kindField flags (now (s .entry)) (c .at))) ⌝ }
-{
-    if flags == 1 {
-        return Step::Copy(offset, c);
-    }
-    let field = read_run(s, c, 32);
-    let Run::Value(place, next) = field else {
-        return Step::Stuck;
-    };
-    Step::Hash(offset, place, next)
-}
-
-fn step_flagged(s: &[u8], c: Cursor, offset: u64) -> Step
-    ensures { λ r. ⌜ Tells r (leafWith offset (looseCarried Layout.Bump (now (s .entry)) (c .at))) ⌝ }
-{
-    let first = one_byte(s, c);
-    let Number::Value(flags, next) = first else {
-        return Step::Stuck;
-    };
-    step_kind(s, next, flags, offset)
-}
-
-fn step_carried(s: &[u8], c: Cursor, layout: Layout, offset: u64) -> Step
-    ensures { λ r. ⌜ Tells r (leafWith offset (looseCarried layout (now (s .entry)) (c .at))) ⌝ }
-{
-    match layout {
-        Layout::Bump => step_flagged(s, c, offset),
-        Layout::Cmp => step_kind(s, c, 0, offset),
-    }
-}
-
-// A leaf of a level that was read before, as a search passes it.
-pub(crate) fn pass_leaf(s: &[u8], c: Cursor, layout: Layout) -> Step
-    ensures { λ r. ⌜ Tells r (looseLeaf layout (now (s .entry)) (c .at)) ⌝ }
-{
-    let first = read_varint(s, c);
-    let Number::Value(offset, next) = first else {
-        return Step::Stuck;
-    };
-    step_carried(s, next, layout, offset)
-}
-
-// The refusal of a leaf that can't be read.
-fn unread_leaf(s: &[u8], c: Cursor, layout: Layout) -> Number
-    ensures { λ r. ⌜ r ≡ Number.Refused (refusalAt (looseLeaf layout (now (s .entry)) (c .at))) ⌝ }
-{
-    let field = leaf_at(s, c, layout);
-    Number::Refused(field.refusal())
-}
-
-fn skip_leaves(s: &[u8], c: Cursor, layout: Layout, count: u64) -> Number
-    ensures { λ r. ⌜ numberOf r ≡ each length (times (looseLeaf layout) count (now (s .entry)) (c .at)) ⌝ }
-{
-    let mut next = c;
-    let mut i: u64 = 0;
-    while i < count {
-        let step = pass_leaf(s, next, layout);
-        i += 1;
-        match step {
-            Step::Hash(_, _, after) => next = after,
-            Step::Copy(_, after) => next = after,
-            Step::Stuck => return unread_leaf(s, next, layout),
-        }
-    }
-    Number::Value(i, next)
-}
-
-// A level that was read before: how many leaves it has, and the cursor after it.
-pub fn skip_level(s: &[u8], c: Cursor, layout: Layout) -> Number
-    ensures { λ r. ⌜ numberOf r ≡ each length (looseLevel layout (now (s .entry)) (c .at)) ⌝ }
-{
-    let field = read_varint(s, c);
-    let Number::Value(count, next) = field else {
-        return field;
-    };
-    skip_leaves(s, next, layout, count)
 }

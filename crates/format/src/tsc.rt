@@ -1,5 +1,4 @@
 // TSC binary proofs (document 000).
-use super::bytes::hash_at;
 use super::field::Cursor;
 use super::field::Number;
 use super::field::Run;
@@ -27,7 +26,7 @@ ghost use Rattle.format.specs.FieldAnswer.{numberOf, runOf};
 ghost use Rattle.format.specs.Node.{nodeField};
 ghost use Rattle.format.specs.Transaction.{itemsOf};
 ghost use Rattle.format.specs.TransactionAnswer.{itemsAnswer};
-ghost use Rattle.format.specs.Tsc.{flagsField, exactField, asSubject, statedField, subjectField, targetField, indexFits, nodeCountField, nodesField, tscField, tscWhole, tscHeadOf, tellsRoot, targetRoot};
+ghost use Rattle.format.specs.Tsc.{flagsField, exactField, asSubject, statedField, subjectField, targetField, indexFits, nodeCountField, nodesField, tscField, tscWhole, tscHeadOf, tellsRoot};
 ghost use Rattle.format.specs.TscAnswer.{subjectAnswer, refusalOfSubject, tscAnswer, refusalOfTsc};
 
 pub struct Tsc;
@@ -311,21 +310,4 @@ pub fn read_tsc(s: &[u8]) -> TscAnswer
         });
     }
     field
-}
-
-// The root that a target tells: bytes 36 to 67 of a header, or all of another target.
-pub fn target_root(s: &[u8], head: TscHead) -> [u8; 32]
-    ensures { λ r. ⌜ r ≡ targetRoot (now (s .entry)) (head .flags) (head .target) ⌝ }
-{
-    let place = head.target;
-    if head.flags & 6 != 2 {
-        return hash_at(s, place);
-    }
-    if s.len() < place {
-        return [0u8; 32];
-    }
-    if s.len() - place < 68 {
-        return [0u8; 32];
-    }
-    hash_at(s, place + 36)
 }

@@ -8,7 +8,7 @@ use Rattle.format.specs.Parse.{each, many, whole}
 use Rattle.format.specs.Field.{bytes, byte, varint}
 use Rattle.format.specs.Level.{holds, offsetField, flagField, kindField, carriedField, leafField, levelField, levelOfTurn}
 use Rattle.format.specs.Bump.{blockField, heightField, bumpField}
-use Rattle.format.specs.Search.{hashAt}
+use Rattle.format.specs.Bytes.{hashAt}
 use Rattle.listing.specs.Text.{ascii, digits, decimal, hex, printed}
 use Rattle.listing.specs.Listing.{kindText, leafLine, leafLines, levelLine, levelLines, bumpLines, refusedLine, report, listing}
 

@@ -9,7 +9,7 @@ use Rattle.format.specs.declared.level.Kind.the-variants.{Plain, Copy, Client}
 use Rattle.format.specs.Parse.{Parse, pick, got, bad}
 use Rattle.format.specs.Refusals.{TOO-LONG}
 use Rattle.format.specs.Bump.{Bump, bumpWhole}
-use Rattle.format.specs.Search.{hashAt}
+use Rattle.format.specs.Bytes.{hashAt}
 use Rattle.listing.specs.Text.{ascii, decimal, printed, line}
 
 -- the bytes that the program takes (01, "Sizes")

@@ -11,8 +11,8 @@ use Rattle.format.specs.ParseLaws.{each-got, each-bad}
 use Rattle.format.specs.Bump.{Bump, bumpWhole, headOf}
 use Rattle.format.specs.BumpLaws.{bump-whole-told}
 use Rattle.listing.specs.Text.{ascii, decimal, line}
-use Rattle.format.specs.Buffer.{Buffer, buffer, writeOn, filled}
-use Rattle.format.specs.BufferLaws.{wrote-then, write-whole}
+use Rattle.encoding.specs.Buffer.{Buffer, buffer, writeOn, filled}
+use Rattle.encoding.proofs.BufferLaws.{wrote-then, write-whole}
 use Rattle.listing.specs.Listing.{LISTED-BYTES, levelLines, bumpLines, refusedLine, report, listing}
 use Rattle.listing.specs.Walk.{Walk, walkLevels}
 use Rattle.listing.specs.WalkLaws.{levels-walked}

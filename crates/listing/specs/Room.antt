@@ -18,11 +18,11 @@ use Rattle.format.specs.Field.{byte, varint}
 use Rattle.format.specs.Refusals.{TOO-LONG, BAD-HEIGHT, OVER-LIMIT, MAX-INPUT, MAX-LEAVES, MAX-BLOCK, MAX-HEIGHT}
 use Rattle.format.specs.Level.{leafField, andOffset, levelField, levelOfTurn, levelInTurn, nextTurn}
 use Rattle.format.specs.Bump.{Bump, blockField, heightField, bumpField, bumpWhole}
-use Rattle.format.specs.Search.{hashAt}
-use Rattle.format.specs.SearchLaws.{hash-at-length}
+use Rattle.format.specs.Bytes.{hashAt}
+use Rattle.format.specs.BytesLaws.{hash-at-length}
 use Rattle.listing.specs.Text.{digit, digits, decimal, hex, printed}
 use Rattle.listing.specs.Listing.{LISTED-BYTES, LISTING-ROOM, kindText, leafLine, leafLines, levelLine, levelLines, bumpLines, refusedLine, report, listing}
-use Rattle.format.specs.Buffer.{filled}
+use Rattle.encoding.specs.Buffer.{filled}
 use Rattle.listing.specs.Bounded.{Bounded, read, refused, within-then, within-each, within-weaken, within-choice, within-passing, carriedBytes, within-byte, within-varint, within-leaf}
 
 digits-few : (k most n : ℕ) → n < 10 ^ suc k → length (digits most n) ≤ suc k

@@ -9,8 +9,8 @@ use lib.Dec.{ltb}
 use native.Mathlib.Omega.{arith}
 use native.Mathlib.Numerals.{add-one}
 use borrow.Author.Tests.{le-ltb, lt-ltb, ltb-false}
-use Rattle.format.specs.Buffer.{Buffer, putOn, writeOn}
-use Rattle.format.specs.BufferLaws.{write-one, wrote-then}
+use Rattle.encoding.specs.Buffer.{Buffer, putOn, writeOn}
+use Rattle.encoding.proofs.BufferLaws.{write-one, wrote-then}
 use Rattle.listing.specs.Text.{digit, digits, decimal, hex, printed}
 
 pub digit-low : (d : ℕ) → d < 10 → digit d ≡ 48 + d

@@ -5,8 +5,8 @@ use Prim.Native.Nat.{ℕ, zero, suc, _+_}
 use Rattle.format.specs.declared.level.Layout.{Layout}
 use Rattle.format.specs.Parse.{otherwise}
 use Rattle.format.specs.Field.{varint}
-use Rattle.format.specs.Search.{looseLeaf}
-use Rattle.format.specs.Buffer.{Buffer, writeOn}
+use Rattle.path.specs.Loose.{looseLeaf}
+use Rattle.encoding.specs.Buffer.{Buffer, writeOn}
 use Rattle.listing.specs.Listing.{leafLine, levelLine}
 
 -- what was written, and the place where reading goes on

@@ -11,12 +11,13 @@ use Rattle.format.specs.Parse.{many, times, got, bad}
 use Rattle.format.specs.ParseLaws.{many-told}
 use Rattle.format.specs.Field.{varint}
 use Rattle.format.specs.Level.{levelOfTurn, levelInTurn, nextTurn}
-use Rattle.format.specs.Search.{looseLeaf, looseLevel}
-use Rattle.format.specs.SearchLaws.{level-loose, level-walk}
-use Rattle.format.specs.Buffer.{Buffer, writeOn}
-use Rattle.format.specs.BufferLaws.{write-none, write-then}
+use Rattle.path.specs.Loose.{looseLeaf, looseLevel}
+use Rattle.path.proofs.SearchLaws.{level-walk}
+use Rattle.encoding.specs.Buffer.{Buffer, writeOn}
+use Rattle.encoding.proofs.BufferLaws.{write-none, write-then}
 use Rattle.listing.specs.Listing.{leafLine, leafLines, levelLine, levelLines}
 use Rattle.listing.specs.Walk.{Walk, walk, walkLeaves, walkLevel, walkLevels}
+use Rattle.path.proofs.LooseLaws.{level-loose}
 
 module _ (s : List ℕ) where
   -- a loop over n leaves that has passed i of them

@@ -2,9 +2,9 @@
 mod lines;
 mod text;
 
+use encoding::buffer::write;
 use format::BumpAnswer;
 use format::Refusal;
-use format::buffer::write;
 use format::read_bump;
 use format::refusal::TOO_LONG;
 use lines::number_line;
@@ -15,7 +15,7 @@ ghost use Prim.Native.Nat.{min};
 ghost use lib.ListN.{length};
 ghost use Rattle.format.specs.Bump.{bumpWhole};
 ghost use Rattle.listing.specs.Listing.{listing, report};
-ghost use Rattle.format.specs.Buffer.{buffer, writeOn, filled};
+ghost use Rattle.encoding.specs.Buffer.{buffer, writeOn, filled};
 
 // The bytes of a BUMP that are listed; more are refused.
 pub const LISTED_BYTES: usize = 65536;

@@ -1,22 +1,22 @@
 // The lines of a listing.
 use super::text::write_decimal;
 use super::text::write_hash;
+use encoding::buffer::write;
 use format::Cursor;
 use format::Kind;
 use format::Layout;
 use format::Leaf;
-use format::LeafAnswer;
 use format::Number;
 use format::Refusal;
-use format::buffer::write;
 use format::hash_at;
-use format::leaf_at;
 use format::read_varint;
+use path::LeafAnswer;
+use path::leaf_at;
 ghost use mathlib.Core.Path.{_≡_};
 ghost use mathlib.Core.List.{_++_};
 ghost use Rattle.listing.specs.Text.{decimal, line};
 ghost use Rattle.listing.specs.Listing.{kindText, leafLine, refusedLine};
-ghost use Rattle.format.specs.Buffer.{buffer, writeOn};
+ghost use Rattle.encoding.specs.Buffer.{buffer, writeOn};
 ghost use Rattle.listing.specs.Walk.{walk, walkLeaves, walkLevel, walkLevels};
 
 // Where the next byte goes, and where reading goes on.

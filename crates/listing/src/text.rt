@@ -1,10 +1,10 @@
 // Text written into lent memory: bytes, numbers in decimal, hashes in hex. Each function takes the place of the next byte and
 // answers the place after its text; bytes that find no room are dropped.
-use format::buffer::put;
+use encoding::buffer::put;
 ghost use mathlib.Core.Path.{_≡_};
 ghost use Prim.Native.Nat.{_<_};
 ghost use Rattle.listing.specs.Text.{digit as digitOf, decimal, printed};
-ghost use Rattle.format.specs.Buffer.{buffer, writeOn};
+ghost use Rattle.encoding.specs.Buffer.{buffer, writeOn};
 
 fn digit(d: u64) -> u8
     requires { ⌜ d < 16 ⌝ }

@@ -8,7 +8,7 @@ use Rattle.format.specs.Field.{bytes, byte, varint}
 use Rattle.format.specs.Padded.{padded}
 use Rattle.format.specs.Level.{levelField}
 use Rattle.format.specs.Bump.{blockField, heightField, bumpField}
-use Rattle.format.specs.Search.{leastOffset}
+use Rattle.path.specs.Search.{leastOffset}
 use Rattle.spv.specs.Result.{carrying}
 use Rattle.spv.specs.Compare.{proveBy}
 use Rattle.spv.specs.Readings.{starting, levelsReading, bumpReading}

@@ -5,10 +5,10 @@ use mathlib.Core.Path.{_≡_}
 use mathlib.Core.List.{List}
 use lib.Dec.{ltb}
 use lib.ListN.{length, getD}
-use Rattle.format.specs.declared.path.Path.{Path}
+use Rattle.path.specs.declared.path.Path.{Path}
 use Rattle.format.specs.Parse.{pick}
-use Rattle.format.specs.Path.{startIn}
-use Rattle.format.specs.Search.{hashAt}
+use Rattle.path.specs.Path.{startIn}
+use Rattle.format.specs.Bytes.{hashAt}
 use Rattle.spv.specs.Compare.{prove}
 use Rattle.spv.specs.Readings.{pathReading}
 use Rattle.spv.specs.Shapes.{provedOf}

@@ -9,16 +9,15 @@ use lib.ListN.{length, getD, set, length-set}
 use lib.Seq.{getD-set-same, getD-set-other}
 use borrow.Author.Count.{below-more}
 use borrow.Author.Tests.{lt-ltb, le-ltb, ltb-true}
-use Rattle.format.specs.declared.path.Path.{Path}
+use Rattle.path.specs.declared.path.Path.{Path}
 use Rattle.format.specs.Parse.{Parse, got, bad, pick}
 use Rattle.format.specs.Bump.{Bump}
-use Rattle.format.specs.Path.{startIn, bumpPath}
-use Rattle.format.specs.Bytes.{setHash}
+use Rattle.path.specs.Path.{startIn, bumpPath}
+use Rattle.format.specs.Bytes.{setHash, hashAt}
 use Rattle.format.specs.BytesLaws.{set-inside}
-use Rattle.format.specs.Search.{hashAt}
 use Rattle.hash.specs.Sha256.{sha256d}
-use Rattle.format.specs.declared.path.Start.{Start}
-use Rattle.format.specs.declared.path.Start.the-variants.{At, Nowhere}
+use Rattle.path.specs.declared.path.Start.{Start}
+use Rattle.path.specs.declared.path.Start.the-variants.{At, Nowhere}
 use Rattle.spv.specs.Result.{Result, accepted, refused, atSibling}
 use Rattle.spv.specs.Climb.{Siblings, Step, joins, fails, step, odd, siblingPosition, ascendBy, ascend, endBy, endOf}
 use Rattle.spv.specs.ClimbLaws.{ascend-joins, ascend-fails}

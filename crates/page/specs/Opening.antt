@@ -3,12 +3,12 @@ use Prim.Native.Nat.{ℕ, _*_, _/_}
 use mathlib.Core.List.{List}
 use lib.Dec.{ltb}
 use lib.ListN.{length, replicate}
-use Rattle.format.specs.declared.path.Form.{Form}
-use Rattle.format.specs.declared.path.Path.{Path}
+use Rattle.path.specs.declared.path.Form.{Form}
+use Rattle.path.specs.declared.path.Path.{Path}
 use Rattle.format.specs.Parse.{Parse, got, bad, pick}
 use Rattle.format.specs.Bump.{Bump}
-use Rattle.format.specs.Path.{LAYERS, bumpPath}
-use Rattle.format.specs.Search.{hashAt}
+use Rattle.path.specs.Path.{LAYERS, bumpPath}
+use Rattle.format.specs.Bytes.{hashAt}
 use Rattle.spv.specs.declared.rejection.Rejection.{Rejection}
 use Rattle.spv.specs.Result.{carrying}
 use Rattle.spv.specs.Compare.{prove}

@@ -11,9 +11,9 @@ use borrow.Author.Tests.{le-leb, lt-leb, leb-true, eq-eqb, ne-eqb, ltb-true, ltb
 use Rattle.format.specs.Basics.{and-true}
 use Rattle.format.specs.Parse.{Parse, got, bad, pick}
 use Rattle.format.specs.Bump.{Bump, bumpWhole}
-use Rattle.format.specs.Path.{bumpPath}
+use Rattle.path.specs.Path.{bumpPath}
 use Rattle.format.specs.Padded.{padded}
-use Rattle.format.specs.Search.{hashAt}
+use Rattle.format.specs.Bytes.{hashAt}
 use Rattle.format.specs.Refusals.{OVER-LIMIT, NO-ROOM}
 use Rattle.spv.specs.Result.{Result, accepted, afterReading}
 use Rattle.spv.specs.Compare.{Proof, prove}

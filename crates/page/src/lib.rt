@@ -3,11 +3,11 @@ mod few;
 
 use few::prove_few;
 use format::BumpAnswer;
-use format::Form;
-use format::LAYERS;
-use format::Path;
 use format::refusal::NO_ROOM;
 use format::refusal::OVER_LIMIT;
+use path::Form;
+use path::LAYERS;
+use path::Path;
 use spv::Outcome;
 use spv::Proved;
 use spv::Rejection;
@@ -131,7 +131,7 @@ fn read_page(s: &[u8], count: usize) -> Opening
     let BumpAnswer::Value(head, _) = answer else {
         return refused_page(spv::reject_reading(answer.refusal()));
     };
-    let path = format::bump_path(s, head);
+    let path = path::bump_path(s, head);
     Opening {
         paged: Paged::Answered(count),
         path,

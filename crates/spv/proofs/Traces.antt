@@ -4,9 +4,9 @@ use native.Mathlib.Nat.{sub-zero}
 use mathlib.Core.Path.{_≡_, refl, ap, _∙_, sym}
 use mathlib.Core.List.{List, [], _∷_, _++_}
 use Rattle.hash.specs.Sha256.{sha256d}
-use Rattle.format.specs.Buffer.{Buffer, buffer, writeOn}
-use Rattle.format.specs.BufferLaws.{write-none, write-then}
-use Rattle.format.specs.BumpBytes.{carriedBytes}
+use Rattle.encoding.specs.Buffer.{Buffer, buffer, writeOn}
+use Rattle.encoding.proofs.BufferLaws.{write-none, write-then}
+use Rattle.encoding.specs.BumpBytes.{carriedBytes}
 use Rattle.spv.specs.Climb.{Siblings, Ascent, joins, fails, step, odd, siblingPosition, ascend, siblingsOf}
 use Rattle.spv.specs.ClimbLaws.{turn-joins, turn-fails, turn-none}
 use Rattle.spv.specs.Trace.{asCarried, nodesText}

@@ -12,7 +12,7 @@ use Rattle.format.specs.declared.level.Leaf.{Leaf}
 use Rattle.format.specs.Bytes.{same}
 use Rattle.format.specs.Parse.{got, bad}
 use Rattle.format.specs.Refusals.{NOT-LISTED}
-use Rattle.format.specs.Search.{looseLeaf}
+use Rattle.path.specs.Loose.{looseLeaf}
 use Rattle.spv.specs.declared.rejection.Rejection.{Rejection}
 use Rattle.spv.specs.Result.{Result, accepted, refused, follow, carrying, atSibling}
 use Rattle.spv.specs.Climb.{Siblings, Step, joins, fails, Ascent, step, odd, siblingPosition, ascend, endBy, endOf, preimagesOf}

@@ -10,10 +10,10 @@ use native.Mathlib.Omega.{arith}
 use borrow.Author.Tests.{ne-eqb}
 use Rattle.hash.specs.Sha256.{sha256d}
 use Rattle.format.specs.declared.level.Leaf.{Leaf}
-use Rattle.format.specs.declared.path.Start.{Start}
-use Rattle.format.specs.declared.path.Start.the-variants.{At, Nowhere}
+use Rattle.path.specs.declared.path.Start.{Start}
+use Rattle.path.specs.declared.path.Start.the-variants.{At, Nowhere}
 use Rattle.format.specs.Refusals.{MISSING}
-use Rattle.format.specs.Search.{leastOffset}
+use Rattle.path.specs.Search.{leastOffset}
 use Rattle.spv.specs.Result.{Result, accepted, refused}
 use Rattle.spv.specs.Climb.{Sibling, value, copied, absent, Siblings, Step, joins, fails, Ascent, top, up, stop, endOf, siblingPosition, odd, step, ascend, ascendBy, endBy}
 use Rattle.spv.specs.ClimbLaws.{ascended}

@@ -6,7 +6,7 @@ use Rattle.format.specs.declared.level.Kind.{Kind}
 use Rattle.format.specs.declared.level.Kind.the-variants.{Plain, Copy, Client}
 use Rattle.format.specs.declared.level.Leaf.{Leaf}
 use Rattle.format.specs.Refusals.{NOT-LISTED}
-use Rattle.format.specs.Search.{hashAt}
+use Rattle.format.specs.Bytes.{hashAt}
 use Rattle.format.specs.Bump.{bumpWhole}
 use Rattle.spv.specs.Result.{Result, accepted, refused, carrying, afterReading, follow}
 use Rattle.spv.specs.Climb.{Siblings}

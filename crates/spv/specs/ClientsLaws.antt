@@ -12,12 +12,12 @@ use Rattle.format.specs.declared.level.Layout.{Layout}
 use Rattle.format.specs.Parse.{got, bad, otherwise, many, times}
 use Rattle.format.specs.ParseLaws.{many-told, onward-told, otherwise-got, otherwise-bad}
 use Rattle.format.specs.Field.{varint}
-use Rattle.format.specs.Path.{bumpPath}
+use Rattle.path.specs.Path.{bumpPath}
 use Rattle.format.specs.BumpLaws.{BumpRead, bump-whole-told}
-use Rattle.format.specs.SearchLaws.{level-loose}
+use Rattle.path.proofs.LooseLaws.{level-loose}
 use Rattle.format.specs.Level.{levelInTurn, nextTurn}
 use Rattle.format.specs.Refusals.{NOT-LISTED}
-use Rattle.format.specs.Search.{hashAt, looseLeaf, looseLevel}
+use Rattle.path.specs.Loose.{looseLeaf, looseLevel}
 use Rattle.format.specs.Bump.{Bump, bumpWhole}
 use Rattle.spv.specs.Result.{Result, accepted, refused, carrying, follow}
 use Rattle.spv.specs.Climb.{Siblings}
@@ -27,6 +27,7 @@ use Rattle.spv.specs.SiblingsLaws.{path-levels}
 use Rattle.spv.specs.ReadingsLaws.{prove-same, bump-layers, bump-leads}
 use Rattle.spv.specs.Clients.{wantedBy, afterKind, afterLeaf, closing, clients, bumpClients}
 use Rattle.spv.specs.ClientsShapes.{clientsIn, clientsOfLevel}
+use Rattle.format.specs.Bytes.{hashAt}
 
 pub follow-same : {A B : Type 0} (x : Result A) (f g : A → Result B) → ((a : A) → f a ≡ g a) → follow x f ≡ follow x g
 follow-same (accepted a) f g e = e a

@@ -6,7 +6,7 @@ use Rattle.format.specs.declared.level.Layout.{Layout}
 use Rattle.format.specs.Parse.{otherwise}
 use Rattle.format.specs.Field.{varint}
 use Rattle.format.specs.Refusals.{NOT-LISTED}
-use Rattle.format.specs.Search.{looseLeaf}
+use Rattle.path.specs.Loose.{looseLeaf}
 use Rattle.spv.specs.Result.{Result, accepted, refused, carrying, follow}
 use Rattle.spv.specs.Climb.{Siblings}
 use Rattle.spv.specs.Compare.{targetOf, Target, any}

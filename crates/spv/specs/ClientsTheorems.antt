@@ -12,7 +12,7 @@ use Rattle.format.specs.declared.level.Leaf.{Leaf}
 use Rattle.format.specs.BytesLaws.{same-eq, eq-same}
 use Rattle.format.specs.Parse.{Parse, got, bad, pick}
 use Rattle.format.specs.Refusals.{ROOTS-DIFFER}
-use Rattle.format.specs.Search.{hashAt}
+use Rattle.format.specs.Bytes.{hashAt}
 use Rattle.format.specs.Bump.{Bump, bumpWhole}
 use Rattle.spv.specs.Result.{Result, accepted, refused, carrying, follow, afterReading}
 use Rattle.spv.specs.Climb.{Siblings, ascend, endOf}

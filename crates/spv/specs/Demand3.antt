@@ -8,12 +8,12 @@ use Rattle.hash.specs.Sha256.{sha256d}
 use Rattle.hash.specs.Sha256Laws.{sha256d-length}
 use Rattle.format.specs.declared.level.Leaf.{Leaf}
 use Rattle.format.specs.declared.tsc.Subject.{Subject}
-use Rattle.format.specs.declared.path.Form.{Form}
-use Rattle.format.specs.declared.path.Start.{Start}
-use Rattle.format.specs.declared.path.Start.the-variants.{At, Nowhere}
+use Rattle.path.specs.declared.path.Form.{Form}
+use Rattle.path.specs.declared.path.Start.{Start}
+use Rattle.path.specs.declared.path.Start.the-variants.{At, Nowhere}
 use Rattle.format.specs.Parse.{Parse, got, bad}
-use Rattle.format.specs.Search.{leastOffset}
-use Rattle.format.specs.SearchLaws.{hash-at-length}
+use Rattle.path.specs.Search.{leastOffset}
+use Rattle.format.specs.BytesLaws.{hash-at-length}
 use Rattle.format.specs.Bump.{bumpWhole}
 use Rattle.format.specs.Cmp.{cmpWhole}
 use Rattle.format.specs.Tsc.{tscWhole}

@@ -7,7 +7,7 @@ use Rattle.format.specs.Parse.{Parse, each, many, whole, got, bad}
 use Rattle.format.specs.Field.{bytes, byte, varint}
 use Rattle.format.specs.Level.{holds, offsetField, flagField, kindField, carriedField, leafField, levelField, levelOfTurn}
 use Rattle.format.specs.Bump.{Bump, blockField, heightField, bumpField, bumpWhole}
-use Rattle.format.specs.Search.{leastOffset}
+use Rattle.path.specs.Search.{leastOffset}
 use Rattle.format.specs.Tsc.{indexFits}
 use Rattle.spv.specs.Result.{Result, refused, carrying}
 use Rattle.spv.specs.Climb.{siblingPosition, siblingPositions}

@@ -9,9 +9,9 @@ use lib.Dec.{eqb}
 use native.Mathlib.Omega.{arith}
 use borrow.Author.Tests.{eqb-true, eqb-false, eq-eqb}
 use Rattle.format.specs.declared.level.Leaf.{Leaf}
-use Rattle.format.specs.declared.path.Found.the-variants.{Here, Missing}
+use Rattle.path.specs.declared.path.Found.the-variants.{Here, Missing}
 use Rattle.format.specs.Parse.{pick}
-use Rattle.format.specs.Search.{lookup}
+use Rattle.path.specs.Search.{lookup}
 use Rattle.spv.specs.Climb.{Sibling, value, copied, absent, Siblings, siblingPosition}
 use Rattle.spv.specs.ClimbLaws.{sibling-odd, sibling-even}
 use Rattle.spv.specs.Values.{hasValue, valueBy, joinBoth, joinOf, valueOf}

@@ -3,9 +3,8 @@ use Prim.Native.Nat.{ℕ, _+_, _-_, _*_, _/_, _%_, _≤_}
 use mathlib.Core.Path.{_≡_}
 use mathlib.Core.List.{List}
 use lib.ListN.{length, getD, set}
-use Rattle.format.specs.declared.path.Path.{Path}
-use Rattle.format.specs.Search.{hashAt}
-use Rattle.format.specs.Bytes.{setHash}
+use Rattle.path.specs.declared.path.Path.{Path}
+use Rattle.format.specs.Bytes.{setHash, hashAt}
 use Rattle.spv.specs.Climb.{Sibling, value, copied, absent}
 use Rattle.spv.specs.Siblings.{pathJoin}
 

@@ -8,15 +8,13 @@ use lib.Seq.{paste, length-paste, drop-paste, length-take-le, take-all, take-app
 use lib.Dec.{ltb, leb, eqb}
 use native.Mathlib.Omega.{arith}
 use borrow.Author.Tests.{ltb-true, ltb-false, leb-true, leb-false, eqb-true, eqb-false}
-use Rattle.format.specs.declared.path.Path.{Path}
-use Rattle.format.specs.Bytes.{setHash}
-use Rattle.format.specs.BytesLaws.{set-inside}
-use Rattle.format.specs.Search.{hashAt}
-use Rattle.format.specs.SearchLaws.{hash-there, hash-none}
+use Rattle.path.specs.declared.path.Path.{Path}
+use Rattle.format.specs.Bytes.{setHash, hashAt}
+use Rattle.format.specs.BytesLaws.{set-inside, hash-there, hash-none}
 use Rattle.spv.specs.Climb.{Sibling, value, copied, absent}
-use Rattle.format.specs.declared.path.Form.{Form}
+use Rattle.path.specs.declared.path.Form.{Form}
 use Rattle.format.specs.Parse.{pick}
-use Rattle.format.specs.Path.{leafIn, layersOf}
+use Rattle.path.specs.Path.{leafIn, layersOf}
 use Rattle.spv.specs.Collide.{Whole}
 use Rattle.spv.specs.Siblings.{writtenBy, joinIn, pathJoin}
 use Rattle.spv.specs.SiblingsLaws.{sibling-whole}

@@ -10,7 +10,7 @@ use Rattle.format.specs.declared.level.Layout.{Layout}
 use Rattle.format.specs.declared.level.Leaf.{Leaf}
 use Rattle.format.specs.Parse.{got, pick, otherwise}
 use Rattle.format.specs.Field.{varint}
-use Rattle.format.specs.Search.{looseLeaf}
+use Rattle.path.specs.Loose.{looseLeaf}
 
 module _ (layout : Layout) (s : List ℕ) where
   -- the offsets of n leaves from a place rise, from lo on

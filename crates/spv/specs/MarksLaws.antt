@@ -11,12 +11,13 @@ use native.Mathlib.Nat.{sub-zero}
 use borrow.Author.Tests.{leb-true, le-leb, eqb-true, eqb-false}
 use Rattle.format.specs.declared.level.Layout.{Layout}
 use Rattle.format.specs.declared.level.Leaf.{Leaf}
-use Rattle.format.specs.declared.path.Found.the-variants.{Missing}
+use Rattle.path.specs.declared.path.Found.the-variants.{Missing}
 use Rattle.format.specs.Parse.{Parse, got, bad, pick, otherwise}
 use Rattle.format.specs.Field.{varint}
-use Rattle.format.specs.Search.{looseLeaf, seek, leafOfLevel}
-use Rattle.format.specs.SearchLaws.{seek-stop, seek-on}
+use Rattle.path.specs.Search.{seek, leafOfLevel}
+use Rattle.path.proofs.SearchLaws.{seek-stop, seek-on}
 use Rattle.spv.specs.Marks.{rises, after, narrowed, Mark, IsMark, Marked, MayStart}
+use Rattle.path.specs.Loose.{looseLeaf}
 
 -- ---- levels whose offsets rise
 

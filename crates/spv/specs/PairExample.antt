@@ -5,14 +5,14 @@ use mathlib.Core.Path.{_≡_, refl, ap, ap₂}
 use mathlib.Core.List.{List, [], _∷_, _++_}
 use native.Mathlib.Omega.{arith}
 use lib.ListN.{length, getD, take, replicate, length-append, length-replicate, length-take}
-use Rattle.format.specs.declared.path.Form.{Form}
-use Rattle.format.specs.Bytes.{same}
+use Rattle.path.specs.declared.path.Form.{Form}
+use Rattle.format.specs.Bytes.{same, hashAt}
 use Rattle.format.specs.Parse.{each, many, whole}
 use Rattle.format.specs.Field.{bytes, byte, varint}
 use Rattle.format.specs.Level.{holds, offsetField, flagField, kindField, carriedField, leafField, levelField, levelOfTurn}
 use Rattle.format.specs.Bump.{blockField, heightField, bumpField}
 use Rattle.format.specs.Cmp.{topField, cmpField}
-use Rattle.format.specs.Search.{hashAt, carries, lesser, lookup, leastOffset}
+use Rattle.path.specs.Search.{carries, lesser, lookup, leastOffset}
 use Rattle.spv.specs.Result.{accepted}
 use Rattle.spv.specs.Climb.{value, siblingPosition, joined, step, ascendBy, endBy, preimagesOf, siblingsOf}
 use Rattle.spv.specs.Compare.{Proof, hits, settle, proveBy, meetBy, stringsOf, alike, againstBy, compareBy, pair}

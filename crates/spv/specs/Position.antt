@@ -12,17 +12,16 @@ use Rattle.format.specs.declared.level.Layout.{Layout}
 use Rattle.format.specs.declared.level.Leaf.{Leaf}
 use Rattle.format.specs.declared.level.Kind.{Kind}
 use Rattle.format.specs.declared.level.Kind.the-variants.{Plain, Copy, Client}
-use Rattle.format.specs.declared.path.Form.{Form}
-use Rattle.format.specs.declared.path.Start.{Start}
-use Rattle.format.specs.declared.path.Start.the-variants.{At, Nowhere}
+use Rattle.path.specs.declared.path.Form.{Form}
+use Rattle.path.specs.declared.path.Start.{Start}
+use Rattle.path.specs.declared.path.Start.the-variants.{At, Nowhere}
 use Rattle.format.specs.Parse.{Parse, got, many, _passing_else_}
 use Rattle.format.specs.ParseLaws.{onward-told, passing-told, many-told, many-length}
 use Rattle.format.specs.Field.{varint}
 use Rattle.format.specs.Level.{holds, offsetField, carriedField, leafField, levelField, levelInTurn, nextTurn, levelOfTurn, andOffset}
 use Rattle.format.specs.Refusals.{OVER-LIMIT, BAD-OFFSET, REPEATED, MAX-LEAVES}
-use Rattle.format.specs.BytesLaws.{same-eq}
-use Rattle.format.specs.Search.{hashAt, carries, leastOffset}
-use Rattle.format.specs.SearchLaws.{hash-at-length}
+use Rattle.format.specs.BytesLaws.{same-eq, hash-at-length}
+use Rattle.path.specs.Search.{carries, leastOffset}
 use Rattle.format.specs.Bump.{Bump, bumpWhole}
 use Rattle.format.specs.Cmp.{Cmp, cmpWhole}
 use Rattle.format.specs.Tsc.{Tsc, tscWhole, indexFits}
@@ -36,6 +35,7 @@ use Rattle.format.specs.Id.{subjectId}
 use Rattle.spv.specs.ReadingsLaws.{read-proved}
 use Rattle.spv.specs.Readings.{starting, levelsReading, bumpReading, cmpReading, tscTarget, tscReading, reading}
 use Rattle.spv.specs.Surplus.{carriedAt, Least, least-is}
+use Rattle.format.specs.Bytes.{hashAt}
 
 -- every offset is below n
 unfoldable pub Below : ℕ → List Leaf → Type 0

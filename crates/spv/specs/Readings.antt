@@ -3,14 +3,14 @@ use Prim.Native.Nat.{ℕ}
 use mathlib.Core.List.{List, []}
 use lib.ListN.{length, getD}
 use Rattle.format.specs.declared.level.Leaf.{Leaf}
-use Rattle.format.specs.declared.path.Form.{Form}
-use Rattle.format.specs.declared.path.Start.{Start}
-use Rattle.format.specs.declared.path.Start.the-variants.{At, Nowhere}
-use Rattle.format.specs.declared.path.Path.{Path}
+use Rattle.path.specs.declared.path.Form.{Form}
+use Rattle.path.specs.declared.path.Start.{Start}
+use Rattle.path.specs.declared.path.Start.the-variants.{At, Nowhere}
+use Rattle.path.specs.declared.path.Path.{Path}
 use Rattle.format.specs.Parse.{Parse, got, bad}
 use Rattle.format.specs.Refusals.{NOT-LISTED}
-use Rattle.format.specs.Search.{leastOffset}
-use Rattle.format.specs.Path.{startIn}
+use Rattle.path.specs.Search.{leastOffset}
+use Rattle.path.specs.Path.{startIn}
 use Rattle.format.specs.Bump.{bumpWhole}
 use Rattle.format.specs.Cmp.{cmpWhole}
 use Rattle.format.specs.Tsc.{Tsc, tscWhole, tellsRoot, targetRoot}

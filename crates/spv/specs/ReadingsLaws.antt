@@ -5,22 +5,22 @@ use mathlib.Core.List.{List, []}
 use lib.ListN.{length, getD}
 use native.Mathlib.Omega.{arith}
 use Rattle.format.specs.declared.level.Leaf.{Leaf}
-use Rattle.format.specs.declared.path.Start.{Start}
-use Rattle.format.specs.declared.path.Start.the-variants.{At, Nowhere}
-use Rattle.format.specs.declared.path.Path.{Path}
+use Rattle.path.specs.declared.path.Start.{Start}
+use Rattle.path.specs.declared.path.Start.the-variants.{At, Nowhere}
+use Rattle.path.specs.declared.path.Path.{Path}
 use Rattle.format.specs.Parse.{Parse, got, bad}
-use Rattle.format.specs.Search.{leastOffset}
-use Rattle.format.specs.Path.{startIn, bumpPathOf, bumpPath, cmpPathOf, cmpPath}
+use Rattle.path.specs.Search.{leastOffset}
+use Rattle.path.specs.Path.{startIn, bumpPathOf, bumpPath, cmpPathOf, cmpPath}
 use Rattle.format.specs.BumpLaws.{BumpRead, bump-whole-told, CmpRead, cmp-whole-told}
-use Rattle.format.specs.PathLaws.{bump-leaf-in, bump-start-in, cmp-leaf-in, cmp-start-in}
+use Rattle.path.proofs.PathLaws.{bump-leaf-in, bump-start-in, cmp-leaf-in, cmp-start-in}
 use Rattle.format.specs.Bump.{Bump, bumpWhole}
 use Rattle.format.specs.Cmp.{Cmp, cmpWhole}
 use Rattle.format.specs.Tsc.{Tsc, tscField, tscWhole}
 use Rattle.format.specs.TscLaws.{TscRead, tsc-whole-told}
-use Rattle.format.specs.TscPath.{tscPathOf, tscPath}
-use Rattle.format.specs.TscPathLaws.{tsc-leaf-in}
-use Rattle.format.specs.Id.{subjectId, subjectHash}
-use Rattle.format.specs.IdLaws.{subject-hash}
+use Rattle.path.specs.TscPath.{tscPathOf, tscPath}
+use Rattle.path.proofs.TscPathLaws.{tsc-leaf-in}
+use Rattle.format.specs.Id.{subjectId}
+use Rattle.path.proofs.SubjectLaws.{subject-hash}
 use Rattle.format.specs.Whole.{whole-size}
 use Rattle.spv.specs.Result.{accepted, carrying}
 use Rattle.spv.specs.Climb.{Siblings}
@@ -30,6 +30,7 @@ use Rattle.spv.specs.CompareLaws.{prove-climb}
 use Rattle.spv.specs.Siblings.{levelSiblings, nodeSiblings, joinIn, pathSiblings}
 use Rattle.spv.specs.SiblingsLaws.{LeadsTo, path-levels, path-nodes}
 use Rattle.spv.specs.Readings.{readAs, starting, levelsReading, bumpReading, cmpReading, tscTarget, tscReading, pathReading}
+use Rattle.path.specs.Subject.{subjectHash}
 
 -- an accepted proof was read
 pub read-proved : {A : Type 0} (x : Parse A) (f : A → Reading) (p : Proof) → prove (readAs x f) ≡ accepted p → (a : A) × (q : ℕ) × (x ≡ got a q) × (prove (f a) ≡ accepted p)

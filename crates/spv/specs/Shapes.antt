@@ -15,9 +15,9 @@ use Rattle.spv.specs.declared.prove.Outcome.the-variants.{Accepted, Refu
 use Rattle.spv.specs.declared.prove.Proved.{Proved}
 use Rattle.spv.specs.declared.comparing.Comparison.{Comparison}
 use Rattle.spv.specs.declared.comparing.Compared.{Compared}
-use Rattle.spv.specs.declared.climb.NodeKind.{NodeKind}
-use Rattle.spv.specs.declared.climb.NodeKind.the-variants.{Value, Copied, Absent}
-use Rattle.spv.specs.declared.climb.Node.{Node}
+use Rattle.spv.specs.declared.node.NodeKind.{NodeKind}
+use Rattle.spv.specs.declared.node.NodeKind.the-variants.{Value, Copied, Absent}
+use Rattle.spv.specs.declared.node.Node.{Node}
 use Rattle.spv.specs.declared.climb.StepKind.{StepKind}
 use Rattle.spv.specs.declared.climb.StepKind.the-variants.{Joins, Fails}
 use Rattle.spv.specs.declared.climb.Joined.{Joined}

@@ -9,9 +9,9 @@ use Rattle.format.specs.declared.tsc.TscHead.{TscHead}
 use Rattle.format.specs.Refusals.{UNLIKE, SAME-ID}
 use Rattle.format.specs.Parse.{got}
 use Rattle.format.specs.Tsc.{Tsc, tscWhole, tscHeadOf, tellsRoot, targetRoot}
-use Rattle.format.specs.TscPath.{tscPathOf}
+use Rattle.path.specs.TscPath.{tscPathOf}
 use Rattle.format.specs.Bytes.{same}
-use Rattle.format.specs.Id.{subjectHash}
+use Rattle.path.specs.Subject.{subjectHash}
 use Rattle.spv.specs.Result.{Result, accepted, refused, carrying}
 use Rattle.spv.specs.Climb.{Sibling, value, copied, absent, Step, joins, fails, ascend, preimagesOf}
 use Rattle.spv.specs.Compare.{targetOf, unread, Proof, Met, at, never, hits, proveBy, prove, proofOf, stringsOf, alike, against, compareBy, compare, meet}
@@ -27,9 +27,9 @@ use Rattle.spv.specs.declared.prove.Status.the-variants.{Read, Unread}
 use Rattle.spv.specs.declared.prove.Claim.{Claim}
 use Rattle.spv.specs.declared.prove.Outcome.the-variants.{Accepted, Refused}
 use Rattle.spv.specs.declared.prove.Proved.{Proved}
-use Rattle.spv.specs.declared.climb.NodeKind.{NodeKind}
-use Rattle.spv.specs.declared.climb.NodeKind.the-variants.{Value, Copied, Absent}
-use Rattle.spv.specs.declared.climb.Node.{Node}
+use Rattle.spv.specs.declared.node.NodeKind.{NodeKind}
+use Rattle.spv.specs.declared.node.NodeKind.the-variants.{Value, Copied, Absent}
+use Rattle.spv.specs.declared.node.Node.{Node}
 use Rattle.spv.specs.declared.climb.StepKind.{StepKind}
 use Rattle.spv.specs.declared.climb.StepKind.the-variants.{Joins, Fails}
 use Rattle.spv.specs.declared.climb.Joined.{Joined}

@@ -7,15 +7,16 @@ use Rattle.format.specs.declared.level.Kind.{Kind}
 use Rattle.format.specs.declared.level.Kind.the-variants.{Plain, Copy, Client}
 use Rattle.format.specs.declared.level.Layout.{Layout}
 use Rattle.format.specs.declared.level.Leaf.{Leaf}
-use Rattle.format.specs.declared.path.Found.{Found}
-use Rattle.format.specs.declared.path.Found.the-variants.{Here, Missing}
-use Rattle.format.specs.declared.path.Form.{Form}
-use Rattle.format.specs.declared.path.Path.{Path}
-use Rattle.format.specs.Search.{hashAt, lookup, leafOfLevel}
+use Rattle.path.specs.declared.path.Found.{Found}
+use Rattle.path.specs.declared.path.Found.the-variants.{Here, Missing}
+use Rattle.path.specs.declared.path.Form.{Form}
+use Rattle.path.specs.declared.path.Path.{Path}
+use Rattle.path.specs.Search.{lookup, leafOfLevel}
 use Rattle.format.specs.Parse.{pick}
-use Rattle.format.specs.Path.{leafIn, layersOf}
+use Rattle.path.specs.Path.{leafIn, layersOf}
 use Rattle.spv.specs.Climb.{Sibling, value, copied, absent, Siblings}
 use Rattle.spv.specs.Values.{valueBy, joinOf, workedOut}
+use Rattle.format.specs.Bytes.{hashAt}
 
 -- a leaf's 32 bytes, any flags, or a copy
 unfoldable pub written : List ℕ → Kind → Sibling

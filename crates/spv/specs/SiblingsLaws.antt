@@ -9,18 +9,19 @@ use Rattle.format.specs.declared.level.Kind.{Kind}
 use Rattle.format.specs.declared.level.Kind.the-variants.{Plain, Copy, Client}
 use Rattle.format.specs.declared.level.Layout.{Layout}
 use Rattle.format.specs.declared.level.Leaf.{Leaf}
-use Rattle.format.specs.declared.path.Found.{Found}
-use Rattle.format.specs.declared.path.Found.the-variants.{Here, Missing}
-use Rattle.format.specs.declared.path.Form.{Form}
-use Rattle.format.specs.declared.path.Path.{Path}
-use Rattle.format.specs.Search.{hashAt, leafOfLevel}
-use Rattle.format.specs.SearchLaws.{hash-at-length}
-use Rattle.format.specs.Path.{leafIn, leafAtPlace, LAYERS, layersOf}
+use Rattle.path.specs.declared.path.Found.{Found}
+use Rattle.path.specs.declared.path.Found.the-variants.{Here, Missing}
+use Rattle.path.specs.declared.path.Form.{Form}
+use Rattle.path.specs.declared.path.Path.{Path}
+use Rattle.path.specs.Search.{leafOfLevel}
+use Rattle.format.specs.BytesLaws.{hash-at-length}
+use Rattle.path.specs.Path.{leafIn, leafAtPlace, LAYERS, layersOf}
 use Rattle.spv.specs.Climb.{Sibling, copied, absent, Siblings}
 use Rattle.spv.specs.Collide.{Whole}
 use Rattle.spv.specs.Values.{valueBy, joinOf, valueOf, workedOut}
 use Rattle.spv.specs.ValuesLaws.{join-same, worked-same, worked-whole}
 use Rattle.spv.specs.Siblings.{written, sibling, writtenBy, findIn, findAt, levelSiblings, nodeSiblings, joinIn, pathJoin, pathSiblings}
+use Rattle.format.specs.Bytes.{hashAt}
 
 pub written-whole : (s : List ℕ) (kind : Kind) → Whole (written s kind)
 unfolding Whole written

@@ -11,10 +11,10 @@ use native.Mathlib.Nat.{min-eq-left, min-eq-right}
 use borrow.Author.Tests.{eq-eqb, ne-eqb, ltb-true, ltb-false}
 use Rattle.format.specs.Basics.{and-false, or-true}
 use Rattle.format.specs.declared.level.Leaf.{Leaf}
-use Rattle.format.specs.declared.path.Start.{Start}
-use Rattle.format.specs.declared.path.Start.the-variants.{At, Nowhere}
+use Rattle.path.specs.declared.path.Start.{Start}
+use Rattle.path.specs.declared.path.Start.the-variants.{At, Nowhere}
 use Rattle.format.specs.Parse.{got, pick}
-use Rattle.format.specs.Search.{carries, lesser, leastOffset}
+use Rattle.path.specs.Search.{carries, lesser, leastOffset}
 use Rattle.format.specs.Bump.{Bump, bumpWhole}
 use Rattle.format.specs.Cmp.{Cmp, cmpWhole}
 use Rattle.spv.specs.Climb.{Siblings, ascend}

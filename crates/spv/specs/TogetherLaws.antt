@@ -8,10 +8,10 @@ use native.Mathlib.Nat.{sub-zero}
 use native.Mathlib.Numerals.{add-one}
 use Rattle.hash.specs.Sha256.{sha256d}
 use Rattle.format.specs.Basics.{one-less}
-use Rattle.format.specs.declared.path.Path.{Path}
-use Rattle.format.specs.declared.path.Start.{Start}
-use Rattle.format.specs.declared.path.Start.the-variants.{At, Nowhere}
-use Rattle.format.specs.Path.{startIn}
+use Rattle.path.specs.declared.path.Path.{Path}
+use Rattle.path.specs.declared.path.Start.{Start}
+use Rattle.path.specs.declared.path.Start.the-variants.{At, Nowhere}
+use Rattle.path.specs.Path.{startIn}
 use Rattle.lanes.specs.Lanes as L
 use Rattle.spv.specs.Result.{Result, accepted, refused, atSibling}
 use Rattle.spv.specs.Climb.{Siblings, fails, step, odd, siblingPosition, ascendBy, ascend, endBy, endOf}

@@ -2,9 +2,9 @@
 use Prim.Native.Nat.{ℕ, min}
 use mathlib.Core.List.{List, map}
 use lib.ListN.{length, replicate}
-use Rattle.format.specs.Buffer.{filled}
-use Rattle.format.specs.Spelling.{spells}
-use Rattle.format.specs.BumpBytes.{Carried, plain, copy, carriedBytes}
+use Rattle.encoding.specs.Buffer.{filled}
+use Rattle.encoding.specs.Spells.{spells}
+use Rattle.encoding.specs.BumpBytes.{Carried, plain, copy, carriedBytes}
 use Rattle.spv.specs.Result.{Result, accepted, refused}
 use Rattle.spv.specs.Climb.{Sibling, value, copied, absent}
 use Rattle.spv.specs.Compare.{Proof}

@@ -5,10 +5,10 @@ use mathlib.Core.List.{List, [], _∷_, _++_, map}
 use lib.ListN.{length, replicate, take, drop, length-replicate}
 use lib.Seq.{take-all, take-at}
 use native.Mathlib.Omega.{arith}
-use Rattle.format.specs.Buffer.{Buffer, buffer, writeOn, filled}
-use Rattle.format.specs.BufferLaws.{write-whole}
-use Rattle.format.specs.Spelling.{spells}
-use Rattle.format.specs.BumpBytes.{carriedBytes}
+use Rattle.encoding.specs.Buffer.{Buffer, buffer, writeOn, filled}
+use Rattle.encoding.proofs.BufferLaws.{write-whole}
+use Rattle.encoding.specs.Spells.{spells}
+use Rattle.encoding.specs.BumpBytes.{carriedBytes}
 use Rattle.spv.specs.declared.rejection.Rejection.{Rejection}
 use Rattle.spv.specs.Result.{Result, accepted, refused}
 use Rattle.spv.specs.Climb.{Sibling, Siblings, ascend, siblingsOf}
@@ -16,8 +16,8 @@ use Rattle.spv.specs.Compare.{Proof, proofOf}
 use Rattle.spv.specs.Shapes.{acceptedOf, provedOf, siblingOf}
 use Rattle.spv.specs.ShapesLaws.{is-value, is-copied, is-absent, told-accepted, told-unproved}
 use Rattle.spv.specs.Trace.{asCarried, nodesText, TRACE-ROOM, tracedOf}
-use Rattle.spv.specs.declared.climb.NodeKind.the-variants.{Value, Copied, Absent}
-use Rattle.spv.specs.declared.climb.Node.{Node}
+use Rattle.spv.specs.declared.node.NodeKind.the-variants.{Value, Copied, Absent}
+use Rattle.spv.specs.declared.node.Node.{Node}
 use Rattle.spv.specs.declared.prove.Outcome.the-variants.{Accepted, Refused}
 use Rattle.spv.specs.declared.prove.Proved.{Proved}
 use Rattle.spv.specs.declared.trace.Traced.{Traced}

@@ -6,10 +6,11 @@ use Rattle.hash.specs.Sha256.{sha256d}
 use Rattle.format.specs.declared.level.Kind.{Kind}
 use Rattle.format.specs.declared.level.Kind.the-variants.{Plain, Copy}
 use Rattle.format.specs.declared.level.Leaf.{Leaf}
-use Rattle.format.specs.Search.{hashAt, lookup}
+use Rattle.path.specs.Search.{lookup}
 use Rattle.spv.specs.Climb.{Sibling, value, copied, absent}
 use Rattle.spv.specs.Values.{valueBy, joinBoth, joinOf, valueOf, workedOut}
 use Rattle.spv.specs.Siblings.{written, sibling, levelSiblings}
+use Rattle.format.specs.Bytes.{hashAt}
 
 -- the sibling at a layer and position of levels
 pub record Case : Type 0 where

@@ -17,11 +17,11 @@ use format::Cursor;
 use format::Kind;
 use format::Layout;
 use format::Leaf;
-use format::LeafAnswer;
 use format::Number;
-use format::Path;
 use format::refusal::NOT_LISTED;
 use format::refusal::ROOTS_DIFFER;
+use path::LeafAnswer;
+use path::Path;
 ghost use mathlib.Core.Path.{_≡_};
 ghost use Prim.Native.Nat.{_<_};
 ghost use Rattle.format.specs.Refusals.{NOT-LISTED};
@@ -313,7 +313,7 @@ fn check_each(
     let mut next = c;
     let mut i: u64 = 0;
     while i < count {
-        let field = format::leaf_at(s, next, Layout::Bump);
+        let field = path::leaf_at(s, next, Layout::Bump);
         let LeafAnswer::Value(leaf, after) = field else {
             return close_short(settle_gathered(s, path, g, marks, hashes));
         };
@@ -391,7 +391,7 @@ fn check_few(s: &[u8], path: Path, c: Cursor, count: u64) -> Checked
     let mut next = c;
     let mut i: u64 = 0;
     while i < count {
-        let field = format::leaf_at(s, next, Layout::Bump);
+        let field = path::leaf_at(s, next, Layout::Bump);
         let LeafAnswer::Value(leaf, after) = field else {
             return close_short(want);
         };
@@ -429,7 +429,7 @@ pub fn check_clients(s: &[u8]) -> Checked
     let BumpAnswer::Value(head, _) = answer else {
         return refused_check(reject_reading(answer.refusal()));
     };
-    let path = format::bump_path(s, head);
+    let path = path::bump_path(s, head);
     let levels = head.levels;
     check_level(s, path, levels)
 }

@@ -1,30 +1,19 @@
 // The climb of 01, the same for every form.
+use super::node::Node;
+use super::node::NodeKind;
+use super::node::written_node;
 use super::rejection::Rejection;
 use super::values::join_in;
-use format::Found;
-use format::Kind;
-use format::Path;
 use format::refusal::MISSING;
 use format::refusal::TWIN;
+use path::Found;
+use path::Path;
 ghost use mathlib.Core.Path.{_≡_};
 ghost use Prim.Native.Nat.{_<_};
-ghost use Rattle.spv.specs.Climb.{joined, step, odd, siblingPosition, ascend, endOf, absent, value, fails};
-ghost use Rattle.format.specs.Search.{hashAt};
-ghost use Rattle.spv.specs.Siblings.{written, pathSiblings};
+ghost use Rattle.spv.specs.Climb.{joined, step, odd, siblingPosition, ascend, endOf, fails};
+ghost use Rattle.spv.specs.Siblings.{pathSiblings};
 ghost use Rattle.spv.specs.Low.{Low};
-ghost use Rattle.spv.specs.Shapes.{nodeOf, siblingOf, joinedOf, climbedOf};
-
-// What stands beside the climb; the hash is zero unless there is a value.
-pub enum NodeKind {
-    Value,
-    Copied,
-    Absent,
-}
-
-pub struct Node {
-    pub kind: NodeKind,
-    pub hash: [u8; 32],
-}
+ghost use Rattle.spv.specs.Shapes.{siblingOf, joinedOf, climbedOf};
 
 // One layer: the two halves of what is hashed, zero where the layer fails by a refusal's number.
 pub enum StepKind {
@@ -49,45 +38,12 @@ pub struct Climbed {
     pub root: [u8; 32],
 }
 
-pub(crate) fn absent_node() -> Node
-    ensures { λ r. ⌜ r ≡ nodeOf absent ⌝ }
-{
-    Node {
-        kind: NodeKind::Absent,
-        hash: [0u8; 32],
-    }
-}
-
-pub(crate) fn value_at(s: &[u8], place: usize) -> Node
-    ensures { λ r. ⌜ r ≡ nodeOf (value (hashAt (now (s .entry)) place)) ⌝ }
-{
-    let hash = format::hash_at(s, place);
-    Node {
-        kind: NodeKind::Value,
-        hash,
-    }
-}
-
-// What a leaf or node gives, by its kind.
-pub(crate) fn written_node(s: &[u8], kind: Kind) -> Node
-    ensures { λ r. ⌜ r ≡ nodeOf (written (now (s .entry)) kind) ⌝ }
-{
-    match kind {
-        Kind::Plain(place) => value_at(s, place),
-        Kind::Client(place) => value_at(s, place),
-        Kind::Copy => Node {
-            kind: NodeKind::Copied,
-            hash: [0u8; 32],
-        },
-    }
-}
-
 // What a path has at a layer and position, or what can be worked out.
 pub(crate) fn sibling_at(s: &[u8], path: Path, layer: usize, position: u64) -> Node
     requires { ⌜ (layer < 64 → Low layer position) ⌝ }
     ensures { λ r. ⌜ siblingOf r ≡ pathSiblings (now (s .entry)) path layer position ⌝ }
 {
-    let found = format::find(s, path, layer, position);
+    let found = path::find(s, path, layer, position);
     match found {
         Found::Here(kind) => written_node(s, kind),
         Found::Missing => join_in(s, path, layer, position),

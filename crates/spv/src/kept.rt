@@ -1,13 +1,13 @@
 // Siblings that were worked out, kept between climbs by one path: the last of each layer and parity. Slot i is for layer i / 2 and positions of the
 // parity of i; its mark is 0 while it holds nothing, and else one more than half its position. The hashes lie end to end.
-use super::climb::Node;
-use super::climb::value_at;
-use super::climb::written_node;
+use super::node::Node;
+use super::node::value_at;
+use super::node::written_node;
 use super::values::has_value;
 use super::values::join_in;
-use format::Found;
-use format::LAYERS;
-use format::Path;
+use path::Found;
+use path::LAYERS;
+use path::Path;
 ghost use mathlib.Core.Path.{_≡_};
 ghost use Prim.Native.Nat.{_<_};
 ghost use lib.ListN.{length};
@@ -74,7 +74,7 @@ pub(crate) fn sibling_kept(
     requires { ⌜ (layer < 64 → Low layer position) ⌝ }
     ensures { λ r. ⌜ (Keeps (now (s .entry)) path (now (marks .entry)) (now (hashes .entry)) → (siblingOf r ≡ pathSiblings (now (s .entry)) path layer position) × Keeps (now (s .entry)) path (now (marks .exit)) (now (hashes .exit))) ⌝ }
 {
-    let found = format::find(s, path, layer, position);
+    let found = path::find(s, path, layer, position);
     match found {
         Found::Here(kind) => written_node(s, kind),
         Found::Missing => kept_join(s, path, layer, position, marks, hashes),

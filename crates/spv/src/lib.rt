@@ -4,6 +4,7 @@ mod climb;
 mod comparing;
 mod kept;
 mod marks;
+mod node;
 mod prove;
 mod rejection;
 mod together;

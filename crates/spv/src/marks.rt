@@ -1,14 +1,14 @@
 // Marks at every 64th leaf of the levels whose offsets rise, so that a search need not read a level from its start.
 use format::Cursor;
-use format::Found;
 use format::Layout;
-use format::LeafAnswer;
 use format::Number;
+use path::Found;
+use path::LeafAnswer;
 ghost use mathlib.Core.Path.{_≡_};
 ghost use mathlib.Core.Bool.{true};
 ghost use Prim.Native.Nat.{_+_, _-_, _%_, _<_, _≤_};
 ghost use lib.ListN.{length, getD};
-ghost use Rattle.format.specs.Search.{seek};
+ghost use Rattle.path.specs.Search.{seek};
 ghost use Rattle.spv.specs.Siblings.{findAt};
 ghost use Rattle.spv.specs.Marks.{rises, after, narrowed, IsMark, Marked, MayStart};
 
@@ -19,7 +19,7 @@ fn place_after(s: &[u8], c: Cursor, layout: Layout, count: u64) -> Cursor
     let mut next = c;
     let mut i: u64 = 0;
     while i < count {
-        let field = format::leaf_at(s, next, layout);
+        let field = path::leaf_at(s, next, layout);
         let LeafAnswer::Value(_, then) = field else {
             return next;
         };
@@ -37,7 +37,7 @@ fn rises_from(s: &[u8], c: Cursor, layout: Layout, count: u64) -> bool
     let mut low: u64 = 0;
     let mut i: u64 = 0;
     while i < count {
-        let field = format::leaf_at(s, next, layout);
+        let field = path::leaf_at(s, next, layout);
         let LeafAnswer::Value(leaf, then) = field else {
             return true;
         };
@@ -63,7 +63,7 @@ fn seek_rising(s: &[u8], c: Cursor, layout: Layout, count: u64, position: u64) -
     let mut next = c;
     let mut i: u64 = 0;
     while i < count {
-        let field = format::leaf_at(s, next, layout);
+        let field = path::leaf_at(s, next, layout);
         let LeafAnswer::Value(leaf, then) = field else {
             return Found::Missing;
         };
@@ -127,7 +127,7 @@ fn last_mark(s: &[u8], marks: &[u32], layout: Layout, base: usize, position: u64
         if at == 0 {
             return i;
         }
-        let field = format::leaf_at(s, Cursor { at }, layout);
+        let field = path::leaf_at(s, Cursor { at }, layout);
         let LeafAnswer::Value(leaf, _) = field else {
             return i;
         };
@@ -155,11 +155,11 @@ pub(crate) fn find_marked(
     let at = places[layer];
     let base = 16 * layer;
     if marks[base] == 0 {
-        return format::find_in_level(s, Cursor { at }, layout, position);
+        return path::find_in_level(s, Cursor { at }, layout, position);
     }
     let field = format::read_varint(s, Cursor { at });
     let Number::Value(count, _) = field else {
-        return format::find_in_level(s, Cursor { at }, layout, position);
+        return path::find_in_level(s, Cursor { at }, layout, position);
     };
     let i = last_mark(s, marks, layout, base, position);
     let start = marks[base + i] as usize;

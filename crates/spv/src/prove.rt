@@ -6,13 +6,13 @@ use super::rejection::reject;
 use super::rejection::reject_reading;
 use format::BumpAnswer;
 use format::CmpAnswer;
-use format::Form;
-use format::LAYERS;
-use format::Path;
-use format::Start;
 use format::TscAnswer;
 use format::refusal::NOT_LISTED;
 use format::refusal::ROOTS_DIFFER;
+use path::Form;
+use path::LAYERS;
+use path::Path;
+use path::Start;
 ghost use mathlib.Core.Path.{_≡_};
 ghost use Rattle.spv.specs.Result.{refused};
 ghost use Rattle.spv.specs.Compare.{targetOf, prove, hits};
@@ -130,7 +130,7 @@ fn unread_claim(rejection: Rejection) -> Claim
 fn claim_in(s: &[u8], path: Path, id: [u8; 32]) -> Claim
     ensures { λ r. ⌜ claimed (now (s .entry)) r ≡ pathReading (now (s .entry)) path id ⌝ }
 {
-    let start = format::find_id(s, path, id);
+    let start = path::find_id(s, path, id);
     match start {
         Start::At(position) => Claim {
             status: Status::Read,
@@ -151,7 +151,7 @@ pub(crate) fn claim_bump(s: &[u8], id: [u8; 32]) -> Claim
     let BumpAnswer::Value(head, _) = answer else {
         return unread_claim(reject_reading(answer.refusal()));
     };
-    let path = format::bump_path(s, head);
+    let path = path::bump_path(s, head);
     claim_in(s, path, id)
 }
 
@@ -162,7 +162,7 @@ fn claim_cmp(s: &[u8], id: [u8; 32]) -> Claim
     let CmpAnswer::Value(head, _) = answer else {
         return unread_claim(reject_reading(answer.refusal()));
     };
-    let path = format::cmp_path(s, head);
+    let path = path::cmp_path(s, head);
     claim_in(s, path, id)
 }
 
@@ -173,11 +173,11 @@ fn claim_tsc(s: &[u8]) -> Claim
     let TscAnswer::Value(head, _) = answer else {
         return unread_claim(reject_reading(answer.refusal()));
     };
-    let path = format::tsc_path(s, head);
+    let path = path::tsc_path(s, head);
     let subject = head.subject;
-    let id = format::subject_id(s, subject);
+    let id = path::subject_id(s, subject);
     let bound = head.tells_root();
-    let target = format::target_root(s, head);
+    let target = path::target_root(s, head);
     Claim {
         status: Status::Read,
         path,

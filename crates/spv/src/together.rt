@@ -11,17 +11,17 @@ use super::prove::accepted;
 use super::prove::refused_proof;
 use super::rejection::Rejection;
 use super::rejection::reject;
-use format::Path;
-use format::Start;
 use format::refusal::NOT_LISTED;
 use lanes::Nodes;
+use path::Path;
+use path::Start;
 ghost use mathlib.Core.Path.{_≡_};
 ghost use mathlib.Core.Bool.{false, cond};
 ghost use mathlib.Core.List.{_++_};
 ghost use Prim.Native.Nat.{ℕ, suc, _+_};
 ghost use Rattle.hash.specs.Sha256.{sha256d};
 ghost use Rattle.lanes.specs.Lanes as L;
-ghost use Rattle.format.specs.Path.{startIn};
+ghost use Rattle.path.specs.Path.{startIn};
 ghost use Rattle.spv.specs.Siblings.{pathSiblings};
 ghost use Rattle.spv.specs.Low.{Low};
 ghost use Rattle.spv.specs.Shapes.{joinedOf};
@@ -58,7 +58,7 @@ pub fn not_begun() -> Rising
 pub fn begin(s: &[u8], path: Path, id: [u8; 32]) -> Rising
     ensures { λ r. ⌜ r ≡ beginAt id (startIn (now (s .entry)) path id) ⌝ }
 {
-    let start = format::find_id(s, path, id);
+    let start = path::find_id(s, path, id);
     match start {
         Start::At(position) => Rising {
             end: End::Root,

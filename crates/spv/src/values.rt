@@ -1,16 +1,16 @@
 // Values that can be worked out: a node's value and the join of its two children call each other, one level lower at each turn.
-use super::climb::Node;
-use super::climb::NodeKind;
-use super::climb::absent_node;
-use super::climb::value_at;
 use super::marks::find_marked;
 use super::marks::mark_at;
-use format::Form;
-use format::Found;
+use super::node::Node;
+use super::node::NodeKind;
+use super::node::absent_node;
+use super::node::value_at;
 use format::Kind;
-use format::LAYERS;
 use format::Layout;
-use format::Path;
+use path::Form;
+use path::Found;
+use path::LAYERS;
+use path::Path;
 ghost use mathlib.Core.Path.{_≡_};
 ghost use Prim.Native.Nat.{_≤_, _<_};
 ghost use lib.ListN.{length};

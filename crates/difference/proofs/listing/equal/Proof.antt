@@ -1,6 +1,5 @@
 use Rattle.difference.specs.MergeLaws.{flags-differ, both-copies, by-hash}
-use Rattle.format.specs.Search.{hashAt}
-use Rattle.format.specs.Bytes.{same}
+use Rattle.format.specs.Bytes.{same, hashAt}
 use mathlib.Core.Path.{sym, ap, ap₂, _∙_}
 use borrow.Author.Needs.{needs}
 use Rattle.difference.proofs.listing.equal.Statement.{statement}

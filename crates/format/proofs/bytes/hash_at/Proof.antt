@@ -4,7 +4,7 @@ use mathlib.Core.Path.{_≡_, refl, sym, _∙_}
 use Prim.Native.Nat.{ℕ, _≤_, _<_, _-_, _+_}
 use lib.ListN.{length, getD}
 use Rattle.format.specs.CopyLaws.{copy-more, copy-done}
-use Rattle.format.specs.SearchLaws.{hash-there, hash-none}
+use Rattle.format.specs.BytesLaws.{hash-there, hash-none}
 use Rattle.format.proofs.bytes.hash_at.Statement.{statement}
 use Rattle.format.proofs.bytes.hash_at.Tie as tie
 

@@ -4,7 +4,7 @@ use Rattle.format.specs.FieldAnswer.{runOf}
 use Rattle.format.specs.ParseLaws.{answered}
 use Rattle.format.specs.Parse.{each}
 use Rattle.format.specs.Level.{kindField}
-use Rattle.format.specs.StepLaws.{passed-short, passed-hash}
+use Rattle.format.specs.SeenLaws.{passed-short, passed-hash}
 use Rattle.format.proofs.level.skip_kind.Statement.{statement}
 use Rattle.format.proofs.level.skip_kind.Tie as tie
 use Rattle.format.proofs.field.Run.refusal.Reads as refusal-reads

@@ -1,4 +1,4 @@
-use Rattle.format.specs.BufferLaws.{wrote-then}
+use Rattle.encoding.proofs.BufferLaws.{wrote-then}
 use borrow.Author.Needs.{needs}
 use Rattle.listing.proofs.lines.pair_line.Statement.{statement}
 use Rattle.listing.proofs.lines.pair_line.Tie as tie

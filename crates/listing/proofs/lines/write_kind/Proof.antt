@@ -1,4 +1,4 @@
-use Rattle.format.specs.BufferLaws.{wrote-then}
+use Rattle.encoding.proofs.BufferLaws.{wrote-then}
 use Rattle.listing.specs.Listing.{kindText}
 use borrow.Author.Needs.{needs}
 use Rattle.listing.proofs.lines.write_kind.Statement.{statement}

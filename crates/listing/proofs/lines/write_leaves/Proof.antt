@@ -4,8 +4,8 @@ use native.Mathlib.Omega.{arith}
 use borrow.Author.Needs.{needs}
 use lib.ListN.{length}
 use Rattle.format.specs.ParseLaws.{answered}
-use Rattle.format.specs.LevelAnswer.{leafOf}
-use Rattle.format.specs.Buffer.{buffer}
+use Rattle.path.specs.LeafAnswer.{leafOf}
+use Rattle.encoding.specs.Buffer.{buffer}
 use Rattle.listing.specs.Walk.{walkLeaves}
 use Rattle.listing.specs.WalkLaws.{leaves-start, leaves-more, leaves-refused, leaves-done}
 use Rattle.listing.proofs.lines.write_leaves.Statement.{statement}

@@ -3,7 +3,7 @@ use Prim.Native.Nat.{_-_, _≤_}
 use native.Mathlib.Omega.{arith}
 use borrow.Author.Needs.{needs}
 use lib.ListN.{length}
-use Rattle.format.specs.Buffer.{buffer}
+use Rattle.encoding.specs.Buffer.{buffer}
 use Rattle.listing.specs.Walk.{Walk, walkLevels}
 use Rattle.listing.specs.WalkLaws.{levels-start, levels-more, levels-done}
 use Rattle.listing.proofs.lines.write_levels.Statement.{statement}

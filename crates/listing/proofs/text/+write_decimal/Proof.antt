@@ -8,7 +8,7 @@ use Rattle.listing.proofs.text.write_decimal.Reads as write-decimal
 use Rattle.listing.proofs.text.write_decimal.Kinds as write-decimal-kinds
 use Rattle.listing.proofs.text.+write_decimal.Lts-write_decimal as write-decimal-lts
 use Rattle.listing.proofs.text.digit.Reads as digit-reads
-use Rattle.format.proofs.buffer.put.Reads as put-reads
+use Rattle.encoding.proofs.buffer.put.Reads as put-reads
 use Rattle.listing.proofs.text.+write_decimal.{statement}
 use Rattle.listing.proofs.text.+write_decimal.Tie.{close}
 

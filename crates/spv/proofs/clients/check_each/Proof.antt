@@ -4,7 +4,7 @@ use lib.ListN.{length}
 use borrow.Author.Needs.{needs}
 use native.Mathlib.Omega.{arith}
 use Rattle.format.specs.ParseLaws.{answered}
-use Rattle.format.specs.LevelAnswer.{leafOf}
+use Rattle.path.specs.LeafAnswer.{leafOf}
 use Rattle.format.specs.Refusals.{NOT-LISTED}
 use Rattle.spv.specs.Result.{refused, carrying, follow}
 use Rattle.spv.specs.Siblings.{pathSiblings}

@@ -2,7 +2,7 @@ use Prim.Native.Nat.{_-_}
 use mathlib.Core.Path.{ap, _∙_}
 use borrow.Author.Needs.{needs}
 use Rattle.format.specs.ParseLaws.{answered}
-use Rattle.format.specs.LevelAnswer.{leafOf}
+use Rattle.path.specs.LeafAnswer.{leafOf}
 use Rattle.spv.specs.Siblings.{pathSiblings}
 use Rattle.spv.specs.ClientsShapes.{wantSays, checkedOf}
 use Rattle.spv.proofs.Turns.{Checking, checking-start, checking-end, checking-short, checking-goes}

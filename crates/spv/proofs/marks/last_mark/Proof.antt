@@ -1,7 +1,7 @@
 use borrow.Author.Needs.{needs}
 use native.Mathlib.Omega.{arith}
 use Prim.Native.Nat.{_-_, _+_}
-use Rattle.format.specs.LevelAnswer.{leafOf}
+use Rattle.path.specs.LeafAnswer.{leafOf}
 use Rattle.format.specs.ParseLaws.{answered}
 use Rattle.spv.specs.MarksLaws.{Chosen, chosen-first, chosen-next}
 use Rattle.spv.proofs.marks.last_mark.Statement.{statement}

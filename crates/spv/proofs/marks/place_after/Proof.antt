@@ -3,7 +3,7 @@ use native.Mathlib.Omega.{arith}
 use mathlib.Core.Path.{_≡_, sym, _∙_}
 use Prim.Native.Nat.{_≤_, _-_}
 use native.Mathlib.Nat.{sub-zero}
-use Rattle.format.specs.LevelAnswer.{leafOf}
+use Rattle.path.specs.LeafAnswer.{leafOf}
 use Rattle.format.specs.ParseLaws.{answered}
 use Rattle.spv.specs.Marks.{after}
 use Rattle.spv.specs.MarksLaws.{after-stuck, after-next, after-none}

@@ -4,7 +4,7 @@ use mathlib.Core.Path.{_≡_}
 use mathlib.Core.Bool.{true}
 use Prim.Native.Nat.{ℕ, _≤_, _-_}
 use native.Mathlib.Nat.{sub-zero}
-use Rattle.format.specs.LevelAnswer.{leafOf}
+use Rattle.path.specs.LeafAnswer.{leafOf}
 use Rattle.format.specs.ParseLaws.{answered}
 use Rattle.spv.specs.Marks.{rises}
 use Rattle.spv.specs.MarksLaws.{rises-stop, rises-step, rises-end}

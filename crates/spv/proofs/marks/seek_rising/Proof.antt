@@ -4,10 +4,10 @@ use mathlib.Core.Path.{_≡_, sym, _∙_}
 use mathlib.Core.Bool.{true}
 use Prim.Native.Nat.{_≤_, _-_}
 use native.Mathlib.Nat.{sub-zero}
-use Rattle.format.specs.LevelAnswer.{leafOf}
+use Rattle.path.specs.LeafAnswer.{leafOf}
 use Rattle.format.specs.ParseLaws.{answered}
-use Rattle.format.specs.Search.{seek}
-use Rattle.format.specs.SearchLaws.{seek-end, seek-stop, seek-here, seek-on}
+use Rattle.path.specs.Search.{seek}
+use Rattle.path.proofs.SearchLaws.{seek-end, seek-stop, seek-here, seek-on}
 use Rattle.spv.specs.Marks.{rises}
 use Rattle.spv.specs.MarksLaws.{rises-lower, rises-next, past-rising}
 use Rattle.spv.proofs.marks.seek_rising.Statement.{statement}

@@ -1,9 +1,9 @@
 use mathlib.Core.Path.{sym, _∙_, ap}
 use borrow.Author.Needs.{needs}
-use Rattle.format.specs.declared.path.Path.{Path}
+use Rattle.path.specs.declared.path.Path.{Path}
 use Rattle.format.specs.ParseLaws.{answered, each-got, each-bad}
 use Rattle.format.specs.Bump.{headOf, bumpWhole, bumpAnswer, refusalOfBump}
-use Rattle.format.specs.Path.{bumpPathOf}
+use Rattle.path.specs.Path.{bumpPathOf}
 use Rattle.spv.specs.Result.{refusedReading}
 use Rattle.spv.specs.Compare.{prove}
 use Rattle.spv.specs.Readings.{pathReading}

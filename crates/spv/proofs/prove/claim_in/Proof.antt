@@ -1,6 +1,6 @@
 use mathlib.Core.Path.{sym, _∙_, ap}
 use borrow.Author.Needs.{needs}
-use Rattle.format.specs.declared.path.Start.{Start}
+use Rattle.path.specs.declared.path.Start.{Start}
 use Rattle.spv.specs.Readings.{starting, pathReading}
 use Rattle.spv.specs.Siblings.{pathSiblings}
 use Rattle.spv.specs.Compare.{targetOf}

@@ -1,6 +1,6 @@
 use mathlib.Core.Path.{sym, _∙_, ap}
 use borrow.Author.Needs.{needs}
-use Rattle.format.specs.declared.path.Form.{Form}
+use Rattle.path.specs.declared.path.Form.{Form}
 use Rattle.spv.specs.Compare.{prove}
 use Rattle.spv.specs.Readings.{reading}
 use Rattle.spv.proofs.prove.claim_of.Statement.{statement}

@@ -5,12 +5,12 @@ use Prim.Native.Nat.{ℕ, _-_}
 use mathlib.Core.Bool.{Bool}
 use mathlib.Core.List.{List}
 use native.Mathlib.Omega.{arith}
-use Rattle.format.specs.Buffer.{Buffer, buffer, writeOn}
-use Rattle.format.specs.BumpBytes.{carriedBytes}
+use Rattle.encoding.specs.Buffer.{Buffer, buffer, writeOn}
+use Rattle.encoding.specs.BumpBytes.{carriedBytes}
 use Rattle.spv.specs.Climb.{Sibling, Step, step}
 use Rattle.spv.specs.Shapes.{siblingOf}
 use Rattle.spv.specs.Trace.{asCarried}
-use Rattle.spv.specs.declared.climb.Node.{Node}
+use Rattle.spv.specs.declared.node.Node.{Node}
 use Rattle.spv.specs.Low.{Low}
 use Rattle.spv.specs.LowLaws.{low-start, low-half, low-sibling}
 use Rattle.spv.specs.Siblings.{pathSiblings}

@@ -1,4 +1,4 @@
-use Rattle.format.specs.BufferLaws.{wrote-byte, wrote-cons}
+use Rattle.encoding.proofs.BufferLaws.{wrote-byte, wrote-cons}
 use Rattle.spv.specs.TraceLaws.{text-value, text-copied, text-absent}
 use borrow.Author.Needs.{needs}
 use Rattle.spv.proofs.trace.write_sibling.Statement.{statement}

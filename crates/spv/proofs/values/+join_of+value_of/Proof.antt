@@ -19,7 +19,7 @@ use Rattle.spv.proofs.values.+join_of+value_of.Lts-join_of as join-of-l
 use Rattle.spv.proofs.values.value_of.Reads as value-of
 use Rattle.spv.proofs.values.value_of.Kinds as value-of-kinds
 use Rattle.spv.proofs.values.+join_of+value_of.Lts-value_of as value-of-lts
-use Rattle.spv.proofs.climb.absent_node.Reads as absent-node-reads
+use Rattle.spv.proofs.node.absent_node.Reads as absent-node-reads
 use Rattle.spv.proofs.marks.find_marked.Reads as find-marked-reads
 use Rattle.spv.proofs.values.has_value.Reads as has-value-reads
 use Rattle.spv.proofs.values.join_both.Reads as join-both-reads

@@ -1,7 +1,7 @@
 use Prim.Native.Nat.{_<_}
 use mathlib.Core.Path.{sym, _∙_}
 use native.Mathlib.Omega.{arith}
-use Rattle.format.specs.Path.{layersOf}
+use Rattle.path.specs.Path.{layersOf}
 use Rattle.spv.specs.Climb.{absent}
 use Rattle.spv.specs.SiblingsLaws.{join-outside, join-bump, join-cmp, join-tsc}
 use Rattle.spv.specs.ShapesLaws.{node-says}

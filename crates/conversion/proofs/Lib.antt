@@ -1,0 +1,9 @@
+pub mod Taken
+pub mod TakenLaws
+pub mod ConvertLaws
+pub mod HashFits
+pub mod ToTscLaws
+pub mod ToTsc
+pub mod ToBumpLaws
+pub mod ToBump
+pub mod RoundTrip

@@ -1,0 +1,71 @@
+-- There and back (02, Item 6): "TSC with id and root target, to BUMP and back, gives the same bytes; a BUMP keeps root, position and layers that way".
+use Prim.Native.Nat.{ℕ, _^_, _≤_, _<_}
+use mathlib.Core.Path.{_≡_, sym, ap, _∙_, subst}
+use mathlib.Core.List.{List, []}
+use lib.ListN.{length, getD}
+use Rattle.path.specs.declared.path.Form.{Form}
+use Rattle.format.specs.Parse.{got}
+use Rattle.format.specs.Refusals.{MAX-BLOCK}
+use Rattle.encoding.specs.Spells.{AllBytes}
+use Rattle.format.specs.BumpLaws.{bump-whole-told}
+use Rattle.encoding.specs.BumpBytes.{bumpBytes}
+use Rattle.encoding.proofs.BumpRoundTrip.{bump-read-back}
+use Rattle.format.specs.Tsc.{Tsc, tscWhole}
+use Rattle.encoding.specs.TscBytes.{ID-AND-ROOT}
+use Rattle.format.specs.Id.{subjectId}
+use Rattle.spv.specs.Result.{accepted}
+use Rattle.spv.specs.Climb.{Siblings}
+use Rattle.spv.specs.Compare.{any, Proof, proofOf, prove}
+use Rattle.spv.specs.CompareLaws.{prove-accepted}
+use Rattle.spv.specs.Position.{position-exists}
+use Rattle.spv.specs.Readings.{bumpReading, tscTarget, reading}
+use Rattle.spv.specs.ReadingsLaws.{tsc-read}
+use Rattle.spv.specs.Siblings.{levelSiblings, nodeSiblings}
+use Rattle.conversion.specs.Convert.{clientBump, tscToBump, bumpToTsc}
+use Rattle.conversion.proofs.Taken.{proof-id, proof-layers, proof-position}
+use Rattle.conversion.proofs.TakenLaws.{bump-climb}
+use Rattle.conversion.proofs.HashFits.{level-siblings-fit, start-fits}
+use Rattle.conversion.proofs.ToBump.{content-fits, back-proves, to-bump-is, to-bump-proves}
+use Rattle.conversion.proofs.ToTsc.{to-tsc-proves, tsc-round-trip-by}
+
+-- a TSC proof with id and root target, to BUMP and back by its id
+pub tsc-round-trip : (s : List ℕ) (t : Tsc) (q block room : ℕ) (bumped : List ℕ) → AllBytes s → block ≤ MAX-BLOCK → tscWhole s ≡ got t q → t .flags ≡ ID-AND-ROOT
+    → tscToBump s block room ≡ accepted bumped → (back : ℕ) → length s ≤ back → bumpToTsc bumped (subjectId s (t .subject)) back ≡ accepted s
+tsc-round-trip s t q block room bumped all b w four call back enough =
+    let x = to-bump-proves s block room bumped all b call in
+    let own : x .0 .id ≡ subjectId s (t .subject) =
+    proof-id (nodeSiblings s (t .nodes)) (length (t .nodes)) (t .index) (subjectId s (t .subject)) (tscTarget s t) (x .0) (ap prove (sym (tsc-read s t q w)) ∙ x .1) in
+    subst (λ (id : List ℕ). bumpToTsc bumped id back ≡ accepted s) own (tsc-round-trip-by s bumped t q (x .0) all w four (x .1) (x .2) back enough)
+
+-- the BUMP of one id's climb proves what the climb proves, without the surplus leaves and other clients of its path
+climb-alone : (s id : List ℕ) (block : ℕ) (p : Proof) → AllBytes s → block ≤ MAX-BLOCK → prove (bumpReading s id) ≡ accepted p → prove (bumpReading (bumpBytes (clientBump block p)) id) ≡ accepted p
+unfolding reading
+climb-alone s id block p all b e =
+    let c = bump-climb s id p e in
+    let σ : Siblings = levelSiblings s (c .bump .levels) in
+    let h : ℕ = c .bump .height in
+    let i : ℕ = c .start in
+    let r = bump-whole-told s (c .parsed) in
+    let judged = prove-accepted σ h i id any p (c .climbs) in
+    let inside = below (proof-position σ h i id any p (c .climbs)) (proof-layers σ h i id any p (c .climbs)) (position-exists Form.Bump s id p e) in
+    let fit = content-fits σ h i id (p .root) (judged .1) (r .some) block (level-siblings-fit s (c .bump .levels) all) (start-fits s id (getD (c .bump .levels) 0 []) i all (c .starts)) (r .low) inside b in
+    let text : List ℕ = bumpBytes (clientBump block (proofOf σ h i id (p .root))) in
+    let back = bump-read-back (clientBump block (proofOf σ h i id (p .root))) fit in
+    ap (λ (x : Proof). prove (bumpReading (bumpBytes (clientBump block x)) id)) (judged .0)
+    ∙ back-proves σ h i id (p .root) (judged .1) (r .some) block text (back .0) (length text) (back .1) (back .2)
+    ∙ ap accepted (sym (judged .0))
+  where
+    below : {i j h g : ℕ} → j ≡ i → g ≡ h → j < 2 ^ g → i < 2 ^ h
+    below e f b = rw (← e, ← f) b
+
+-- one id's climb in a BUMP, to TSC and back: the id is proved again, at the same position over the same layers to the same root
+pub bump-round-trip : (s id : List ℕ) (room block back : ℕ) (tsc bumped : List ℕ) → AllBytes s → block ≤ MAX-BLOCK → bumpToTsc s id room ≡ accepted tsc → tscToBump tsc block back ≡ accepted bumped
+    → (p : Proof) × (prove (bumpReading s id) ≡ accepted p) × (prove (bumpReading bumped id) ≡ accepted p)
+bump-round-trip s id room block back tsc bumped all b there again =
+    let x = to-tsc-proves s id room tsc all there in
+    let y = to-bump-is tsc block back bumped again in
+    let same : y .2 ≡ x .0 = proof-same (sym (y .4) ∙ x .2) in
+    (x .0, x .1, ap (λ (l : List ℕ). prove (bumpReading l id)) (y .6 ∙ ap (λ (p : Proof). bumpBytes (clientBump block p)) same) ∙ climb-alone s id block (x .0) all b (x .1))
+  where
+    proof-same : {p q : Proof} → accepted p ≡ accepted q → p ≡ q
+    proof-same e = cc

@@ -1,0 +1,9 @@
+pub mod Stands
+pub mod Spelling
+pub mod DigitsLaws
+pub mod VarintSpelling
+pub mod BufferLaws
+pub mod BumpSpelling
+pub mod BumpRoundTrip
+pub mod TscSpelling
+pub mod TscRoundTrip

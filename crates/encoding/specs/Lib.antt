@@ -1,0 +1,5 @@
+pub mod Spells
+pub mod Digits
+pub mod Buffer
+pub mod BumpBytes
+pub mod TscBytes

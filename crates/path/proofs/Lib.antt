@@ -1,0 +1,7 @@
+pub mod OneLeaf
+pub mod StepLaws
+pub mod LooseLaws
+pub mod SearchLaws
+pub mod PathLaws
+pub mod TscPathLaws
+pub mod SubjectLaws
