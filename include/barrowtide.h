@@ -1,8 +1,9 @@
 /*
  * Barrowtide: reads and writes Merkle proofs of Bitcoin SV payments and judges BEEF bundles.
  *
- * Link with libbarrowtide.a (x86-64 Linux). Nothing is allocated, no state is kept between calls,
- * and any number of threads may call at once.
+ * Link with libbarrowtide.a (x86-64 Linux). Nothing is allocated, no state is kept between calls
+ * but the one that a caller lends for a transaction in parts, and any number of threads may call at
+ * once.
  *
  * Bytes. Ids, nodes and roots are 32 bytes in stored order; printed hex is the reverse.
  *
@@ -12,11 +13,13 @@
  * Answers. A call returns 0 if it accepts the input, and else the number of a refusal. What that
  * blames goes to *blame: the value that it carries, which is the place of a byte, counted from 0 at
  * the input's first, the number of a transaction, counted from 0, or 0; and for 14 and 15 the
- * sibling, by its layer and its position there, both counted from 0.
+ * sibling, by its layer and its position there, both counted from 0. A part of a transaction may
+ * also return BARROWTIDE_MORE, with nothing written but the state: no answer yet.
  *
  * Order. Of several refusals the first in this order is given:
  *   - for a page 5, then 22;
- *   - 1, then 21;
+ *   - 1, then 21; but of a transaction in parts 1 comes after every fault in the bytes up to the
+ *     size, and before 9 past it;
  *   - in reading, fields as they come, and on one field 2, 3, then 4, 5, 7, 10, 11, 12, 18 or 25,
  *     then 22; for an offset 2, 3, 6, 8. A TSC index is tested after the node count and before the
  *     nodes, so 5 comes before 6. A length stated in a TSC proof that leads past the input's end is
@@ -35,9 +38,9 @@
  * followed. All other pointers must be to memory of the size said, not null. What is lent by a
  * pointer to const is only read; what is lent by another must not overlap with anything else lent
  * to the same call. On a refusal all three numbers of *blame are written and everything else stays
- * as it was, but for a lent table or row, which is zeroed, and for what barrowtide_shorter hands
- * back, which is an empty part. On acceptance the values are written and *blame stays as it was,
- * and so does the room past what is written.
+ * as it was, but for a lent table or row, which is zeroed, for what barrowtide_shorter hands back,
+ * which is an empty part, and for the state of a transaction in parts. On acceptance the values are
+ * written and *blame stays as it was, and so does the room past what is written.
  *
  * Stack. As built by the kit a call needs at most
  *   - 144 KiB barrowtide_judge_beef
@@ -48,7 +51,8 @@
  *   - 24 KiB  barrowtide_differences
  *   - 16 KiB  barrowtide_read_bump, barrowtide_read_cmp, barrowtide_read_beef
  *   -  8 KiB  barrowtide_prove_tsc, barrowtide_tsc_to_bump
- *   -  1 KiB  barrowtide_sha256d, barrowtide_join
+ *   -  1 KiB  barrowtide_sha256d, barrowtide_join, barrowtide_parts_start, barrowtide_parts_part,
+ *             barrowtide_parts_end
  *   -  4 KiB  every other call
  * with the C library's memcpy and memset, which are all that it calls. Only the working out of a
  * sibling recurses, once a level, and is counted here.
@@ -103,6 +107,7 @@
 #define BARROWTIDE_TSC_TO_BUMP_ROOM 2626       /* bytes that are enough for any TSC proof's BUMP */
 #define BARROWTIDE_BUMP_TO_TSC_ROOM 2187       /* bytes that are enough for any TSC proof made */
 #define BARROWTIDE_MAX_DIFFERENCES 112640      /* differences that two BUMPs have at most */
+#define BARROWTIDE_MAX_PARTS 4294967295u       /* bytes of a transaction that is read in parts */
 
 #ifdef __cplusplus
 extern "C" {
@@ -112,7 +117,8 @@ extern "C" {
 
 enum barrowtide_refusal {
     BARROWTIDE_ACCEPTED = 0,
-    BARROWTIDE_TOO_LONG = 1,      /* the input is over 16,777,216 bytes | 0 */
+    BARROWTIDE_TOO_LONG = 1,      /* the input is over 16,777,216 bytes, or a transaction in parts
+                                     over 4,294,967,295 | 0 */
     BARROWTIDE_SHORT = 2,         /* the bytes end inside a field | field start */
     BARROWTIDE_LONG_VARINT = 3,   /* a VarInt is not in its shortest form | field start */
     BARROWTIDE_BAD_HEIGHT = 4,    /* a tree height is outside (BUMP 1 to 64, a CMP's first byte
@@ -218,6 +224,42 @@ uint32_t barrowtide_read_cmp(const uint8_t *data, size_t len, barrowtide_blame *
    Refused: 1; 2, 3, 11 in the fields; 9. */
 uint32_t barrowtide_read_transaction(const uint8_t *data, size_t len, barrowtide_blame *blame,
                                      uint64_t *inputs, uint64_t *outputs, uint8_t id[32]);
+
+/* The state of a transaction that is read in parts, in memory that the caller lends: 240 bytes, no
+   padding, aligned as a uint64_t. Any bytes may be in it before barrowtide_parts_start; what is in
+   it afterwards is the library's, and depends on the bytes that came alone, however they were cut.
+   It holds no address, so it may be moved, copied to go on from twice, and saved.
+   A part or an end call over any other state ends and touches nothing but what is lent; what it
+   returns and leaves there is not said. */
+typedef struct {
+    uint64_t content[30];
+} barrowtide_parts;
+
+typedef char barrowtide_parts_takes_240_bytes[sizeof(barrowtide_parts) == 240 ? 1 : -1];
+
+/* What a part returns while there is no answer yet; it is no refusal's number. */
+#define BARROWTIDE_MORE 4294967295u
+
+/* Starts a transaction, whatever the state holds. */
+void barrowtide_parts_start(barrowtide_parts *state);
+
+/* The next part of the transaction, cut anywhere, possibly nothing. Returns BARROWTIDE_MORE as long
+   as there is nothing to refuse, also when a whole transaction came: 0 is not returned before the
+   end call. After a refusal or the end call it looks at no byte and repeats that answer, an accepted
+   one with its values, until the state is started afresh.
+   Refused: 3, 11 in the fields, by the part that completes the field; 9 by the byte after the lock
+   time; 1 by the byte past BARROWTIDE_MAX_PARTS, if the bytes before it show no fault, ahead of 9
+   there. */
+uint32_t barrowtide_parts_part(barrowtide_parts *state, const uint8_t *part, size_t part_len,
+                               barrowtide_blame *blame, uint64_t *length, uint64_t *inputs,
+                               uint64_t *outputs, uint8_t id[32]);
+
+/* The end of the transaction: how many bytes it has, how many inputs and outputs, and its id. However
+   the bytes were cut, this is what barrowtide_read_transaction says of all of them with its size
+   raised to BARROWTIDE_MAX_PARTS, but for the place of 1 in the order. Called again it repeats its
+   answer. Refused: as by a part; 2 in the fields. */
+uint32_t barrowtide_parts_end(barrowtide_parts *state, barrowtide_blame *blame, uint64_t *length,
+                              uint64_t *inputs, uint64_t *outputs, uint8_t id[32]);
 
 /* A TSC binary proof: its flags byte, its index, and the number of its nodes. The target is not
    compared with anything. Refused: 1; 2, 3, 5, 6, 7, 11 in the fields; 9. */

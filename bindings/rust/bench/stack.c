@@ -13,6 +13,7 @@ static const uint8_t *data, *more;
 static size_t len, more_len;
 static barrowtide_record table[BARROWTIDE_MAX_TRANSACTIONS];
 static barrowtide_answer answers[BARROWTIDE_MAX_PAGE];
+static barrowtide_parts state;
 static barrowtide_blame blame;
 static uint64_t a, b, c;
 static uint8_t id[32], root[32], first[64], second[64];
@@ -32,6 +33,12 @@ static void read_transaction(void)
 {
     refusal = barrowtide_read_transaction(data, len, &blame, &a, &b, id);
 }
+static void parts_start(void) { barrowtide_parts_start(&state), refusal = 0; }
+static void parts_part(void)
+{
+    refusal = barrowtide_parts_part(&state, data, len, &blame, &a, &b, &c, id);
+}
+static void parts_end(void) { refusal = barrowtide_parts_end(&state, &blame, &a, &b, &c, id); }
 static void read_tsc(void) { refusal = barrowtide_read_tsc(data, len, &blame, &a, &b, &c); }
 static void read_beef(void) { refusal = barrowtide_read_beef(data, len, &blame, &a, &b); }
 static void prove_bump(void)
@@ -98,6 +105,7 @@ static const struct {
     CALL(prove_page),    CALL(compare),          CALL(judge_beef),  CALL(write_bump),
     CALL(tsc_to_bump),   CALL(bump_to_tsc),
     CALL(differences),   CALL(shorter),
+    CALL(parts_start),   CALL(parts_part),       CALL(parts_end),
 };
 
 /* Runs a function, and says how many bytes of the painted stack have changed, from its top. */
@@ -121,6 +129,9 @@ static size_t depth(void (*run)(void))
 size_t stack_of(const char *name, const uint8_t *d, size_t d_len, const uint8_t *m, size_t m_len)
 {
     data = d, len = d_len, more = m, more_len = m_len;
+    barrowtide_parts_start(&state);
+    if (strcmp(name, "parts_end") == 0)
+        parts_part();
     for (size_t i = 0; i < sizeof calls / sizeof calls[0]; i++)
         if (strcmp(name, calls[i].name) == 0)
             return depth(calls[i].run) - depth(none);

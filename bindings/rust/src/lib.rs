@@ -6,6 +6,7 @@
 //! - [`sha256d`], [`join`]: double SHA-256 of bytes and of two nodes
 //! - [`read_varint`], [`read_bump`], [`read_cmp`]: is this path well formed, and what does it hold?
 //! - [`read_transaction`], [`read_tsc`], [`read_beef`]: the same of transactions, proofs and bundles
+//! - [`TransactionReader`]: a transaction that arrives in parts
 //! - [`prove_bump`], [`prove_cmp`], [`prove_tsc`], [`check_clients`]: the root that a proof leads to
 //! - [`prove_page`], [`prove_page_into`]: the same for many ids of one BUMP
 //! - [`compare`]: two proofs under one root that disagree on the id hold two strings of one hash
@@ -61,6 +62,7 @@ mod hash;
 pub mod hex;
 mod judge;
 mod page;
+mod parts;
 mod prove;
 mod refusal;
 mod transaction;
@@ -81,6 +83,7 @@ pub use difference::{differences, differences_into, shorter, Difference, Side, M
 pub use hash::{join, sha256d, Hash, ParseHashError, MAX_INPUT};
 pub use judge::{judge, judge_beef, Record, Verdict, MAX_TOTAL, MAX_TRANSACTIONS};
 pub use page::{prove_page, prove_page_into, Answer, MAX_PAGE};
+pub use parts::{Received, TransactionReader, MAX_PARTS};
 pub use prove::{check_clients, prove_bump, prove_cmp, prove_tsc, Proof};
 pub use refusal::{Blames, Reason, Refusal};
 pub use transaction::{read_transaction, Transaction};

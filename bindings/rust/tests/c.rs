@@ -8,10 +8,12 @@ use std::fs;
 use std::path::{Path, PathBuf};
 use std::process::Command;
 
-use barrowtide::ffi::Blame;
+use barrowtide::ffi::{Blame, Parts, MORE};
 use barrowtide::{Answer, Reason, Record, Version, VERSION};
 use barrowtide::{BUMP_TO_TSC_ROOM, TSC_TO_BUMP_ROOM, WRITE_ROOM};
-use barrowtide::{MAX_DIFFERENCES, MAX_IDS, MAX_INPUT, MAX_PAGE, MAX_TOTAL, MAX_TRANSACTIONS};
+use barrowtide::{
+    MAX_DIFFERENCES, MAX_IDS, MAX_INPUT, MAX_PAGE, MAX_PARTS, MAX_TOTAL, MAX_TRANSACTIONS,
+};
 use published::without_sibling;
 use reference::hex::encode;
 
@@ -64,9 +66,12 @@ fn header() {
     expected += &format!("differences {MAX_DIFFERENCES}\n");
     expected += &format!("record {}\nanswer {}\n", size_of::<Record>(), size_of::<Answer>());
     expected += &format!("blame {}\n", size_of::<Blame>());
+    expected += &format!("parts {MAX_PARTS}, state {}, more {MORE}\n", size_of::<Parts>());
     expected += "hash of nothing 0, blame 7 8 9\nno bundle 2, blame 0 0 0\n";
     expected += "no path 2, blame 0 0 0\nno paths 2, blame 0 0 0\nno list 5, blame 0 0 0\n";
     expected += "no proof to turn 2, blame 0 0 0\nno BUMP to turn 2, blame 0 0 0\n";
+    expected += &format!("first part {MORE}, blame 7 8 9\nsecond part 11, blame 4 0 0\n");
+    expected += &format!("no part {MORE}, blame 7 8 9\nno parts 2, blame 0 0 0\n");
     expected += "missing 14, blame 0 0 20\n";
     for standard in ["c99", "c11", "c17"] {
         let program = build(standard, "bindings/rust/tests/c/header.c");
@@ -100,4 +105,25 @@ fn example() {
     fs::write(&other, encode(&without_sibling())).expect("a file for the test");
     let refused = "refused 14 MISSING at 0, sibling 20 of layer 0\n";
     assert_eq!(judge(&other, &[]), (Some(1), refused.to_string()));
+}
+
+#[test]
+fn example_in_parts() {
+    let program = build("c11", "examples/c/parts.c");
+    let room = PathBuf::from(env!("CARGO_TARGET_TMPDIR"));
+    let parts = |name: &str, bytes: &[u8]| {
+        let path = room.join(name);
+        fs::write(&path, bytes).expect("a file for the test");
+        run(&program, &[path.to_str().expect("a plain path")])
+    };
+    // More than one part: a script of 9,000 bytes.
+    let head = [&[1, 0, 0, 0, 1][..], &[0xaa; 36], &[0xfd, 0x28, 0x23]].concat();
+    let raw = [&head[..], &[7; 9_000 + 4], &[1], &[0; 8 + 1 + 4]].concat();
+    let id = barrowtide::read_transaction(&raw).expect("a transaction").id;
+    let text = format!("accepted, bytes: 9062, inputs: 1, outputs: 1\nid {id}\n");
+    assert_eq!(parts("raw.bin", &raw), (Some(0), text));
+    let refused = "refused 2 SHORT at 44\n".to_string();
+    assert_eq!(parts("cut.bin", &raw[..9_000]), (Some(1), refused));
+    let refused = "refused 9 EXTRA at 9062\n".to_string();
+    assert_eq!(parts("longer.bin", &[&raw[..], &[0; 5_000]].concat()), (Some(1), refused));
 }

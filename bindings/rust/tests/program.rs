@@ -414,7 +414,9 @@ fn list() {
     assert!(text.ends_with("bumps         1\ntransactions  2\n"), "{text}");
     let transaction = file("transaction.bin", &data("004-bundle.hex")[291..291 + 192]);
     let (_, text, _) = run(&["list", "transaction", &transaction]);
-    assert!(text.starts_with(&format!("accepted: a transaction\nid       {ID}\n")), "{text}");
+    let expected = format!("accepted: a transaction\nid       {ID}\nlength   192\n");
+    assert!(text.starts_with(&expected), "{text}");
+    assert_eq!(run(&["list", "transaction", "004-transaction.hex"]).1, text);
 
     refuses(
         &["list", "bump", &file("high.bump", [0, 0])],
@@ -428,6 +430,47 @@ fn list() {
     }
     cannot_use(&["list", "004-bump.hex"], "usage: barrowtide list");
     cannot_use(&["list", "text", "004-bump.hex"], "usage: barrowtide list");
+}
+
+/// A transaction comes in parts, in hex or not, and a refusal ends the reading.
+#[test]
+fn list_in_parts() {
+    let head = [&[1, 0, 0, 0, 1][..], &[0xaa; 36], &[0xfe, 0x40, 0x42, 0x0f, 0x00]].concat();
+    let raw = [&head[..], &[7; 1_000_000 + 4], &[1], &[0; 8 + 1 + 4]].concat();
+    let id = barrowtide::read_transaction(&raw).expect("a transaction").id.to_string();
+    let text = format!(
+        "accepted: a transaction\nid       {id}\nlength   1000064\ninputs   1\noutputs  1\n"
+    );
+    let told = (Some(0), text, String::new());
+    assert_eq!(run_on(&raw, &["list", "transaction", "-"]), told);
+    // A digit of a byte in one part, the other in the next; a line break anywhere.
+    let hex = encode(&raw);
+    let lines: Vec<&str> =
+        (0..hex.len()).step_by(77).map(|at| &hex[at..hex.len().min(at + 77)]).collect();
+    for text in [hex.clone(), lines.join("\n"), format!(" {hex}\n")] {
+        assert_eq!(run_on(text.as_bytes(), &["list", "transaction", "-"]), told);
+    }
+    let fields = format!(
+        "{{\"accepted\":true,\"id\":\"{id}\",\"length\":1000064,\"inputs\":1,\"outputs\":1}}\n"
+    );
+    assert_eq!(run_on(&raw, &["list", "transaction", "-", "--json"]).1, fields);
+
+    let short = "refused 2 SHORT at byte 46: ";
+    assert!(run_on(&raw[..900_000], &["list", "transaction", "-"]).1.starts_with(short));
+    let zeros = "refused 11 BAD_TX at byte 4: ";
+    let (_, text, _) = run(&["list", "transaction", "/dev/zero"]);
+    assert!(text.starts_with(zeros), "{text}");
+
+    let other = format!("{}g{}", &hex[..300_000], &hex[300_000..]);
+    cannot_use(
+        &["list", "transaction", &file("other.hex", &other)],
+        "other.hex, line 1: text that is not hex: 'g' at character 300001",
+    );
+    cannot_use(
+        &["list", "transaction", &file("lost.hex", &hex[..hex.len() - 1])],
+        "an odd number of hex digits, so one is lost",
+    );
+    cannot_use(&["list", "transaction", "no such file"], "no such file: ");
 }
 
 /// An accepted comparison would be a collision of double SHA-256.

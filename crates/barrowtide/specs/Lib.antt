@@ -6,3 +6,4 @@ pub mod Answers
 pub mod AnswersLaws
 pub mod Choices
 pub mod ChoicesLaws
+pub mod Parts

@@ -5,6 +5,7 @@ pub mod convert;
 pub mod differences;
 pub mod judge;
 pub mod pages;
+pub mod parts;
 pub mod prove;
 pub mod read;
 pub mod write;

@@ -12,6 +12,7 @@ mod judge;
 mod measure;
 mod merged;
 mod page;
+mod parts;
 mod prove;
 mod read;
 mod stack;
@@ -30,6 +31,7 @@ fn main() {
     println!("{PREFACE}");
     hash::run();
     read::run();
+    parts::run();
     prove::run();
     page::run();
     judge::run();

@@ -47,6 +47,9 @@ pub fn run() {
     row(c"read_bump", &bump, &[]);
     row(c"read_cmp", &cmp, &[]);
     row(c"read_transaction", &raw.bytes, &[]);
+    row(c"parts_start", &[], &[]);
+    row(c"parts_part", &raw.bytes, &[]);
+    row(c"parts_end", &raw.bytes, &[]);
     row(c"read_tsc", &proof, &[]);
     row(c"read_beef", &beef, &[]);
     row(c"prove_bump", &bump, &id);

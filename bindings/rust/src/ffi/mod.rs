@@ -1,10 +1,12 @@
 //! The C interface of `include/barrowtide.h`, call by call, with slices and references in place of
 //! pointers.
 //!
-//! Each call (but [`version`] and [`join`]) returns 01's refusal number, or 0 if it accepts. A refusal writes all
+//! Each call (but [`version`], [`join`] and [`parts_start`]) returns 01's refusal number, or 0 if it
+//! accepts; [`parts_part`] may also return [`MORE`], with nothing written but the state. A refusal writes all
 //! three numbers of `blame` and leaves all other lent memory as it was, except that a lent table or
-//! row is zeroed, and that [`shorter`] hands back no bytes. Acceptance writes the values and leaves `blame` as it was, and the room past what
-//! is written.
+//! row is zeroed, that the state of a transaction in parts changes, and that [`shorter`] hands back
+//! no bytes. Acceptance writes the values and leaves `blame` as it was, and the room past what is
+//! written.
 //!
 //! The functions one module up are made of these and are nicer to use; these show what becomes of
 //! lent memory. All the unsafe code of the crate is here.
@@ -18,6 +20,7 @@ mod difference;
 mod hash;
 mod judge;
 mod page;
+mod parts;
 mod path;
 mod prove;
 mod version;
@@ -34,6 +37,7 @@ pub use difference::{differences, shorter};
 pub use hash::{join, sha256d};
 pub use judge::judge_beef;
 pub use page::prove_page;
+pub use parts::{parts_end, parts_part, parts_start, Parts, MORE};
 pub use path::{read_bump, read_cmp, read_varint};
 pub use prove::{check_clients, prove_bump, prove_cmp, prove_tsc};
 pub use version::version;

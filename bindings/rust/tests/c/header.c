@@ -37,6 +37,8 @@ int main(void)
     printf("record %zu\n", sizeof(barrowtide_record));
     printf("answer %zu\n", sizeof(barrowtide_answer));
     printf("blame %zu\n", sizeof(barrowtide_blame));
+    printf("parts %u, state %zu, more %u\n", BARROWTIDE_MAX_PARTS, sizeof(barrowtide_parts),
+           BARROWTIDE_MORE);
 
     print_call("hash of nothing", barrowtide_sha256d(NULL, 0, &blame, digest), &blame);
     print_call("no bundle",
@@ -52,6 +54,23 @@ int main(void)
                &blame);
     print_call("no BUMP to turn", barrowtide_bump_to_tsc(NULL, 0, id, NULL, 0, &blame, &written),
                &blame);
+    /* A version, then an input count of 0, in two parts; then nothing at all. */
+    barrowtide_parts state;
+    uint64_t length = 7, inputs = 7, outputs = 7;
+    memset(&state, 0xa5, sizeof state);
+    barrowtide_parts_start(&state);
+    print_call("first part",
+               barrowtide_parts_part(&state, bump, 4, &blame, &length, &inputs, &outputs, digest),
+               &blame);
+    print_call("second part",
+               barrowtide_parts_part(&state, id, 1, &blame, &length, &inputs, &outputs, digest),
+               &blame);
+    barrowtide_parts_start(&state);
+    print_call("no part",
+               barrowtide_parts_part(&state, NULL, 0, &blame, &length, &inputs, &outputs, digest),
+               &blame);
+    print_call("no parts",
+               barrowtide_parts_end(&state, &blame, &length, &inputs, &outputs, digest), &blame);
     print_call("missing",
                barrowtide_prove_bump(bump, sizeof bump, id, &blame, &position, &layers, digest),
                &blame);

@@ -3,6 +3,7 @@
 use std::ffi::{OsStr, OsString};
 
 use barrowtide::{hex, Claim, Difference, Hash, Proof, Reason, Record, Refusal, Side, MAX_PAGE};
+use barrowtide::{Received, TransactionReader};
 
 use crate::answer::{Answer, Failure, Output, Told};
 use crate::draw;
@@ -151,7 +152,7 @@ pub fn list(words: &[OsString]) -> Answer {
         Some("bump") => list_bump(&input::bytes(path)?),
         Some("cmp") => list_cmp(&input::bytes(path)?),
         Some("tsc") => list_tsc(&input::bytes(path)?),
-        Some("transaction") => list_transaction(&input::bytes(path)?),
+        Some("transaction") => list_transaction(path),
         Some("beef") => list_beef(&input::bytes(path)?),
         _ => Err(Failure::Misused),
     }
@@ -233,14 +234,28 @@ fn list_tsc(data: &[u8]) -> Answer {
     Ok(Told::text(text, fields))
 }
 
-fn list_transaction(data: &[u8]) -> Answer {
-    let read = barrowtide::read_transaction(data);
-    let transaction = read.map_err(refused(Asked::Read(Form::Transaction), data))?;
-    let (inputs, outputs) = (transaction.inputs, transaction.outputs);
-    let id = transaction.id.to_string();
-    let text =
-        format!("accepted: a transaction\nid       {id}\ninputs   {inputs}\noutputs  {outputs}\n");
-    let fields = vec![("id", id.into()), ("inputs", inputs.into()), ("outputs", outputs.into())];
+/// In parts, so that it may be longer than the memory.
+fn list_transaction(path: &OsStr) -> Answer {
+    let mut reader = TransactionReader::new();
+    let mut first = Vec::new();
+    input::in_parts(path, |part| {
+        if first.is_empty() {
+            first = part.to_vec();
+        }
+        reader.push(part).is_ok()
+    })?;
+    let received = reader.finish().map_err(refused(Asked::Read(Form::Transaction), &first))?;
+    let Received { length, inputs, outputs, id } = received;
+    let text = format!(
+        "accepted: a transaction\nid       {id}\nlength   {length}\ninputs   {inputs}\n\
+         outputs  {outputs}\n"
+    );
+    let fields = vec![
+        ("id", id.to_string().into()),
+        ("length", length.into()),
+        ("inputs", inputs.into()),
+        ("outputs", outputs.into()),
+    ];
     Ok(Told::text(text, fields))
 }
 

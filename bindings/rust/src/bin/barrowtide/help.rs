@@ -101,9 +101,11 @@ Climbs from every leaf of the BUMP that is marked as a client's.",
         brief: "what a file holds",
         about: "\
 Reads the file and says what it holds: of a BUMP or a compound path every leaf, by
-level and offset, in the order in which they are written. Nothing is proved.",
+level and offset, in the order in which they are written. Nothing is proved. A
+transaction is read in parts: it may have up to 4294967295 bytes, whatever the memory.",
         example: "    ./barrowtide list bump bindings/rust/tests/data/004-bump.hex
-    ./barrowtide list beef bindings/rust/tests/data/004-bundle.hex",
+    ./barrowtide list beef bindings/rust/tests/data/004-bundle.hex
+    ./barrowtide list transaction - < bindings/rust/tests/data/004-transaction.hex",
         run: commands::list,
         ..PLAIN
     },

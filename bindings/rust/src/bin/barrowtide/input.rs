@@ -1,10 +1,11 @@
 //! Files that the commands read, and words on the command line.
 
 use std::ffi::{OsStr, OsString};
+use std::fmt::Display;
 use std::fs::File;
 use std::io::{self, Read};
 
-use barrowtide::{hex, Hash, MAX_INPUT};
+use barrowtide::{Hash, MAX_INPUT, MAX_PARTS};
 
 use crate::answer::Failure;
 
@@ -20,17 +21,21 @@ fn name(path: &OsStr) -> String {
     }
 }
 
+fn open(path: &OsStr) -> io::Result<Box<dyn Read>> {
+    Ok(if path == "-" { Box::new(io::stdin().lock()) } else { Box::new(File::open(path)?) })
+}
+
+/// Why a file can't be used.
+fn unusable(path: &OsStr, why: impl Display) -> Failure {
+    Failure::unusable(format!("{}: {why}", name(path)))
+}
+
 fn read(path: &OsStr) -> Result<Vec<u8>, Failure> {
     let mut bytes = Vec::new();
-    let done = if path == "-" {
-        io::stdin().lock().take(MOST + 1).read_to_end(&mut bytes)
-    } else {
-        File::open(path).and_then(|file| file.take(MOST + 1).read_to_end(&mut bytes))
-    };
-    match done {
-        Err(error) => Err(Failure::unusable(format!("{}: {error}", name(path)))),
+    match open(path).and_then(|file| file.take(MOST + 1).read_to_end(&mut bytes)) {
+        Err(error) => Err(unusable(path, error)),
         Ok(_) if bytes.len() as u64 > MOST => {
-            Err(Failure::unusable(format!("{}: over {MOST} bytes", name(path))))
+            Err(unusable(path, format_args!("over {MOST} bytes")))
         }
         Ok(_) => Ok(bytes),
     }
@@ -40,24 +45,99 @@ fn read(path: &OsStr) -> Result<Vec<u8>, Failure> {
 /// transaction or bundle looks so.
 pub fn bytes(path: &OsStr) -> Result<Vec<u8>, Failure> {
     let bytes = read(path)?;
-    if !is_text(&bytes) {
-        return Ok(bytes);
-    }
-    plain_text(path, &bytes)?;
-    let stray = |(number, line): (usize, &[u8])| {
-        let (at, other) = stray(line, |byte| byte.is_ascii_whitespace())?;
-        let name = name(path);
-        Some(format!(
-            "{name}, line {}: text that is not hex: {other} at character {at}",
-            number + 1
-        ))
+    let Some(mut digits) = Digits::of(path, &bytes)? else { return Ok(bytes) };
+    let decoded = digits.decode(path, &bytes)?;
+    digits.end(path)?;
+    Ok(decoded)
+}
+
+/// How much of a file is in memory if it is read in parts.
+const PART: u64 = 1 << 16;
+/// The most characters of such a file in hex.
+const MOST_IN_PARTS: u64 = 4 * (MAX_PARTS + 1);
+
+/// Hands the bytes of a file over part by part, as long as more are wanted. Hex is decoded as it
+/// comes; a file is in hex if its first part looks like text.
+pub fn in_parts(path: &OsStr, mut wants_more: impl FnMut(&[u8]) -> bool) -> Result<(), Failure> {
+    let mut file = open(path).map_err(|error| unusable(path, error))?;
+    let mut next = || {
+        let mut part = Vec::new();
+        let done = file.by_ref().take(PART).read_to_end(&mut part);
+        done.map_err(|error| unusable(path, error)).map(|_| part)
     };
-    if let Some(message) = bytes.split(|byte| *byte == b'\n').enumerate().find_map(stray) {
-        return Err(Failure::unusable(message));
+    let mut part = next()?;
+    let mut digits = Digits::of(path, &part)?;
+    while !part.is_empty() {
+        if let Some(digits) = &mut digits {
+            part = digits.decode(path, &part)?;
+            if digits.characters > MOST_IN_PARTS {
+                return Err(unusable(path, format_args!("over {MOST_IN_PARTS} characters")));
+            }
+        }
+        if !wants_more(&part) {
+            return Ok(());
+        }
+        part = next()?;
     }
-    std::str::from_utf8(&bytes).ok().and_then(hex::decode).ok_or_else(|| {
-        Failure::unusable(format!("{}: an odd number of hex digits, so one is lost", name(path)))
-    })
+    digits.map_or(Ok(()), |digits| digits.end(path))
+}
+
+/// Hex digits as they come, white space between them left out.
+struct Digits {
+    /// The first digit of a byte whose second is to come.
+    high: Option<u32>,
+    /// How many characters came.
+    characters: u64,
+    /// The line that the next one is in, and how many came of it.
+    line: u64,
+    column: u64,
+}
+
+impl Digits {
+    /// No digits yet, if the first bytes of a file look like text.
+    fn of(path: &OsStr, bytes: &[u8]) -> Result<Option<Self>, Failure> {
+        if !is_text(bytes) {
+            return Ok(None);
+        }
+        plain_text(path, bytes)?;
+        Ok(Some(Self { high: None, characters: 0, line: 1, column: 0 }))
+    }
+
+    /// The bytes that these characters complete.
+    fn decode(&mut self, path: &OsStr, text: &[u8]) -> Result<Vec<u8>, Failure> {
+        let mut bytes = Vec::with_capacity(text.len() / 2 + 1);
+        for (index, &byte) in text.iter().enumerate() {
+            self.characters += 1;
+            self.column += 1;
+            if byte == b'\n' {
+                self.line += 1;
+                self.column = 0;
+            }
+            if byte.is_ascii_whitespace() {
+                continue;
+            }
+            let Some(digit) = char::from(byte).to_digit(16) else {
+                let (name, other) = (name(path), seen(&text[index..]));
+                let (line, at) = (self.line, self.column);
+                return Err(Failure::unusable(format!(
+                    "{name}, line {line}: text that is not hex: {other} at character {at}"
+                )));
+            };
+            match self.high.take() {
+                None => self.high = Some(digit),
+                Some(high) => bytes.push((high << 4 | digit) as u8),
+            }
+        }
+        Ok(bytes)
+    }
+
+    /// Asks that the last byte is whole.
+    fn end(&self, path: &OsStr) -> Result<(), Failure> {
+        match self.high {
+            Some(_) => Err(unusable(path, "an odd number of hex digits, so one is lost")),
+            None => Ok(()),
+        }
+    }
 }
 
 /// Whether bytes look like text: without control characters, or mostly hex digits.
@@ -90,22 +170,24 @@ fn plain_text(path: &OsStr, bytes: &[u8]) -> Result<(), Failure> {
         return Ok(());
     };
     let save = "save it as UTF-8 without a byte order mark, or as ASCII";
-    Err(Failure::unusable(format!("{}: {what}; {save}", name(path))))
+    Err(unusable(path, format_args!("{what}; {save}")))
 }
 
-/// The first character of a line that is neither a hex digit nor passed over, as a person can see
-/// it, and which character of the line it is, counted from 1.
-fn stray(line: &[u8], passed: fn(&u8) -> bool) -> Option<(usize, String)> {
-    let fits = |byte: &u8| byte.is_ascii_hexdigit() || passed(byte);
+/// The first character of a text that is not empty, as a person can see it.
+fn seen(text: &[u8]) -> String {
+    match String::from_utf8_lossy(text).chars().next() {
+        None | Some(char::REPLACEMENT_CHARACTER) => format!("the byte {:02x}", text[0]),
+        Some(other @ ' '..='~') => format!("'{other}'"),
+        Some(other) => format!("U+{:04X}", u32::from(other)),
+    }
+}
+
+/// The first character of a line that is not a hex digit, and which of the line it is, counted
+/// from 1.
+fn stray(line: &[u8]) -> Option<(usize, String)> {
     // All before it are of one byte.
-    let at = line.iter().position(|byte| !fits(byte))?;
-    let other = String::from_utf8_lossy(&line[at..]).chars().next()?;
-    let seen = match other {
-        char::REPLACEMENT_CHARACTER => format!("the byte {:02x}", line[at]),
-        ' '..='~' => format!("'{other}'"),
-        _ => format!("U+{:04X}", u32::from(other)),
-    };
-    Some((at + 1, seen))
+    let at = line.iter().position(|byte| !byte.is_ascii_hexdigit())?;
+    Some((at + 1, seen(&line[at..])))
 }
 
 /// The ids or roots of a file, one on a line in printed order; empty lines and those that start with
@@ -122,7 +204,7 @@ pub fn hashes(path: &OsStr) -> Result<Vec<Hash>, Failure> {
         let text = String::from_utf8_lossy(line);
         let Ok(hash) = text.parse() else {
             let at = format!("{}, line {}", name(path), index + 1);
-            let stray = stray(line, |_| false)
+            let stray = stray(line)
                 .map_or_else(String::new, |(at, other)| format!(", but {other} at character {at}"));
             let message = format!("{at}: not 64 hex digits{stray}: {}", shown(&text));
             return Err(Failure::unusable(message));

@@ -2,7 +2,7 @@
 
 use std::fmt;
 
-use barrowtide::{Blames, Reason, Refusal, MAX_IDS, MAX_INPUT, MAX_PAGE, MAX_TOTAL};
+use barrowtide::{Blames, Reason, Refusal, MAX_IDS, MAX_INPUT, MAX_PAGE, MAX_PARTS, MAX_TOTAL};
 
 use crate::json::Json;
 use crate::looks;
@@ -142,10 +142,16 @@ impl Refused {
         let node = format!("the node at layer {layer}, position {sibling}");
         let software = format!("The software that wrote the {noun} is at fault");
         match (self.refusal.reason, self.asked) {
-            (Reason::TooLong, _) => format!(
-                "it is over {MAX_INPUT} bytes, more than this library takes. Ask the sender for a \
-                 smaller {noun}."
-            ),
+            (Reason::TooLong, asked) => {
+                let most = match asked {
+                    Asked::Read(Form::Transaction) => MAX_PARTS,
+                    _ => MAX_INPUT as u64,
+                };
+                format!(
+                    "it is over {most} bytes, more than this library takes. Ask the sender for a \
+                     smaller {noun}."
+                )
+            }
             (Reason::Short, _) => format!(
                 "the bytes end inside the field that starts here. Ask the sender for the whole \
                  {noun}, and check that this is one."

@@ -17,7 +17,12 @@ impl<'a> Cursor<'a> {
         if data.len() > MAX_INPUT {
             return refuse(TOO_LONG, 0);
         }
-        Ok(Self { data, at: 0 })
+        Ok(Self::unlimited(data))
+    }
+
+    /// The start of bytes of any number.
+    pub fn unlimited(data: &'a [u8]) -> Self {
+        Self { data, at: 0 }
     }
 
     /// The place of the next field.

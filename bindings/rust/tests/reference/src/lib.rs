@@ -20,6 +20,7 @@ pub mod generate;
 pub mod hex;
 pub mod judge;
 pub mod page;
+pub mod parts;
 pub mod path;
 pub mod prove;
 pub mod refusal;

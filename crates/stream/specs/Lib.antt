@@ -1,0 +1,4 @@
+pub mod Parts
+pub mod Progress
+pub mod HashState
+pub mod Lent
