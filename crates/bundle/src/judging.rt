@@ -325,9 +325,9 @@ fn settle(verdict: Verdict, fault: Fault) -> Verdict
     Verdict::Refused(blame(reject(number), entry))
 }
 
-// The bundle rule, for the bytes of a BEEF, a list of trusted roots end to end, a fee that is asked of each transaction, and a table of so many rows. What the records say is written in a flat
-// form with room for 256: their ids end to end, and ten numbers for each. Both callers lend that room; the tests of it stand for a `requires`, which
-// a walk by hand would have to meet.
+// The bundle rule, for the bytes of a BEEF, a list of trusted roots end to end, a fee that is asked of each transaction, and a table of so many rows.
+// What the records say is written in a flat form with room for 256: their ids end to end, and ten numbers for each. Both callers lend that room; the
+// tests of it stand for a `requires`, which a walk by hand would have to meet.
 pub(crate) fn judge_flat(
     s: &[u8],
     roots: &[u8],

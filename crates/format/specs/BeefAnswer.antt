@@ -2,6 +2,7 @@
 use mathlib.Core.List.{List, [], _∷_, map}
 use Prim.Native.Nat.{ℕ}
 use lib.ListN.{length, replicate}
+use lib.Dec.{leb}
 use Rattle.format.specs.declared.refusal.Refusal.{Refusal}
 use Rattle.format.specs.declared.bump.BumpHead.{BumpHead}
 use Rattle.format.specs.declared.tx.Items.{Items}
@@ -11,12 +12,12 @@ use Rattle.format.specs.declared.beef.EntryHead.{EntryHead}
 use Rattle.format.specs.declared.beef.EntryAnswer.{EntryAnswer}
 use Rattle.format.specs.declared.beef.BeefHead.{BeefHead}
 use Rattle.format.specs.declared.beef.BeefAnswer.{BeefAnswer}
-use Rattle.format.specs.Parse.{Parse, otherwise, each, got, bad}
+use Rattle.format.specs.Parse.{Parse, Reader, pick, otherwise, each, ended, got, bad}
 use Rattle.format.specs.Padded.{padded}
 use Rattle.format.specs.Bump.{Bump, headOf}
 use Rattle.format.specs.Transaction.{txHeadOf}
-use Rattle.format.specs.Beef.{Entry, Beef}
-use Rattle.format.specs.Refusals.{MAX-BUMPS}
+use Rattle.format.specs.Beef.{Entry, Beef, versionField, entriesField}
+use Rattle.format.specs.Refusals.{TOO-LONG, MAX-INPUT, MAX-BUMPS}
 
 abbrev pub anchorAnswer : AnchorAnswer → Parse Anchor
 anchorAnswer (AnchorAnswer.Value v c) = got v (c .at)
@@ -72,3 +73,12 @@ headsKept p = otherwise p noBumps (λ l _. padded MAX-BUMPS noBump (map headOf l
 -- those of a bundle
 abbrev pub headsOf : Parse Beef → List BumpHead
 headsOf p = headsKept (each (λ (b : Beef). b .bumps) p)
+
+-- ---- the reading of a bundle, before its BUMPs and after n of them
+
+unfoldable pub opened : List ℕ → Parse ℕ
+opened s = pick (leb (length s) MAX-INPUT) (versionField s 0) (bad TOO-LONG 0)
+
+unfoldable pub closing : ℕ → ℕ → Reader BeefHead
+closing room n s at =
+    each (λ l. record { bumps = n; transactions = length l; entries = record { at = firstAt l } }) (ended (entriesField n room) s at)

@@ -1,18 +1,18 @@
 -- Laws of BEEF: what a reading answers, and what is known of a bundle that was read.
-use mathlib.Core.Path.{_≡_, ap, sym, _∙_}
+use mathlib.Core.Path.{_≡_, refl, ap, sym, _∙_}
 use mathlib.Core.List.{List, map}
 use mathlib.Core.Bool.{Bool, true, false}
 use Prim.Native.Nat.{ℕ, zero, suc, _≤_, _<_}
 use lib.ListN.{length, getD, length-map}
 use lib.Dec.{ltb, leb, eqb}
 use native.Mathlib.Omega.{arith}
-use borrow.Author.Tests.{leb-true, ltb-true}
+use borrow.Author.Tests.{leb-true, ltb-true, lt-ltb, le-ltb, lt-leb, le-leb}
 use Rattle.format.specs.declared.bump.BumpHead.{BumpHead}
 use Rattle.format.specs.declared.tx.TxHead.{TxHead}
 use Rattle.format.specs.declared.tx.Items.{Items}
 use Rattle.format.specs.declared.beef.Anchor.{Anchor}
 use Rattle.format.specs.declared.beef.BeefHead.{BeefHead}
-use Rattle.format.specs.Parse.{Parse, pick, pure, _passing_else_, given, each, times, got, bad}
+use Rattle.format.specs.Parse.{Parse, pick, onward, pure, _passing_else_, given, each, times, ended, whole, got, bad}
 use Rattle.format.specs.ParseLaws.{passing-told, onward-told, each-got, each-bad, whole-told, many-told, many-length}
 use Rattle.format.specs.Field.{byte, varint}
 use Rattle.format.specs.Span.{ItemRead, times-told}
@@ -22,8 +22,8 @@ use Rattle.format.specs.Bump.{Bump, bumpField, headOf}
 use Rattle.format.specs.Transaction.{Transaction, beefTxField, txHeadOf}
 use Rattle.format.specs.TransactionLaws.{tx-told}
 use Rattle.format.specs.Beef.{Entry, Beef, versionField, bumpCountField, txCountField, bumpsField, bumpNumberField, anchorField, entryField, entriesField, beefField, beefWhole}
-use Rattle.format.specs.BeefAnswer.{entryHeadOf, firstAt, entriesOf, beefHeadOf, noBump, noBumps, headsKept, headsOf}
-use Rattle.format.specs.Refusals.{OVER-LIMIT, BAD-FLAG, EMPTY, BAD-INDEX, NO-ROOM, MAX-INPUT, MAX-BUMPS, MAX-TXS}
+use Rattle.format.specs.BeefAnswer.{entryHeadOf, firstAt, entriesOf, beefHeadOf, noBump, noBumps, headsKept, headsOf, opened, closing}
+use Rattle.format.specs.Refusals.{TOO-LONG, OVER-LIMIT, BAD-FLAG, EXTRA, EMPTY, BAD-INDEX, NO-ROOM, MAX-INPUT, MAX-BUMPS, MAX-TXS}
 
 -- the counts
 pub bump-count-told : (s : List ℕ) (at : ℕ) {n q : ℕ} → bumpCountField s at ≡ got n q → n ≤ MAX-BUMPS
@@ -205,43 +205,75 @@ module _ (bumps room : ℕ) (s : List ℕ) (at : ℕ) {n q : ℕ} (e : txCountFi
       let x = each-got length (times (entryField bumps) n s q) f in
       rw (e, x .1) (entries-head (x .0) m q t (x .2) (first-told bumps n s q (tx-count-told room s at e .0) (x .1)))
 
-module _ (room : ℕ) (s : List ℕ) (at : ℕ) {v q : ℕ} (e : versionField s at ≡ got v q) where
-  pub beef-no-bumps : {k t : ℕ} → each length (bumpsField s q) ≡ bad k t → each beefHeadOf (beefField room s at) ≡ bad k t
-  unfolding beefField each
-  beef-no-bumps f = rw (e, each-bad length (bumpsField s q) f)
+-- what comes before the BUMPs
+pub open-long : (s : List ℕ) → MAX-INPUT < length s → opened s ≡ bad TOO-LONG 0
+unfolding opened
+open-long s h = simp (lt-leb _ _ h)
 
-  module _ {m r : ℕ} (f : each length (bumpsField s q) ≡ got m r) where
-    pub beef-no-entries : {k t : ℕ} → each entriesOf (entriesField m room s r) ≡ bad k t → each beefHeadOf (beefField room s at) ≡ bad k t
-    unfolding beefField each
-    beef-no-entries g =
-        let x = each-got length (bumpsField s q) f in
-        rw (e, x .1, x .2, each-bad entriesOf (entriesField m room s r) g)
+pub open-fits : (s : List ℕ) → length s ≤ MAX-INPUT → opened s ≡ versionField s 0
+unfolding opened
+open-fits s h = simp (le-leb _ _ h)
 
-    pub beef-read : {i : Items} {t : ℕ} → each entriesOf (entriesField m room s r) ≡ got i t
-        → each beefHeadOf (beefField room s at) ≡ got (record { bumps = m; transactions = i .count; entries = i .at }) t
-    unfolding beefField each
-    beef-read {i} {t} g =
-        let x = each-got length (bumpsField s q) f in
-        let y = each-got entriesOf (entriesField m room s r) g in
-        built (x .0) (y .0) (x .1) (x .2) (y .1) (y .2)
-      where
-        built : (bumps : List Bump) (entries : List Entry) → bumpsField s q ≡ got bumps r → length bumps ≡ m → entriesField m room s r ≡ got entries t → entriesOf entries ≡ i
-            → each beefHeadOf (beefField room s at) ≡ got (record { bumps = m; transactions = i .count; entries = i .at }) t
-        built bumps entries b n k is = rw (e, b, n, k) (rw (n, ← is))
+-- what comes after n BUMPs
+module _ (room n : ℕ) (s : List ℕ) (at : ℕ) where
+  pub close-refused : {k q : ℕ} → each entriesOf (entriesField n room s at) ≡ bad k q → closing room n s at ≡ bad k q
+  unfolding closing each
+  close-refused e = rw (each-bad entriesOf (entriesField n room s at) e)
 
-    -- its heads are those of its BUMPs
-    pub beef-heads : {i : Items} {t : ℕ} → each entriesOf (entriesField m room s r) ≡ got i t → headsKept (bumpsField s q) ≡ headsOf (beefField room s at)
-    unfolding beefField each headsKept
-    beef-heads {i} {t} g =
-        let x = each-got length (bumpsField s q) f in
-        let y = each-got entriesOf (entriesField m room s r) g in
-        built (x .0) (y .0) (x .1) (x .2) (y .1)
-      where
-        built : (bumps : List Bump) (entries : List Entry) → bumpsField s q ≡ got bumps r → length bumps ≡ m → entriesField m room s r ≡ got entries t
-            → headsKept (bumpsField s q) ≡ headsOf (beefField room s at)
-        built bumps entries b n k = rw (e, b, n, k)
+  pub close-extra : {i : Items} {q : ℕ} → each entriesOf (entriesField n room s at) ≡ got i q → q < length s → closing room n s at ≡ bad EXTRA q
+  unfolding closing each
+  close-extra e h = let x = each-got entriesOf (entriesField n room s at) e in simp (x .1, lt-ltb _ _ h)
 
--- the heads of a bundle that is refused, of one that was read, and of one that is a whole input
+  pub close-read : {i : Items} {q : ℕ} → each entriesOf (entriesField n room s at) ≡ got i q → length s ≤ q
+      → closing room n s at ≡ got (record { bumps = n; transactions = i .count; entries = i .at }) q
+  unfolding closing each
+  close-read {i} {q} e h =
+      let x = each-got entriesOf (entriesField n room s at) e in
+      simp (x .1, le-ltb _ _ h) (ap (λ (k : Items). got (record { bumps = n; transactions = k .count; entries = k .at }) q) (x .2))
+
+-- a bundle by its parts
+pub beef-parts : (room : ℕ) (s : List ℕ) → each beefHeadOf (beefWhole room s) ≡ onward (opened s) (λ _ at. onward (each length (bumpsField s at)) (λ n next. closing room n s next))
+unfolding each whole opened beefField closing
+beef-parts room s = sized (leb (length s) MAX-INPUT)
+  where
+    last : (l : List Bump) (entries : List Entry) (q : ℕ) (t : Bool)
+        → each beefHeadOf (pick t (bad EXTRA q) (got (record { bumps = l; entries = entries }) q))
+        ≡ each (λ k. record { bumps = length l; transactions = length k; entries = record { at = firstAt k } }) (pick t (bad EXTRA q) (got entries q))
+    last l entries q true = refl
+    last l entries q false = refl
+
+    rest : (l : List Bump) (p : Parse (List Entry))
+        → each beefHeadOf (onward (onward p (λ entries next. got (record { bumps = l; entries = entries }) next)) (λ b next. pick (ltb next (length s)) (bad EXTRA next) (got b next)))
+        ≡ each (λ k. record { bumps = length l; transactions = length k; entries = record { at = firstAt k } }) (onward p (λ k next. pick (ltb next (length s)) (bad EXTRA next) (got k next)))
+    rest l (got entries q) = last l entries q (ltb q (length s))
+    rest l (bad n q) = refl
+
+    bumps : (p : Parse (List Bump))
+        → each beefHeadOf (ended (λ s at. onward p (λ l next. onward (entriesField (length l) room s next) (λ entries next. got (record { bumps = l; entries = entries }) next))) s 0)
+        ≡ onward (each length p) (λ n next. closing room n s next)
+    bumps (got l q) = rest l (entriesField (length l) room s q)
+    bumps (bad n q) = refl
+
+    version : (p : Parse ℕ)
+        → each beefHeadOf (ended (λ s at. onward p (λ _ next. onward (bumpsField s next) (λ l next. onward (entriesField (length l) room s next) (λ entries next. got (record { bumps = l; entries = entries }) next)))) s 0)
+        ≡ onward p (λ _ at. onward (each length (bumpsField s at)) (λ n next. closing room n s next))
+    version (got v q) = bumps (bumpsField s q)
+    version (bad n q) = refl
+
+    sized : (t : Bool)
+        → each beefHeadOf (pick t (ended (beefField room) s 0) (bad TOO-LONG 0))
+        ≡ onward (pick t (versionField s 0) (bad TOO-LONG 0)) (λ _ at. onward (each length (bumpsField s at)) (λ n next. closing room n s next))
+    sized true = version (versionField s 0)
+    sized false = refl
+
+module _ (room : ℕ) (s : List ℕ) where
+  pub beef-unopened : {k q : ℕ} → opened s ≡ bad k q → each beefHeadOf (beefWhole room s) ≡ bad k q
+  beef-unopened e = rw e at (beef-parts room s)
+
+  pub beef-opened : {v at : ℕ} {p : Parse ℕ} → opened s ≡ got v at → p ≡ each length (bumpsField s at) → each beefHeadOf (beefWhole room s) ≡ onward p (λ n next. closing room n s next)
+  beef-opened {v} {at} {p} e f = (rw e at (beef-parts room s)) ∙ ap (λ (x : Parse ℕ). onward x (λ n next. closing room n s next)) (sym f)
+
+-- the heads of a bundle that is refused, and of one that was read
 pub bundle-refused : (p : Parse Beef) {k q : ℕ} → each beefHeadOf p ≡ bad k q → (bad k q ≡ each beefHeadOf p) × (noBumps ≡ headsOf p)
 unfolding each headsKept
 bundle-refused p e = (sym e, rw (each-bad beefHeadOf p e))
@@ -250,7 +282,24 @@ pub heads-read : {p : Parse Beef} {b : Beef} {q : ℕ} → p ≡ got b q → hea
 unfolding each headsKept
 heads-read e = rw e
 
-pub whole-heads : (room : ℕ) (s : List ℕ) {h : BeefHead} {q : ℕ} → each beefHeadOf (beefWhole room s) ≡ got h q → headsOf (beefField room s 0) ≡ headsOf (beefWhole room s)
-whole-heads room s e =
-    let x = each-got beefHeadOf (beefWhole room s) e in
-    ap headsOf (whole-told (beefField room) s (x .1) ∙ sym (x .1))
+-- which are those of its BUMPs
+pub heads-opened : (room : ℕ) (s : List ℕ) {v at : ℕ} {h : BeefHead} {q : ℕ} → opened s ≡ got v at → each beefHeadOf (beefWhole room s) ≡ got h q → headsKept (bumpsField s at) ≡ headsOf (beefWhole room s)
+unfolding opened beefField headsKept
+heads-opened room s {v} {at} {h} {q} e f =
+    let w = each-got beefHeadOf (beefWhole room s) f in
+    let x = onward-told (versionField s 0) _ (whole-told (beefField room) s (w .1)) in
+    let y = onward-told (bumpsField s (x .1)) _ (x .3) in
+    let z = onward-told (entriesField (length (y .0)) room s (y .1)) _ (y .3) in
+    let is : _≡_ {A = Parse Beef} (got (record { bumps = y .0; entries = z .0 }) (z .1)) (got (w .0) q) = z .3 in
+    built (w .0) (x .0) (x .1) (y .0) (y .1) (z .0) (z .1) (w .1) (sized (leb (length s) MAX-INPUT) e) (x .2) (y .2) is
+  where
+    sized : (t : Bool) → pick t (versionField s 0) (bad TOO-LONG 0) ≡ got v at → versionField s 0 ≡ got v at
+    sized true m = m
+    sized false m = absurd (let z : _≡_ {A = ℕ} 0 1 = cc in omega arith)
+
+    built : (b : Beef) (v′ at′ : ℕ) (l : List Bump) (r : ℕ) (k : List Entry) (end : ℕ) → beefWhole room s ≡ got b q → versionField s 0 ≡ got v at → versionField s 0 ≡ got v′ at′ → bumpsField s at′ ≡ got l r
+        → _≡_ {A = Parse Beef} (got (record { bumps = l; entries = k }) end) (got b q) → headsKept (bumpsField s at) ≡ headsOf (beefWhole room s)
+    built b v′ at′ l r k end w o x y is =
+        let eb : record { bumps = l; entries = k } ≡ b = cc in
+        let here : at′ ≡ at = cc in
+        rw (← here, y) (sym (heads-read w ∙ ap (λ (c : Beef). padded MAX-BUMPS noBump (map headOf (c .bumps))) (sym eb)))

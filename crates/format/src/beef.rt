@@ -1,4 +1,5 @@
-// BEEF version 0100BEEF (document 004). A reading keeps counts, the heads of the BUMPs and the place of the first transaction: what was read once is found again from there.
+// BEEF version 0100BEEF (document 004). A reading keeps counts, the heads of the BUMPs and the place of the first transaction: what was read once is
+// found again from there.
 use super::bump::BumpAnswer;
 use super::bump::BumpHead;
 use super::bump::bump_at;
@@ -25,12 +26,12 @@ use hash::MAX_INPUT;
 ghost use mathlib.Core.Path.{_≡_};
 ghost use Prim.Native.Nat.{_≤_};
 ghost use lib.ListN.{length};
-ghost use Rattle.format.specs.Parse.{each, times};
+ghost use Rattle.format.specs.Parse.{onward, each, times};
 ghost use Rattle.format.specs.FieldAnswer.{numberOf};
 ghost use Rattle.format.specs.TransactionAnswer.{itemsAnswer};
 ghost use Rattle.format.specs.Bump.{bumpField};
-ghost use Rattle.format.specs.Beef.{versionField, bumpCountField, bumpsField, txCountField, bumpNumberField, anchorField, entryField, entriesField, beefField, beefWhole};
-ghost use Rattle.format.specs.BeefAnswer.{anchorAnswer, refusalOfAnchor, entryHeadOf, entryAnswer, refusalOfEntry, entriesOf, beefHeadOf, beefAnswer, refusalOfBeef, noBump, noBumps, headsKept, headsOf};
+ghost use Rattle.format.specs.Beef.{versionField, bumpCountField, bumpsField, txCountField, bumpNumberField, anchorField, entryField, entriesField, beefWhole};
+ghost use Rattle.format.specs.BeefAnswer.{anchorAnswer, refusalOfAnchor, entryHeadOf, entryAnswer, refusalOfEntry, entriesOf, beefHeadOf, beefAnswer, refusalOfBeef, noBump, noBumps, headsKept, headsOf, opened, closing};
 ghost use Rattle.format.specs.Refusals.{MAX-BUMPS, MAX-TXS};
 
 pub struct Beef;
@@ -206,7 +207,34 @@ fn read_bump_count(s: &[u8], c: Cursor) -> Number
     field
 }
 
-fn all_bumps(s: &[u8], c: Cursor, count: usize) -> Bumps
+fn all_bumps(s: &[u8], c: Cursor, count: u64) -> Number
+    ensures { λ r. ⌜ numberOf r ≡ each length (times bumpField count (now (s .entry)) (c .at)) ⌝ }
+{
+    let mut next = c;
+    let mut i: u64 = 0;
+    while i < count {
+        let field = bump_at(s, next);
+        let BumpAnswer::Value(_, after) = field else {
+            return Number::Refused(field.refusal());
+        };
+        next = after;
+        i += 1;
+    }
+    Number::Value(i, next)
+}
+
+fn read_bumps(s: &[u8], c: Cursor) -> Number
+    ensures { λ r. ⌜ numberOf r ≡ each length (bumpsField (now (s .entry)) (c .at)) ⌝ }
+{
+    let field = read_bump_count(s, c);
+    let Number::Value(count, next) = field else {
+        return field;
+    };
+    all_bumps(s, next, count)
+}
+
+// The same with the heads kept, for a caller who needs them: 2 KB that the other doesn't spend.
+fn gather_bumps(s: &[u8], c: Cursor, count: usize) -> Bumps
     requires { ⌜ count ≤ MAX-BUMPS ⌝ }
     ensures { λ r. ⌜ (numberOf (r .count) ≡ each length (times bumpField count (now (s .entry)) (c .at))) × (r .heads ≡ headsKept (times bumpField count (now (s .entry)) (c .at))) ⌝ }
 {
@@ -228,14 +256,14 @@ fn all_bumps(s: &[u8], c: Cursor, count: usize) -> Bumps
     }
 }
 
-fn read_bumps(s: &[u8], c: Cursor) -> Bumps
+fn keep_bumps(s: &[u8], c: Cursor) -> Bumps
     ensures { λ r. ⌜ (numberOf (r .count) ≡ each length (bumpsField (now (s .entry)) (c .at))) × (r .heads ≡ headsKept (bumpsField (now (s .entry)) (c .at))) ⌝ }
 {
     let field = read_bump_count(s, c);
     let Number::Value(count, next) = field else {
         return refused_bumps(field);
     };
-    all_bumps(s, next, count as usize)
+    gather_bumps(s, next, count as usize)
 }
 
 fn read_tx_count(s: &[u8], c: Cursor, room: usize) -> Number
@@ -359,68 +387,75 @@ fn read_entries(s: &[u8], c: Cursor, bumps: u64, room: usize) -> ItemsAnswer
     ItemsAnswer::Value(Items { count, at }, next)
 }
 
-fn beef_at(s: &[u8], c: Cursor, room: usize) -> Bundle
-    ensures { λ r. ⌜ (beefAnswer (r .answer) ≡ each beefHeadOf (beefField room (now (s .entry)) (c .at))) × (r .bumps ≡ headsOf (beefField room (now (s .entry)) (c .at))) ⌝ }
+// What comes before the BUMPs: the input has its size, and starts with the version.
+fn open_beef(s: &[u8]) -> Number
+    ensures { λ r. ⌜ numberOf r ≡ opened (now (s .entry)) ⌝ }
 {
-    let version = read_version(s, c);
-    let Number::Value(_, bumps_at) = version else {
-        return refused_bundle(version.refusal());
-    };
-    let read = read_bumps(s, bumps_at);
-    let first = read.count;
-    let heads = read.heads;
+    if MAX_INPUT < s.len() {
+        return Number::Refused(Refusal {
+            number: TOO_LONG,
+            place: 0,
+        });
+    }
+    read_version(s, Beef::start())
+}
+
+// What comes after the BUMPs: the transactions, and the input's end.
+fn close_beef(s: &[u8], first: Number, room: usize) -> BeefAnswer
+    ensures { λ r. ⌜ beefAnswer r ≡ onward (numberOf first) (λ n at. closing room n (now (s .entry)) at) ⌝ }
+{
     let Number::Value(bumps, entries_at) = first else {
-        return refused_bundle(first.refusal());
+        return BeefAnswer::Refused(first.refusal());
     };
     let second = read_entries(s, entries_at, bumps, room);
     let ItemsAnswer::Value(items, next) = second else {
-        return refused_bundle(second.refusal());
+        return BeefAnswer::Refused(second.refusal());
     };
+    let at = next.at;
+    if at < s.len() {
+        return BeefAnswer::Refused(Refusal {
+            number: EXTRA,
+            place: at,
+        });
+    }
     let count = items.count;
     let entries = items.at;
-    let answer = BeefAnswer::Value(
+    BeefAnswer::Value(
         BeefHead {
             bumps: bumps as usize,
             transactions: count as usize,
             entries,
         },
         next,
-    );
-    Bundle {
-        answer,
-        bumps: heads,
-    }
+    )
 }
 
 // An input that is one BEEF, with a table of so many records lent, and the heads of its BUMPs.
 pub fn read_bundle(s: &[u8], room: usize) -> Bundle
     ensures { λ r. ⌜ (beefAnswer (r .answer) ≡ each beefHeadOf (beefWhole room (now (s .entry)))) × (r .bumps ≡ headsOf (beefWhole room (now (s .entry)))) ⌝ }
 {
-    if MAX_INPUT < s.len() {
-        return refused_bundle(Refusal {
-            number: TOO_LONG,
-            place: 0,
-        });
-    }
-    let bundle = beef_at(s, Beef::start(), room);
-    let field = bundle.answer;
-    let BeefAnswer::Value(_, next) = field else {
-        return bundle;
+    let version = open_beef(s);
+    let Number::Value(_, bumps_at) = version else {
+        return refused_bundle(version.refusal());
     };
-    let at = next.at;
-    if at < s.len() {
-        return refused_bundle(Refusal {
-            number: EXTRA,
-            place: at,
-        });
-    }
-    bundle
+    let kept = keep_bumps(s, bumps_at);
+    let first = kept.count;
+    let answer = close_beef(s, first, room);
+    let BeefAnswer::Value(_, _) = answer else {
+        return refused_bundle(answer.refusal());
+    };
+    let bumps = kept.heads;
+    Bundle { answer, bumps }
 }
 
 // An input that is one BEEF: how many BUMPs and transactions it has.
 pub fn read_beef(s: &[u8]) -> BeefAnswer
     ensures { λ r. ⌜ beefAnswer r ≡ each beefHeadOf (beefWhole MAX-TXS (now (s .entry))) ⌝ }
 {
-    let bundle = read_bundle(s, Beef::MAX_TRANSACTIONS);
-    bundle.answer
+    let version = open_beef(s);
+    let Number::Value(_, bumps_at) = version else {
+        return BeefAnswer::Refused(version.refusal());
+    };
+    let first = read_bumps(s, bumps_at);
+    close_beef(s, first, Beef::MAX_TRANSACTIONS)
 }

@@ -1,25 +1,23 @@
 use borrow.Author.Needs.{needs}
-use Prim.Native.Nat.{_-_}
-use Rattle.format.specs.ParseLaws.{answered}
-use Rattle.format.specs.Refusals.{MAX-BUMPS}
-use Rattle.format.specs.Gather.{Gathering, gather-start, gather-step, gather-refused, gather-done}
+use native.Mathlib.Omega.{arith}
+use mathlib.Core.Path.{_≡_, sym, _∙_}
+use Rattle.format.specs.ParseLaws.{answered, each-got, each-bad, count-start, count-step, count-refused, count-done}
+use Rattle.format.specs.Parse.{times, each}
 use Rattle.format.specs.Bump.{bumpField, headOf, bumpAnswer}
-use Rattle.format.specs.BeefAnswer.{noBump}
-use Rattle.format.specs.BeefLaws.{heads-none, heads-kept}
+use Prim.Native.Nat.{_≤_, _-_, _+_}
+use lib.ListN.{length}
 use Rattle.format.proofs.beef.all_bumps.Statement.{statement}
 use Rattle.format.proofs.beef.all_bumps.Tie as tie
 
 abbrev Inv-loop : tie.InvT-loop
-Inv-loop s count heads₀ next₀ i₀ heads next i = Gathering bumpField headOf noBump MAX-BUMPS count s (next₀ .at) heads i (next .at)
+Inv-loop s count next₀ i₀ next i =
+    (i ≤ count) × (each length (times bumpField count s (next₀ .at)) ≡ each (λ l. i + length l) (times bumpField (count - i) s (next .at)))
 
 abbrev μ-loop : tie.MeasureT-loop
-μ-loop s count heads₀ next₀ i₀ heads next i = count - i
-
-no-bumps-requires : tie.Need-no-bumps-requires Inv-loop μ-loop
-no-bumps-requires c κs = search needs
+μ-loop s count next₀ i₀ next i = count - i
 
 loop-holds : tie.Need-loop-holds Inv-loop μ-loop
-loop-holds c = rw (c .no-bumps .ensures) (gather-start _ _ _ _ _ _ _)
+loop-holds c = (omega arith, count-start _ _ _ _ _ _)
 
 bump-at-requires : tie.Need-bump-at-requires Inv-loop μ-loop
 bump-at-requires c κs = search needs
@@ -33,20 +31,10 @@ enum-told c = search needs
 refusal-requires : tie.Need-refusal-requires Inv-loop μ-loop
 refusal-requires c κs = search needs
 
-refused-bumps-requires : tie.Need-refused-bumps-requires Inv-loop μ-loop
-refused-bumps-requires c κs = search needs
-
 returns : tie.Need-returns Inv-loop μ-loop
 returns c =
-    rw (c .refused-bumps .ensures, c .before .refusal .ensures, c .before .before .enum-told .given .1)
-    (heads-none _ _ (gather-refused _ _ _ _ _ _ _ (c .before .before .before .before .before .before .loop .inv) (c .before .before .before .before .before .loop-test .taken)
-    (answered bumpAnswer (c .before .before .before .before .bump-at .ensures) (c .before .before .enum-told .given .1))))
-
-mul-heads : tie.Need-mul-heads Inv-loop μ-loop
-mul-heads c = search needs
-
-array-set-from-heads : tie.Need-array-set-from-heads Inv-loop μ-loop
-array-set-from-heads c = search needs
+    rw (c .refusal .ensures, c .before .enum-told .given .1)
+    (sym (c .before .before .before .before .before .loop .inv .1 ∙ count-refused _ _ _ _ _ _ _ (c .before .before .before .before .loop-test .taken) (each-bad headOf _ (answered bumpAnswer (c .before .before .before .bump-at .ensures) (c .before .enum-told .given .1)))))
 
 add-i : tie.Need-add-i Inv-loop μ-loop
 add-i c = search needs
@@ -56,13 +44,10 @@ loop-less c = search needs
 
 loop-again : tie.Need-loop-again Inv-loop μ-loop
 loop-again c =
-    gather-step _ _ _ _ _ _ _ (c .before .before .before .before .before .before .before .before .pre) (c .before .before .before .before .before .loop .inv) (c .before .before .before .before .loop-test .taken)
-    (answered bumpAnswer (c .before .before .before .bump-at .ensures) (c .before .field .given .1))
+    (omega arith, c .before .before .before .before .before .loop .inv .1 ∙ count-step _ _ _ _ _ _ _ (c .before .before .before .before .loop-test .taken) (each-got headOf _ (answered bumpAnswer (c .before .before .before .bump-at .ensures) (c .before .field .given .1)) .1))
 
 returns-2 : tie.Need-returns-2 Inv-loop μ-loop
-returns-2 c =
-    let d = gather-done _ _ _ _ _ _ _ (c .before .before .before .before .pre) (c .before .loop .inv) (c .loop-test .left) in
-    heads-kept _ (d .0) (d .1) (d .2)
+returns-2 c = sym (c .before .loop .inv .1 ∙ count-done _ _ _ _ _ _ _ (c .loop-test .left))
 
 pub all-bumps-spec : {M : Type 1} → statement M
 all-bumps-spec =
@@ -70,16 +55,12 @@ all-bumps-spec =
     (tie.spec
     Inv-loop
     μ-loop
-    no-bumps-requires
     loop-holds
     bump-at-requires
     enum-known-field
     enum-told
     refusal-requires
-    refused-bumps-requires
     returns
-    mul-heads
-    array-set-from-heads
     add-i
     loop-less
     loop-again

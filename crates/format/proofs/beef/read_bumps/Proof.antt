@@ -1,10 +1,8 @@
 use borrow.Author.Needs.{needs}
 use mathlib.Core.Path.{sym, _∙_}
-use lib.ListN.{length}
 use Rattle.format.specs.FieldAnswer.{numberOf}
 use Rattle.format.specs.ParseLaws.{answered, go, stop}
 use Rattle.format.specs.Beef.{bumpsField}
-use Rattle.format.specs.BeefLaws.{bump-count-told, heads-none, heads-counted}
 use Rattle.format.proofs.beef.read_bumps.Statement.{statement}
 use Rattle.format.proofs.beef.read_bumps.Tie as tie
 
@@ -17,23 +15,16 @@ enum-known-field c = search needs
 enum-told : tie.Need-enum-told
 enum-told c = search needs
 
-refused-bumps-requires : tie.Need-refused-bumps-requires
-refused-bumps-requires c κs = search needs
-
 returns : tie.Need-returns
 unfolding bumpsField
-returns c =
-    rw (c .refused-bumps .ensures, c .before .enum-told .given .1)
-    (heads-none length _ (stop _ _ (answered numberOf (c .before .before .before .read-bump-count .ensures) (c .before .enum-told .given .1))))
+returns c = rw (c .enum-told .given .1) (sym (stop _ _ (answered numberOf (c .before .before .read-bump-count .ensures) (c .enum-told .given .1))))
 
 all-bumps-requires : tie.Need-all-bumps-requires
-all-bumps-requires c κs = bump-count-told _ _ (answered numberOf (c .before .before .before .read-bump-count .ensures) (c .before .field .given .1))
+all-bumps-requires c κs = search needs
 
 returns-2 : tie.Need-returns-2
 unfolding bumpsField
-returns-2 c =
-    let count = answered numberOf (c .before .before .before .before .read-bump-count .ensures) (c .before .before .field .given .1) in
-    (c .all-bumps .ensures .0 ∙ sym (go _ _ count), c .all-bumps .ensures .1 ∙ heads-counted _ _ count)
+returns-2 c = c .all-bumps .ensures ∙ sym (go _ _ (answered numberOf (c .before .before .before .before .read-bump-count .ensures) (c .before .before .field .given .1)))
 
 pub read-bumps-spec : {M : Type 1} → statement M
 read-bumps-spec =
@@ -42,7 +33,6 @@ read-bumps-spec =
     read-bump-count-requires
     enum-known-field
     enum-told
-    refused-bumps-requires
     returns
     all-bumps-requires
     returns-2)

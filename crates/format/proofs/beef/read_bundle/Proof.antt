@@ -1,63 +1,80 @@
 use borrow.Author.Needs.{needs}
 use mathlib.Core.Path.{sym, _∙_}
+use Rattle.format.specs.FieldAnswer.{numberOf}
+use Rattle.format.specs.ParseLaws.{answered}
 use Rattle.format.specs.BeefAnswer.{beefAnswer}
-use Rattle.format.specs.ParseLaws.{answered, whole-too-long, whole-refused, whole-extra, whole-read}
-use Rattle.format.specs.BeefLaws.{bundle-refused, whole-heads}
+use Rattle.format.specs.BeefLaws.{beef-unopened, beef-opened, bundle-refused, heads-opened}
 use Rattle.format.proofs.beef.read_bundle.Statement.{statement}
 use Rattle.format.proofs.beef.read_bundle.Tie as tie
+
+open-beef-requires : tie.Need-open-beef-requires
+open-beef-requires c κs = search needs
+
+enum-known-version : tie.Need-enum-known-version
+enum-known-version c = search needs
+
+enum-told : tie.Need-enum-told
+enum-told c = search needs
+
+refusal-requires : tie.Need-refusal-requires
+refusal-requires c κs = search needs
 
 refused-bundle-requires : tie.Need-refused-bundle-requires
 refused-bundle-requires c κs = search needs
 
 returns : tie.Need-returns
-returns c = rw (c .refused-bundle .ensures) (bundle-refused _ (whole-too-long _ _ _ (c .before .if1 .taken)))
+returns c =
+    rw (c .refused-bundle .ensures, c .before .refusal .ensures, c .before .before .enum-told .given .1)
+    (bundle-refused _ (beef-unopened _ _ (answered numberOf (c .before .before .before .before .open-beef .ensures) (c .before .before .enum-told .given .1))))
 
-start-requires : tie.Need-start-requires
-start-requires c κs = search needs
+keep-bumps-requires : tie.Need-keep-bumps-requires
+keep-bumps-requires c κs = search needs
 
-beef-at-requires : tie.Need-beef-at-requires
-beef-at-requires c κs = search needs
+close-beef-requires : tie.Need-close-beef-requires
+close-beef-requires c κs = search needs
 
-enum-known-field : tie.Need-enum-known-field
-enum-known-field c = search needs
+enum-told-2 : tie.Need-enum-told-2
+enum-told-2 c = search needs
 
-enum-told : tie.Need-enum-told
-enum-told c = search needs
+enum-told-3 : tie.Need-enum-told-3
+enum-told-3 c = search needs
 
-returns-2 : tie.Need-returns-2
-returns-2 c =
-    let read = rw (c .before .before .before .start .ensures) at (c .before .before .beef-at .ensures) in
-    let field = answered beefAnswer (read .0) (c .enum-told .given .1) in
-    let whole = whole-refused _ _ _ (c .before .before .before .before .if1 .left) field in
-    (read .0 ∙ field ∙ sym whole, read .1 ∙ sym (bundle-refused _ field .1) ∙ bundle-refused _ whole .1)
+refusal-requires-2 : tie.Need-refusal-requires-2
+refusal-requires-2 c κs = search needs
 
 refused-bundle-requires-2 : tie.Need-refused-bundle-requires-2
 refused-bundle-requires-2 c κs = search needs
 
+returns-2 : tie.Need-returns-2
+returns-2 c =
+    rw (c .refused-bundle2 .ensures, c .before .refusal2 .ensures, c .before .before .enum-told3 .given .1)
+    (bundle-refused _ (beef-opened _ _ (answered numberOf (c .before .before .before .before .before .before .before .before .before .open-beef .ensures) (c .before .before .before .before .before .before .before .version .given .1)) (c .before .before .before .before .before .keep-bumps .ensures .0)
+    ∙ answered beefAnswer (c .before .before .before .before .close-beef .ensures) (c .before .before .enum-told3 .given .1)))
+
 returns-3 : tie.Need-returns-3
 returns-3 c =
-    rw (c .refused-bundle2 .ensures)
-    (bundle-refused _ (whole-extra _ _ _ (c .before .before .before .before .before .before .before .if1 .left)
-    (answered beefAnswer ((rw (c .before .before .before .before .before .before .start .ensures) at (c .before .before .before .before .before .beef-at .ensures)) .0) (c .before .before .before .field .given .1)) (c .before .if2 .taken)))
-
-returns-4 : tie.Need-returns-4
-returns-4 c =
-    let read = rw (c .before .before .before .before .before .start .ensures) at (c .before .before .before .before .beef-at .ensures) in
-    let field = answered beefAnswer (read .0) (c .before .before .field .given .1) in
-    let whole = whole-read _ _ _ (c .before .before .before .before .before .before .if1 .left) field (c .if2 .left) in
-    (read .0 ∙ field ∙ sym whole, read .1 ∙ whole-heads _ _ whole)
+    let version = answered numberOf (c .before .before .before .before .before .before .before .before .open-beef .ensures) (c .before .before .before .before .before .before .version .given .1) in
+    let bumps = c .before .before .before .before .keep-bumps .ensures in
+    let whole = beef-opened (c .before .before .before .before .before .before .before .before .before .before .args .room) _ version (bumps .0) in (
+      c .before .before .before .close-beef .ensures ∙ sym whole,
+      bumps .1 ∙ heads-opened _ _ version (whole ∙ answered beefAnswer (c .before .before .before .close-beef .ensures) (c .before .enum-told2 .given .1)),
+    )
 
 pub read-bundle-spec : {M : Type 1} → statement M
 read-bundle-spec =
     tie.close
     (tie.spec
+    open-beef-requires
+    enum-known-version
+    enum-told
+    refusal-requires
     refused-bundle-requires
     returns
-    start-requires
-    beef-at-requires
-    enum-known-field
-    enum-told
-    returns-2
+    keep-bumps-requires
+    close-beef-requires
+    enum-told-2
+    enum-told-3
+    refusal-requires-2
     refused-bundle-requires-2
-    returns-3
-    returns-4)
+    returns-2
+    returns-3)
