@@ -78,6 +78,17 @@ static void judge_beef(void)
     refusal = barrowtide_judge_beef(data, len, more, more_len, 0, table,
                                     BARROWTIDE_MAX_TRANSACTIONS, &blame, &a);
 }
+static void order(void)
+{
+    refusal = barrowtide_order(data, len, len / 60, positions, BARROWTIDE_MAX_TRANSACTIONS, &blame,
+                               &a);
+}
+static void check_order(void)
+{
+    for (size_t i = 0; i < len / 60; i++)
+        positions[i] = i;
+    refusal = barrowtide_check_order(data, len, len / 60, positions, len / 60, &blame, &a);
+}
 static void write_bump(void)
 {
     size_t count = len / 32;
@@ -104,7 +115,7 @@ static const struct {
     CALL(prove_bump),    CALL(prove_cmp),        CALL(prove_tsc),   CALL(check_clients),
     CALL(prove_page),    CALL(compare),          CALL(judge_beef),  CALL(write_bump),
     CALL(tsc_to_bump),   CALL(bump_to_tsc),
-    CALL(differences),   CALL(shorter),
+    CALL(differences),   CALL(shorter),          CALL(order),       CALL(check_order),
     CALL(parts_start),   CALL(parts_part),       CALL(parts_end),
 };
 

@@ -12,6 +12,8 @@
 //! - [`compare`]: two proofs under one root that disagree on the id hold two strings of one hash
 //! - [`judge`], [`judge_beef`]: does every transaction of a BEEF bundle rest on a trusted root, and
 //!   spend what is there?
+//! - [`order`], [`order_into`], [`check_order`]: transactions in an order with parents
+//!   first, as a BEEF needs them
 //! - [`differences`], [`differences_into`], [`shorter`]: two BUMPs side by side
 //! - [`write_bump`], [`write_bump_into`]: the BUMP that proves some of a block's ids
 //! - [`tsc_to_bump`], [`bump_to_tsc`], and into lent room [`tsc_to_bump_into`],
@@ -61,6 +63,7 @@ pub mod ffi;
 mod hash;
 pub mod hex;
 mod judge;
+mod order;
 mod page;
 mod parts;
 mod prove;
@@ -82,6 +85,7 @@ pub use convert::{
 pub use difference::{differences, differences_into, shorter, Difference, Side, MAX_DIFFERENCES};
 pub use hash::{join, sha256d, Hash, ParseHashError, MAX_INPUT};
 pub use judge::{judge, judge_beef, Record, Verdict, MAX_TOTAL, MAX_TRANSACTIONS};
+pub use order::{check_order, order, order_into};
 pub use page::{prove_page, prove_page_into, Answer, MAX_PAGE};
 pub use parts::{Received, TransactionReader, MAX_PARTS};
 pub use prove::{check_clients, prove_bump, prove_cmp, prove_tsc, Proof};

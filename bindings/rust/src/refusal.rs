@@ -68,10 +68,14 @@ pub enum Reason {
     SpentTwice = 27,
     /// The inputs of a transaction don't come to more than its outputs plus the fee.
     TooLittle = 28,
+    /// A set of transactions has no order with parents first.
+    NoOrder = 29,
+    /// A proposed order doesn't hold every transaction of a set once, after its parents there.
+    BadOrder = 30,
 }
 
 /// Each reason with 01's name for it and its meaning, in the order of the numbers.
-const REASONS: [(Reason, &str, &str); 28] = [
+const REASONS: [(Reason, &str, &str); 30] = [
     (Reason::TooLong, "TOO_LONG", "input over its size"),
     (Reason::Short, "SHORT", "bytes end inside a field"),
     (Reason::LongVarint, "LONG_VARINT", "VarInt not in its shortest form"),
@@ -100,6 +104,8 @@ const REASONS: [(Reason, &str, &str); 28] = [
     (Reason::NoOutput, "NO_OUTPUT", "an input spends an output that is not there"),
     (Reason::SpentTwice, "SPENT_TWICE", "an output spent twice"),
     (Reason::TooLittle, "TOO_LITTLE", "inputs not more than outputs plus the fee"),
+    (Reason::NoOrder, "NO_ORDER", "no order has parents first"),
+    (Reason::BadOrder, "BAD_ORDER", "not every transaction once, after its parents"),
 ];
 
 impl Reason {
@@ -136,7 +142,8 @@ impl Reason {
     }
 
     /// Whether the refusal carries the place of the field or byte that is to blame. If it blames a
-    /// list, a chosen position, a page, or the room for answers or bytes, it carries 0.
+    /// list, a chosen position, a page, the count of a set, or the room for answers or bytes, it
+    /// carries 0.
     ///
     /// The others carry 0, or in a BEEF the transaction's number if they come in judging
     /// ([`Reason::blames_transaction`]).
@@ -179,6 +186,10 @@ pub struct Refusal {
     pub carried: u64,
     /// Which of these it is, as the reason and the call tell.
     pub blames: Blames,
+    /// Where a set of transactions is put in order, the number of the one in which the place that
+    /// is blamed lies, counted from 0; of [`Reason::Extra`] the count. `None` from all other calls,
+    /// and where no place is blamed.
+    pub in_transaction: Option<u64>,
     /// The layer of the sibling that is missing or a twin, counted from 0 at the ids; 0 unless the
     /// reason is [`Reason::Missing`] or [`Reason::Twin`].
     pub layer: u64,
@@ -214,6 +225,16 @@ impl Refusal {
         Self { blames, ..self }
     }
 
+    /// The same refusal, where a set of transactions is put in order: of a fault in reading with
+    /// the number of a transaction beside the place. 5 is about the count that was lent.
+    pub(crate) fn in_set(self, transaction: u64) -> Self {
+        match (self.reason, self.blames) {
+            (Reason::OverLimit, _) => self.of_caller(),
+            (_, Blames::Place) => Self { in_transaction: Some(transaction), ..self },
+            _ => self,
+        }
+    }
+
     /// The same refusal, where what the caller asked for is to blame, and no byte that was read.
     pub(crate) fn of_caller(self) -> Self {
         Self { blames: Blames::Nothing, ..self }
@@ -235,7 +256,7 @@ pub(crate) fn answer<T>(number: u32, blame: Blame, value: T) -> Result<T, Refusa
             let Blame { carried, layer, sibling } = blame;
             let place = reason.blames_place() && reason != Reason::NoRoom;
             let blames = if place { Blames::Place } else { Blames::Nothing };
-            Err(Refusal { reason, carried, blames, layer, sibling })
+            Err(Refusal { reason, carried, blames, in_transaction: None, layer, sibling })
         }
         None => panic!("libbarrowtide.a gave the unknown refusal {number}"),
     }
@@ -273,6 +294,12 @@ impl fmt::Display for Refusal {
             Blames::Nothing => {}
             Blames::Place => write!(f, " at {}", self.carried)?,
             Blames::Transaction => write!(f, " at transaction {}", self.carried)?,
+        }
+        match self.in_transaction {
+            Some(number) if self.reason != Reason::Extra => {
+                write!(f, " in transaction {number}")?;
+            }
+            _ => {}
         }
         write!(f, ": {}", self.fault())
     }
@@ -318,5 +345,13 @@ mod tests {
         let text = "lent table or room too small (NO_ROOM)";
         assert_eq!(room.to_string(), format!("refused 22: {text}"));
         assert_eq!(room.in_judging().to_string(), format!("refused 22 at 0: {text}"));
+        let text = "refused 2 at 5 in transaction 3: bytes end inside a field (SHORT)";
+        assert_eq!(short.in_set(3).to_string(), text);
+        let extra = refused(Reason::Extra, 60, 0, 0).in_set(1);
+        let text = "refused 9 at 60: bytes left after the end (EXTRA)";
+        assert_eq!((extra.to_string().as_str(), extra.in_transaction), (text, Some(1)));
+        let none = refused(Reason::NoOrder, 0, 0, 0).in_set(0);
+        let text = "refused 29: no order has parents first (NO_ORDER)";
+        assert_eq!((none.to_string().as_str(), none.in_transaction), (text, None));
     }
 }

@@ -18,9 +18,9 @@ const PROGRAM: &str = env!("CARGO_BIN_EXE_barrowtide");
 const DATA: &str = concat!(env!("CARGO_MANIFEST_DIR"), "/tests/data");
 const ID: &str = "3ecead27a44d013ad1aae40038acbb1883ac9242406808bb4667c15b4f164eac";
 const ROOT: &str = "bb6f640cc4ee56bf38eb5a1969ac0c16caa2d3d202b22bf3735d10eec0ca6e00";
-const COMMANDS: [&str; 11] = [
-    "judge", "prove", "clients", "list", "compare", "write", "page", "convert", "diff", "shorter",
-    "draw",
+const COMMANDS: [&str; 12] = [
+    "judge", "prove", "clients", "list", "compare", "write", "page", "convert", "order", "diff",
+    "shorter", "draw",
 ];
 
 /// Exit status, standard output and standard error.
@@ -593,6 +593,79 @@ fn convert() {
     cannot_use(&["convert", "to-bump", "000-proof.hex", "4294967296"], "at most 4294967295");
     cannot_use(&["convert", "to-bump", "000-proof.hex"], "usage: barrowtide convert");
     cannot_use(&["convert", "to-cmp", "000-proof.hex", "7"], "usage: barrowtide convert");
+}
+
+#[test]
+fn order() {
+    let child = "157428aee67d11123203735e4c540fa1bdab3b36d5882c6f8c5ff79f07d20d1c";
+    let text = |order: &str, rows: &[(u64, &str)]| {
+        let head = "accepted: each transaction comes after its parents among them";
+        let count = if rows.len() == 1 { "transaction" } else { "transactions" };
+        let mut text = format!("{head}; {} {count}\norder     {order}\n", rows.len());
+        rows.iter().for_each(|(number, id)| text += &format!("{number:8}  {id}\n"));
+        text
+    };
+    let in_order = text("1,0", &[(1, ID), (0, child)]);
+    accepts(&["order", "004-set.hex"], &in_order);
+    accepts(&["order", "004-set.hex", "--check", "1,0"], &in_order);
+    accepts(&["order", "--check", "1, 0", "004-set.hex"], &in_order);
+    // The same in files of their own, in hex over several lines or as they stand.
+    let bundle = data("004-bundle.hex");
+    let payment = file("payment.tx", &bundle[485..485 + 191]);
+    accepts(&["order", &payment, "004-transaction.hex"], &in_order);
+    accepts(&["order", "004-transaction.hex", &payment], &text("0,1", &[(0, ID), (1, child)]));
+    accepts(&["order", &payment], &text("0", &[(0, child)]));
+    let both = run_on(&bundle[485..485 + 191], &["order", "004-transaction.hex", "-"]);
+    assert_eq!(both.1, text("0,1", &[(0, ID), (1, child)]));
+    accepts(&["order", &file("nothing.hex", "# none\n\n")], &text("", &[]));
+    let (_, json, _) = run(&["order", "004-set.hex", "--json"]);
+    let expected =
+        format!("{{\"accepted\":true,\"order\":[1,0],\"ids\":[\"{ID}\",\"{child}\"]}}\n");
+    assert_eq!(json, expected);
+
+    let bad = "refused 30 BAD_ORDER: the order does not hold each transaction once, after its \
+         parents among them. Ask for one without --check.";
+    for order in ["0,1", "", "1", "1,0,0", "1,1", "1,2", "18446744073709551615,0"] {
+        refuses(&["order", "004-set.hex", "--check", order], bad);
+    }
+    refuses(
+        &["order", &payment, &payment],
+        "refused 19 SAME_TX: two of the transactions are the same. Leave one of them out.",
+    );
+    // A transaction that is cut is told by itself, though the next one's bytes follow.
+    let cut = file("cut.tx", &bundle[485..485 + 190]);
+    refuses(
+        &["order", "004-transaction.hex", &cut, &payment],
+        "refused 2 SHORT at byte 187 in transaction 1: the bytes end inside the field that starts \
+         here. Ask the sender for the whole transaction, and check that this is one.",
+    );
+    let (_, json, _) = run(&["order", "004-transaction.hex", &cut, "--json"]);
+    let start = "{\"accepted\":false,\"refusal\":{\"number\":2,\"name\":\"SHORT\",\"input\":null,\
+         \"place\":187,\"transaction\":1,";
+    assert!(json.starts_with(start), "{json}");
+    let (_, text, _) = run(&["order", "004-transaction.hex", "004-bump.hex"]);
+    assert!(text.contains(" in transaction 1: this looks like a BUMP. "), "{text}");
+    let many = file("many.hex", format!("{}\n", encode(&bundle[485..485 + 191])).repeat(257));
+    refuses(
+        &["order", &many],
+        "refused 5 OVER_LIMIT: you may put 256 transactions in order at once, not more.",
+    );
+    let script = vec![7; (1 << 24) + 4];
+    let long = [&[1, 0, 0, 0, 1][..], &[0xaa; 36], &[0xfe, 0, 0, 0, 1], &script, &[1], &[0; 13]];
+    let long = file("long.tx", long.concat());
+    refuses(
+        &["order", &long],
+        "refused 1 TOO_LONG: the transactions are over 16777216 bytes, more than this library \
+         takes. Put fewer of them in order at once.",
+    );
+    cannot_use(&["order"], "usage: barrowtide order TXS.. [--check ORDER]");
+    cannot_use(&["order", "--check", "0"], "usage: barrowtide order");
+    cannot_use(&["order", "004-set.hex", "--check"], "usage: barrowtide order");
+    cannot_use(&["order", "004-set.hex", "--check", "1;0"], "not a number: 1;0");
+    cannot_use(&["order", "004-set.hex", "--check", "-1"], "no option -1");
+    cannot_use(&["order", "no such file"], "no such file: ");
+    let lines = file("lines-set.hex", "# a set\n00ff\n0g\n");
+    cannot_use(&["order", &lines], "line 3: text that is not hex: 'g' at character 2");
 }
 
 #[test]

@@ -4,6 +4,7 @@ mod blame;
 pub mod convert;
 pub mod differences;
 pub mod judge;
+pub mod ordering;
 pub mod pages;
 pub mod parts;
 pub mod prove;

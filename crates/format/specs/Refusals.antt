@@ -114,6 +114,14 @@ SPENT-TWICE = 27
 abbrev pub TOO-LITTLE : ℕ
 TOO-LITTLE = 28
 
+-- 02, Item 12: no order with parents first
+abbrev pub NO-ORDER : ℕ
+NO-ORDER = 29
+
+-- proposed order not one
+abbrev pub BAD-ORDER : ℕ
+BAD-ORDER = 30
+
 -- 01, "Sizes"; layers and nodes as 02, Item 8, raised them
 
 -- bytes of an input, as for the hash

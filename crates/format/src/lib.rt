@@ -67,3 +67,4 @@ pub use tx::TxHead;
 pub use tx::read_input;
 pub use tx::read_output;
 pub use tx::read_transaction;
+pub use tx::tx_at;

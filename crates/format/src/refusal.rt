@@ -89,3 +89,9 @@ pub const SPENT_TWICE: u8 = 27;
 
 // inputs come to too little
 pub const TOO_LITTLE: u8 = 28;
+
+// no order with parents first (02, Item 12)
+pub const NO_ORDER: u8 = 29;
+
+// proposed order not one
+pub const BAD_ORDER: u8 = 30;

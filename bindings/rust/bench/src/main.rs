@@ -11,6 +11,7 @@ mod joins;
 mod judge;
 mod measure;
 mod merged;
+mod order;
 mod page;
 mod parts;
 mod prove;
@@ -36,6 +37,7 @@ fn main() {
     page::run();
     judge::run();
     merged::run();
+    order::run();
     write::run();
     convert::run();
     difference::run();

@@ -40,6 +40,15 @@ pub fn run() {
     let bundle = bundle::Plan { bumps: vec![path], entries, roots: vec![root], fee: 0 };
     let (beef, roots) = (bundle.draft().bytes, bundle.root_list());
 
+    // Of one length, so that it tells their number.
+    let one = |parent| transaction::Plan {
+        version: 1,
+        inputs: vec![([parent; 32], 0, vec![], 0)],
+        outputs: vec![(1, vec![])],
+        lock_time: 0,
+    };
+    let set: Vec<u8> = (0..=255).flat_map(|parent| one(parent).draft().bytes).collect();
+
     println!("\nStack of a call, in bytes");
     row(c"sha256d", &raw.bytes, &[]);
     row(c"join", &id, &id);
@@ -61,6 +70,8 @@ pub fn run() {
     row(c"differences", &bump, &[]);
     row(c"shorter", &bump, &id);
     row(c"judge_beef", &beef, &roots);
+    row(c"order", &set, &[]);
+    row(c"check_order", &set, &[]);
     row(c"write_bump", &random.bytes(32 * 1_024), &[]);
     row(c"tsc_to_bump", &proof, &[]);
     row(c"bump_to_tsc", &bump, &id);

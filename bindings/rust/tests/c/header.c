@@ -19,11 +19,13 @@ int main(void)
     barrowtide_blame blame = {7, 8, 9};
     uint64_t transactions = 7, written = 7, position = 7, layers = 7;
     uint8_t digest[32];
+    /* A transaction of one input and one output. */
+    static const uint8_t one[60] = {1, 0, 0, 0, 1, [46] = 1};
 
     printf("version %d.%d.%d, archive %" PRIu32 "\n", BARROWTIDE_VERSION_MAJOR,
            BARROWTIDE_VERSION_MINOR, BARROWTIDE_VERSION_PATCH, barrowtide_version());
     printf("of one version %d\n", barrowtide_version() == BARROWTIDE_VERSION_NUMBER);
-    for (uint32_t number = 0; number <= BARROWTIDE_TOO_LITTLE + 1; number++)
+    for (uint32_t number = 0; number <= BARROWTIDE_BAD_ORDER + 1; number++)
         printf("%" PRIu32 " %s\n", number, barrowtide_refusal_name(number));
     printf("input %d\n", BARROWTIDE_MAX_INPUT);
     printf("transactions %d\n", BARROWTIDE_MAX_TRANSACTIONS);
@@ -48,6 +50,18 @@ int main(void)
                barrowtide_differences(NULL, 0, NULL, 0, NULL, 0, &blame, &written), &blame);
     print_call("no list", barrowtide_write_bump(0, NULL, 0, NULL, 0, NULL, 0, &blame, &written),
                &blame);
+    /* A set of none has one order, of none; of two transactions the second is not there. */
+    uint64_t transaction = 7, number = 0;
+    print_call("no set", barrowtide_order(NULL, 0, 0, NULL, 0, &blame, &transaction), &blame);
+    print_call("no proposal", barrowtide_check_order(NULL, 0, 0, NULL, 0, &blame, &transaction),
+               &blame);
+    print_call("not that", barrowtide_check_order(NULL, 0, 0, &number, 1, &blame, &transaction),
+               &blame);
+    print_call("too many", barrowtide_order(NULL, 0, 257, NULL, 0, &blame, &transaction), &blame);
+    transaction = 7;
+    print_call("no second", barrowtide_order(one, sizeof one, 2, NULL, 0, &blame, &transaction),
+               &blame);
+    printf("transaction %" PRIu64 "\n", transaction);
     /* A BUMP of five levels with one leaf, an id of zeros at position 21. */
     static const uint8_t bump[41] = {0, 5, 1, 21, 2}, id[32] = {0};
     print_call("no proof to turn", barrowtide_tsc_to_bump(NULL, 0, 1, NULL, 0, &blame, &written),

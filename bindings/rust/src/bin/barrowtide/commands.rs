@@ -2,8 +2,10 @@
 
 use std::ffi::{OsStr, OsString};
 
-use barrowtide::{hex, Claim, Difference, Hash, Proof, Reason, Record, Refusal, Side, MAX_PAGE};
-use barrowtide::{Received, TransactionReader};
+use barrowtide::{
+    hex, Blames, Claim, Difference, Hash, Proof, Reason, Record, Refusal, Side, MAX_PAGE,
+};
+use barrowtide::{Received, TransactionReader, MAX_TRANSACTIONS};
 
 use crate::answer::{Answer, Failure, Output, Told};
 use crate::draw;
@@ -365,6 +367,52 @@ fn to_bump(path: &OsStr, height: &OsStr) -> Answer {
     let data = input::bytes(path)?;
     let made = barrowtide::tsc_to_bump(&data, height);
     bytes(made.map_err(refused(Asked::ToBump, &data))?)
+}
+
+pub fn order(words: &[OsString]) -> Answer {
+    let (proposal, paths) = input::option("--check", words)?;
+    if paths.is_empty() {
+        return Err(Failure::Misused);
+    }
+    let proposal = proposal.map(|word| input::numbers("number", word)).transpose()?;
+    let set = input::transactions(&paths)?;
+    let ids = ids_of(&set)?;
+    let (data, count) = (set.concat(), set.len() as u64);
+    let order = match proposal {
+        None => barrowtide::order(&data, count),
+        Some(order) => barrowtide::check_order(&data, count, &order).map(|()| order),
+    };
+    let order = order.map_err(|refusal| Failure::Refused(Refused::new(refusal, Asked::Order)))?;
+    let numbers: Vec<String> = order.iter().map(u64::to_string).collect();
+    let mut text = format!(
+        "accepted: each transaction comes after its parents among them; {}\norder     {}\n",
+        counted(count, "transaction", "transactions"),
+        numbers.join(",")
+    );
+    for number in &order {
+        text += &format!("{number:8}  {}\n", ids[*number as usize]);
+    }
+    let in_order = order.iter().map(|number| ids[*number as usize].to_string().into()).collect();
+    let order = order.into_iter().map(Json::Number).collect();
+    Ok(Told::text(text, vec![("order", Json::List(order)), ("ids", Json::List(in_order))]))
+}
+
+/// The ids of transactions. Each must be one by itself: end to end, one that is cut would be read on
+/// into the next. Too many are left to the library, which says so first.
+fn ids_of(set: &[Vec<u8>]) -> Result<Vec<Hash>, Failure> {
+    let mut ids = Vec::new();
+    if set.len() > MAX_TRANSACTIONS {
+        return Ok(ids);
+    }
+    for (number, data) in set.iter().enumerate() {
+        let read = barrowtide::read_transaction(data).map_err(|mut refusal| {
+            let place = refusal.blames == Blames::Place;
+            refusal.in_transaction = place.then_some(number as u64);
+            Failure::Refused(Refused::of(data, refusal, Asked::Order))
+        });
+        ids.push(read?.id);
+    }
+    Ok(ids)
 }
 
 pub fn diff(words: &[OsString]) -> Answer {

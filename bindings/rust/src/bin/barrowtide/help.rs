@@ -40,7 +40,7 @@ const PLAIN: Command = Command {
 };
 
 /// All commands, in the order of the help.
-pub const COMMANDS: [Command; 11] = [
+pub const COMMANDS: [Command; 12] = [
     Command {
         name: "judge",
         usage: "judge BEEF ROOTS [--fee N]",
@@ -160,6 +160,25 @@ does not say. A TSC proof is of one id: other clients of the BUMP are left out."
       ./barrowtide prove tsc -",
         gives_bytes: true,
         run: commands::convert,
+        ..PLAIN
+    },
+    Command {
+        name: "order",
+        usage: "order TXS.. [--check ORDER]",
+        brief: "transactions in an order with parents first",
+        about: "\
+TXS are files with a raw transaction each, or one file with a transaction on each
+line, in hex. They are named by their numbers, counted from 0 as they are given.
+Each time the first is taken, of those not yet placed, whose parents among them are
+placed; parents that are not among them are not asked for. A BEEF has its
+transactions in such an order.
+
+With --check an order is not made but checked: ORDER are the numbers, with commas
+between them. It is accepted if it holds every transaction once, after its parents.",
+        example: "    ./barrowtide order bindings/rust/tests/data/004-set.hex
+    ./barrowtide order bindings/rust/tests/data/004-set.hex --check 1,0",
+        options: &["--check"],
+        run: commands::order,
         ..PLAIN
     },
     Command {

@@ -94,13 +94,16 @@ struct Digits {
 }
 
 impl Digits {
-    /// No digits yet, if the first bytes of a file look like text.
+    /// No digits yet.
+    const NONE: Self = Self { high: None, characters: 0, line: 1, column: 0 };
+
+    /// The same, if the first bytes of a file look like text.
     fn of(path: &OsStr, bytes: &[u8]) -> Result<Option<Self>, Failure> {
         if !is_text(bytes) {
             return Ok(None);
         }
         plain_text(path, bytes)?;
-        Ok(Some(Self { high: None, characters: 0, line: 1, column: 0 }))
+        Ok(Some(Self::NONE))
     }
 
     /// The bytes that these characters complete.
@@ -214,6 +217,28 @@ pub fn hashes(path: &OsStr) -> Result<Vec<Hash>, Failure> {
     Ok(hashes)
 }
 
+/// Transactions: of several files one each, or of one file in hex one on each line, where empty
+/// lines and those that start with `#` are passed over.
+pub fn transactions(paths: &[&OsStr]) -> Result<Vec<Vec<u8>>, Failure> {
+    let [path] = paths else {
+        return paths.iter().map(|path| bytes(path)).collect();
+    };
+    let content = read(path)?;
+    if Digits::of(path, &content)?.is_none() {
+        return Ok(vec![content]);
+    }
+    let mut transactions = Vec::new();
+    for (line, text) in (1..).zip(content.split(|byte| *byte == b'\n')) {
+        if text.trim_ascii().is_empty() || text.starts_with(b"#") {
+            continue;
+        }
+        let mut digits = Digits { line, ..Digits::NONE };
+        transactions.push(digits.decode(path, text)?);
+        digits.end(path)?;
+    }
+    Ok(transactions)
+}
+
 /// An id given on the command line.
 pub fn id(word: &OsStr) -> Result<Hash, Failure> {
     let text = word.to_string_lossy();
@@ -245,6 +270,15 @@ pub fn option<'a>(
 pub fn number(what: &str, word: &OsStr) -> Result<u64, Failure> {
     let text = word.to_string_lossy();
     text.parse().map_err(|_| Failure::unusable(format!("not a {what}: {}", shown(&text))))
+}
+
+/// Numbers given in a word, with commas between them; an empty word has none.
+pub fn numbers(what: &str, word: &OsStr) -> Result<Vec<u64>, Failure> {
+    if word.is_empty() {
+        return Ok(Vec::new());
+    }
+    let text = word.to_string_lossy();
+    text.split(',').map(|one| number(what, OsStr::new(one.trim()))).collect()
 }
 
 /// The beginning of a text, fit for a line of a message.

@@ -2,6 +2,7 @@
 
 use std::fmt;
 
+use barrowtide::MAX_TRANSACTIONS;
 use barrowtide::{Blames, Reason, Refusal, MAX_IDS, MAX_INPUT, MAX_PAGE, MAX_PARTS, MAX_TOTAL};
 
 use crate::json::Json;
@@ -61,6 +62,8 @@ pub enum Asked {
     Page,
     /// To turn a TSC proof into a BUMP.
     ToBump,
+    /// To put transactions in order.
+    Order,
 }
 
 impl Asked {
@@ -71,6 +74,7 @@ impl Asked {
             Asked::Clients | Asked::Shorter => Some(Form::Bump),
             Asked::Judge => Some(Form::Beef),
             Asked::ToBump => Some(Form::Tsc),
+            Asked::Order => Some(Form::Transaction),
             Asked::Compare | Asked::Write | Asked::Page => None,
         }
     }
@@ -119,8 +123,8 @@ impl Refused {
     }
 
     fn transaction(&self) -> Option<u64> {
-        let Refusal { blames, carried, .. } = self.refusal;
-        (blames == Blames::Transaction).then_some(carried)
+        let Refusal { blames, carried, in_transaction, .. } = self.refusal;
+        (blames == Blames::Transaction).then_some(carried).or(in_transaction)
     }
 
     /// Layer and position of the sibling that is to blame.
@@ -142,6 +146,10 @@ impl Refused {
         let node = format!("the node at layer {layer}, position {sibling}");
         let software = format!("The software that wrote the {noun} is at fault");
         match (self.refusal.reason, self.asked) {
+            (Reason::TooLong, Asked::Order) => format!(
+                "the transactions are over {MAX_INPUT} bytes, more than this library takes. Put \
+                 fewer of them in order at once."
+            ),
             (Reason::TooLong, asked) => {
                 let most = match asked {
                     Asked::Read(Form::Transaction) => MAX_PARTS,
@@ -174,6 +182,9 @@ impl Refused {
             ),
             (Reason::OverLimit, Asked::Page) => {
                 format!("you may ask about {MAX_PAGE} ids at once, not more.")
+            }
+            (Reason::OverLimit, Asked::Order) => {
+                format!("you may put {MAX_TRANSACTIONS} transactions in order at once, not more.")
             }
             (Reason::OverLimit, _) => format!(
                 "the count or block height here is more than this library takes. Ask the sender for \
@@ -252,6 +263,9 @@ impl Refused {
                 format!("the bundle has no BUMP of the number written here. {software}.")
             }
             (Reason::SameTx, Asked::Write) => "two ids of your list are equal.".to_string(),
+            (Reason::SameTx, Asked::Order) => {
+                "two of the transactions are the same. Leave one of them out.".to_string()
+            }
             (Reason::SameTx, _) => {
                 "it stands in the bundle already. The sender must leave it out.".to_string()
             }
@@ -295,6 +309,17 @@ impl Refused {
                  the sender for a payment that leaves more, or ask for a smaller fee."
                     .to_string()
             }
+            (Reason::NoOrder, _) => {
+                "some of the transactions spend each other in a circle, so none of them can come \
+                 first. No one can make such hashes, as far as is known: keep the files, and report \
+                 it."
+                    .to_string()
+            }
+            (Reason::BadOrder, _) => {
+                "the order does not hold each transaction once, after its parents among them. Ask \
+                 for one without --check."
+                    .to_string()
+            }
             (reason, _) => format!("{}.", reason.meaning()),
         }
     }
@@ -325,7 +350,8 @@ impl Refused {
             text += &format!(" at byte {place}");
         }
         if let Some(transaction) = self.transaction() {
-            text += &format!(" at transaction {transaction}");
+            let at = if self.place().is_some() { "in" } else { "at" };
+            text += &format!(" {at} transaction {transaction}");
         }
         text + ": " + &self.words()
     }

@@ -19,6 +19,7 @@ pub mod fields;
 pub mod generate;
 pub mod hex;
 pub mod judge;
+pub mod order;
 pub mod page;
 pub mod parts;
 pub mod path;

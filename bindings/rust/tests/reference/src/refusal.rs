@@ -87,3 +87,7 @@ pub const NO_OUTPUT: u32 = 26;
 pub const SPENT_TWICE: u32 = 27;
 /// Too little comes in.
 pub const TOO_LITTLE: u32 = 28;
+/// No order with parents first (02, Item 12).
+pub const NO_ORDER: u32 = 29;
+/// A proposed order that is none.
+pub const BAD_ORDER: u32 = 30;

@@ -1,0 +1,76 @@
+//! Sets of transactions put in order.
+
+use barrowtide::{check_order, order_into, MAX_TRANSACTIONS};
+use reference::generate::random::Random;
+use reference::generate::set;
+use reference::generate::transaction::Plan;
+use reference::{order, Hash};
+
+use crate::read::{heading, row, seconds_of};
+
+/// Prints the table of sets.
+pub fn run() {
+    heading("256 transactions put in order, and that order checked");
+    let mut random = Random::of("order");
+    let chain: Vec<Vec<usize>> = (0..MAX_TRANSACTIONS)
+        .map(|number: usize| number.checked_sub(1).into_iter().collect())
+        .collect();
+    let mut plans = set::spending(&mut random, &chain);
+    compare("a chain", &plans);
+    plans.reverse();
+    compare("a chain from its end", &plans);
+    random.shuffle(&mut plans);
+    compare("a chain in no order", &plans);
+    compare("400,000 inputs of strangers", &full(|_| [7; 32]));
+    let last = last().id();
+    compare("400,000 inputs of the last one", &full(|_| last));
+    // As a search by the first bytes of an id would take for it.
+    let alike = |input: usize| {
+        let mut hash = last;
+        hash[31] ^= 1 + input as u8 % 255;
+        hash
+    };
+    compare("400,000 inputs that begin as the last one", &full(alike));
+}
+
+/// Transactions with 400,000 inputs in all, and one more that spends a stranger.
+fn full(parent: impl Fn(usize) -> Hash) -> Vec<Plan> {
+    let others = MAX_TRANSACTIONS - 1;
+    let inputs = |number: usize| 400_000 * (number + 1) / others - 400_000 * number / others;
+    let parents = |number| (0..inputs(number)).map(&parent).collect::<Vec<_>>();
+    let mut plans: Vec<Plan> =
+        (0..others).map(|number| transaction(number, &parents(number))).collect();
+    plans.push(last());
+    plans
+}
+
+fn last() -> Plan {
+    transaction(MAX_TRANSACTIONS - 1, &[[7; 32]])
+}
+
+/// A transaction that spends these, with a lock time of its own.
+fn transaction(number: usize, parents: &[Hash]) -> Plan {
+    let inputs = parents.iter().map(|parent| (*parent, 0, Vec::new(), u32::MAX)).collect();
+    Plan { version: 1, inputs, outputs: vec![(1, Vec::new())], lock_time: number as u32 }
+}
+
+fn compare(name: &str, plans: &[Plan]) {
+    let (data, count) = (set::draft(plans).bytes, plans.len() as u64);
+    let mut placed = vec![0; plans.len()];
+    assert_eq!(order_into(&data, count, &mut placed), Ok(()));
+    assert_eq!(order::order(&data, count, plans.len()), Ok(placed.clone()));
+    assert_eq!(check_order(&data, count, &placed), Ok(()));
+    let mut again = placed.clone();
+    row(
+        name,
+        data.len(),
+        seconds_of(|| order_into(&data, count, &mut again)),
+        seconds_of(|| order::order(&data, count, plans.len())),
+    );
+    row(
+        "  checked",
+        data.len(),
+        seconds_of(|| check_order(&data, count, &placed)),
+        seconds_of(|| order::check(&data, count, &placed)),
+    );
+}

@@ -1,0 +1,17 @@
+pub mod Tests
+pub mod BitsLaws
+pub mod ListedLaws
+pub mod Pigeon
+pub mod OrderLaws
+pub mod OrderTheorems
+pub mod OrderSame
+pub mod SetTheorems
+pub mod ReadTheorems
+pub mod SetReadLaws
+pub mod SetTurns
+pub mod IdsLaws
+pub mod CodeLaws
+pub mod ParentsLaws
+pub mod SetAnswers
+pub mod Promises
+pub mod Examples
