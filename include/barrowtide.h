@@ -25,12 +25,14 @@
  *   - in reading, fields as they come, and on one field 2, 3, then 4, 5, 7, 10, 11, 12, 18 or 25,
  *     then 22; for an offset 2, 3, 6, 8. A TSC index is tested after the node count and before the
  *     nodes, so 5 comes before 6. A length stated in a TSC proof that leads past the input's end is
- *     2 at the transaction's start, and any other fault inside that transaction is 11. 9 is last;
+ *     2 at the transaction's start, and any other fault inside that transaction is 11. Of a
+ *     transaction of 64 bytes 11 comes after its last field, and before what follows it. 9 is last;
  *   - in proving 13, then 14 or 15 at the lowest layer, then 16; for all clients 14 or 15 and then
  *     16 leaf by leaf;
  *   - in judging, transaction by transaction, 19, then 13, 14 or 15, 17 if it names a BUMP, and if
  *     not 20, 26, 27, 28, each asked of all its inputs before the next;
- *   - in comparing the first proof's refusal, the second's, 23, 24;
+ *   - in comparing the first proof's refusal, the second's, 23, 24; of proofs of different numbers
+ *     of layers the first's, the second's, the transaction's, 23;
  *   - of two BUMPs side by side the first one's, the second's, then 22 or 23;
  *   - of a set of transactions, once it is read, 19, then 22 and 29, or of a proposed order 30;
  *   - in writing 5, 13, 6, 19, 15, 22;
@@ -50,8 +52,8 @@
  *   - 144 KiB barrowtide_judge_beef
  *   - 64 KiB  barrowtide_prove_page
  *   - 48 KiB  barrowtide_write_bump, barrowtide_check_clients
- *   - 40 KiB  barrowtide_prove_bump, barrowtide_prove_cmp, barrowtide_compare, barrowtide_shorter,
- *             barrowtide_bump_to_tsc
+ *   - 40 KiB  barrowtide_prove_bump, barrowtide_prove_cmp, barrowtide_compare,
+ *             barrowtide_compare_depths, barrowtide_shorter, barrowtide_bump_to_tsc
  *   - 32 KiB  barrowtide_order, barrowtide_check_order
  *   - 24 KiB  barrowtide_differences
  *   - 16 KiB  barrowtide_read_bump, barrowtide_read_cmp, barrowtide_read_beef
@@ -93,7 +95,7 @@
 #include <stdint.h>
 
 #define BARROWTIDE_VERSION_MAJOR 0
-#define BARROWTIDE_VERSION_MINOR 5
+#define BARROWTIDE_VERSION_MINOR 6
 #define BARROWTIDE_VERSION_PATCH 0
 #define BARROWTIDE_VERSION_NUMBER                                                                  \
     (BARROWTIDE_VERSION_MAJOR * 65536U + BARROWTIDE_VERSION_MINOR * 256U + BARROWTIDE_VERSION_PATCH)
@@ -141,6 +143,8 @@ enum barrowtide_refusal {
     BARROWTIDE_EXTRA = 9,         /* bytes are left after the end | first such byte */
     BARROWTIDE_BAD_VERSION = 10,  /* the first four bytes are not BEEF's | 0 */
     BARROWTIDE_BAD_TX = 11,       /* no inputs or no outputs | count field
+                                     a transaction has 64 bytes, as a pair of nodes has |
+                                     transaction start
                                      a TSC transaction is not exactly its stated length |
                                      transaction start */
     BARROWTIDE_EMPTY = 12,        /* a BEEF has no transaction | count field */
@@ -160,7 +164,8 @@ enum barrowtide_refusal {
                                      the bytes to write, the ids, the differences or the
                                      transactions of a set are more than the room | 0 */
     BARROWTIDE_UNLIKE = 23,       /* two proofs differ in root, position or layers; of two BUMPs
-                                     side by side only in root | 0 */
+                                     side by side only in root; of proofs of different numbers of
+                                     layers see barrowtide_compare_depths | 0 */
     BARROWTIDE_SAME_ID = 24,      /* two proofs agree and prove one id | 0 */
     BARROWTIDE_BAD_AMOUNT = 25,   /* an amount in a BEEF is above 2,100,000,000,000,000, or takes
                                      the total of its transaction's outputs above that | field
@@ -229,8 +234,10 @@ uint32_t barrowtide_read_bump(const uint8_t *data, size_t len, barrowtide_blame 
 uint32_t barrowtide_read_cmp(const uint8_t *data, size_t len, barrowtide_blame *blame,
                              uint64_t *tree_height, uint64_t *leaves);
 
-/* A raw transaction: how many inputs and outputs it has, and its id.
-   Refused: 1; 2, 3, 11 in the fields; 9. */
+/* A raw transaction: how many inputs and outputs it has, and its id. One of exactly 64 bytes is
+   refused, here and wherever a transaction is read, by 11 at its first byte, once all its fields
+   are read: two nodes of a tree have that size, so a node above two others could pose as a payment.
+   Refused: 1; 2, 3, 11 in the fields; 11 for 64 bytes; 9. */
 uint32_t barrowtide_read_transaction(const uint8_t *data, size_t len, barrowtide_blame *blame,
                                      uint64_t *inputs, uint64_t *outputs, uint8_t id[32]);
 
@@ -254,11 +261,11 @@ void barrowtide_parts_start(barrowtide_parts *state);
 
 /* The next part of the transaction, cut anywhere, possibly nothing. Returns BARROWTIDE_MORE as long
    as there is nothing to refuse, also when a whole transaction came: 0 is not returned before the
-   end call. After a refusal or the end call it looks at no byte and repeats that answer, an accepted
-   one with its values, until the state is started afresh.
-   Refused: 3, 11 in the fields, by the part that completes the field; 9 by the byte after the lock
-   time; 1 by the byte past BARROWTIDE_MAX_PARTS, if the bytes before it show no fault, ahead of 9
-   there. */
+   end call. After a refusal or the end call it looks at no byte and repeats that answer, an
+   accepted one with its values, until the state is started afresh.
+   Refused: 3, 11 in the fields, by the part that completes the field; 11 for 64 bytes by the last
+   of them, if it ends the lock time; 9 by the byte after the lock time; 1 by the byte past
+   BARROWTIDE_MAX_PARTS, if the bytes before it show no fault, ahead of 9 there. */
 uint32_t barrowtide_parts_part(barrowtide_parts *state, const uint8_t *part, size_t part_len,
                                barrowtide_blame *blame, uint64_t *length, uint64_t *inputs,
                                uint64_t *outputs, uint8_t id[32]);
@@ -271,21 +278,25 @@ uint32_t barrowtide_parts_end(barrowtide_parts *state, barrowtide_blame *blame, 
                               uint64_t *inputs, uint64_t *outputs, uint8_t id[32]);
 
 /* A TSC binary proof: its flags byte, its index, and the number of its nodes. The target is not
-   compared with anything. Refused: 1; 2, 3, 5, 6, 7, 11 in the fields; 9. */
+   compared with anything. A transaction of 64 bytes in it is 11, as any other fault inside one.
+   Refused: 1; 2, 3, 5, 6, 7, 11 in the fields; 9. */
 uint32_t barrowtide_read_tsc(const uint8_t *data, size_t len, barrowtide_blame *blame,
                              uint64_t *flags, uint64_t *index, uint64_t *nodes);
 
 /* A BEEF bundle: how many BUMPs and transactions it has. Here and in judging amounts have a limit,
-   BARROWTIDE_MAX_TOTAL for the outputs of each transaction; other readers take any amount.
+   BARROWTIDE_MAX_TOTAL for the outputs of each transaction; other readers take any amount. A
+   transaction of 64 bytes is 11 at its first byte, after a 25 in it and before the byte after it.
    Refused: 1; 2 to 8, 10 to 12, 18 and 25 in the fields; 9. */
 uint32_t barrowtide_read_beef(const uint8_t *data, size_t len, barrowtide_blame *blame,
                               uint64_t *bumps, uint64_t *transactions);
 
 /* ---- Proving. The input is read as above first, with the refusals of reading. A proof is worth as
    much as its root is trusted. 15 rules out the twins that make a block look as if it held a
-   transaction twice; another forgery is not noticed yet: an inner node of the tree is accepted as
-   the id of a proof with fewer layers, and a transaction of 64 bytes, which has the form of a pair
-   of nodes, is read. ---- */
+   transaction twice. Nothing in a proof shows that its id is a transaction's: an inner node of the
+   tree has a proof with fewer layers. It can't pose as a payment that was read, as a transaction of
+   64 bytes is refused and no other has the id of a pair of nodes, unless double SHA-256 is broken:
+   so take the id from the payment's own bytes. barrowtide_compare_depths would show how it is
+   broken. ---- */
 
 /* Proves a lent id by a BUMP: its position in the block, the number of layers above it, and the
    Merkle root. The climb starts at the level-0 leaf that carries the id, of several at the least
@@ -348,6 +359,28 @@ uint32_t barrowtide_compare(uint32_t first_form, const uint8_t *first, size_t fi
                             const uint8_t *second, size_t second_len, const uint8_t second_id[32],
                             barrowtide_blame *blame, uint8_t first_string[64],
                             uint8_t second_string[64]);
+
+/* Compares two proofs of different numbers of layers, in either order, with the raw transaction of
+   the one that has fewer, "the shorter": does an inner node of the tree pose as its payment?
+   Accepted are two proofs to one root, the shorter at the other's position halved, dropping
+   remainders, once for each layer more, if the transaction's id is the one that the shorter proves.
+   Their layers are matched from the root down, and the transaction stands for a layer below the
+   shorter's lowest. At the lowest layer where the hashes made are equal they have two different
+   strings of equal double SHA-256, the shorter's first: these are the answer. *first_is_transaction
+   is 1 if the first is the transaction itself, and first_string then stays as it was; else it is 0,
+   and first_string has the 64 bytes that the shorter hashed there. second_string has those of the
+   other proof. Both orders of the proofs give one answer. The id lent with a TSC proof is read and
+   not used. The call climbs each proof at most twice and hashes the transaction once.
+   Refused: the first proof's refusal, the second's; as barrowtide_read_transaction, with places in
+   the transaction; 23 if the roots differ, if both have as many layers, if the shorter is at
+   another position, or if the transaction is not the one that it proves. */
+uint32_t barrowtide_compare_depths(uint32_t first_form, const uint8_t *first, size_t first_len,
+                                   const uint8_t first_id[32], uint32_t second_form,
+                                   const uint8_t *second, size_t second_len,
+                                   const uint8_t second_id[32], const uint8_t *transaction,
+                                   size_t transaction_len, barrowtide_blame *blame,
+                                   uint64_t *first_is_transaction, uint8_t first_string[64],
+                                   uint8_t second_string[64]);
 
 /* ---- Two BUMPs side by side ---- */
 
@@ -472,9 +505,9 @@ uint32_t barrowtide_judge_beef(const uint8_t *data, size_t len, const uint8_t *r
    none is accepted.
    A refusal writes *transaction too: of a fault in reading the number of the transaction that was
    being read, or of the next one if the bytes end between two; of 9 the count; else 0.
-   Refused: 5 for a count over BARROWTIDE_MAX_TRANSACTIONS; 1; 2, 3, 11 in the fields; 9; 19; 22 for
-   a row shorter than the set; 29 exactly when no order has parents first, which would take
-   transactions that hold each other's hashes. */
+   Refused: 5 for a count over BARROWTIDE_MAX_TRANSACTIONS; 1; 2, 3, 11 in the fields; 11 for one of
+   64 bytes; 9; 19; 22 for a row shorter than the set; 29 exactly when no order has parents first,
+   which would take transactions that hold each other's hashes. */
 uint32_t barrowtide_order(const uint8_t *data, size_t len, uint64_t count, uint64_t *row,
                           size_t row_len, barrowtide_blame *blame, uint64_t *transaction);
 

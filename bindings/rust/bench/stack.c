@@ -64,6 +64,12 @@ static void compare(void)
     refusal = barrowtide_compare(BARROWTIDE_BUMP, data, len, more, BARROWTIDE_BUMP, data, len, more,
                                  &blame, first, second);
 }
+static void compare_depths(void)
+{
+    static const uint8_t payment[60] = {1, 0, 0, 0, 1, [46] = 1};
+    refusal = barrowtide_compare_depths(BARROWTIDE_BUMP, data, len, more, BARROWTIDE_BUMP, data, len,
+                                        more, payment, sizeof payment, &blame, &a, first, second);
+}
 static void differences(void)
 {
     refusal = barrowtide_differences(data, len, data, len, positions,
@@ -114,7 +120,7 @@ static const struct {
     CALL(read_cmp),      CALL(read_transaction), CALL(read_tsc),    CALL(read_beef),
     CALL(prove_bump),    CALL(prove_cmp),        CALL(prove_tsc),   CALL(check_clients),
     CALL(prove_page),    CALL(compare),          CALL(judge_beef),  CALL(write_bump),
-    CALL(tsc_to_bump),   CALL(bump_to_tsc),
+    CALL(tsc_to_bump),   CALL(bump_to_tsc),      CALL(compare_depths),
     CALL(differences),   CALL(shorter),          CALL(order),       CALL(check_order),
     CALL(parts_start),   CALL(parts_part),       CALL(parts_end),
 };

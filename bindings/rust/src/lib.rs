@@ -10,6 +10,8 @@
 //! - [`prove_bump`], [`prove_cmp`], [`prove_tsc`], [`check_clients`]: the root that a proof leads to
 //! - [`prove_page`], [`prove_page_into`]: the same for many ids of one BUMP
 //! - [`compare`]: two proofs under one root that disagree on the id hold two strings of one hash
+//! - [`compare_depths`]: so do two of different numbers of layers, one of which proves a payment
+//!   where the other has a node of the tree
 //! - [`judge`], [`judge_beef`]: does every transaction of a BEEF bundle rest on a trusted root, and
 //!   spend what is there?
 //! - [`order`], [`order_into`], [`check_order`]: transactions in an order with parents
@@ -77,7 +79,7 @@ mod write;
 pub use beef::{read_beef, Beef};
 pub use bump::{read_bump, Bump};
 pub use cmp::{read_cmp, Cmp};
-pub use compare::{compare, Claim, Collision};
+pub use compare::{compare, compare_depths, Claim, Collision, DepthCollision};
 pub use convert::{
     bump_to_tsc, bump_to_tsc_into, tsc_to_bump, tsc_to_bump_into, BUMP_TO_TSC_ROOM,
     TSC_TO_BUMP_ROOM,

@@ -6,8 +6,10 @@ use crate::Hash;
 
 /// A proof that was accepted. It is worth as much as its root is trusted.
 ///
-/// An inner node of the tree is accepted as the id of a proof with fewer layers: nothing shows that
-/// an id is a transaction's.
+/// Nothing in a proof shows that its id is a transaction's: an inner node of the tree has a proof with
+/// fewer layers. [`read_transaction`](crate::read_transaction) says which id a payment has. As it
+/// refuses one of 64 bytes, the size of two nodes, no inner node can pose as a payment that was read,
+/// unless double SHA-256 is broken; [`compare_depths`](crate::compare_depths) would show how.
 #[derive(Debug, Clone, Copy, PartialEq, Eq)]
 pub struct Proof {
     /// The id that is proved.

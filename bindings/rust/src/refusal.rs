@@ -30,7 +30,8 @@ pub enum Reason {
     Extra = 9,
     /// The first four bytes are not BEEF's.
     BadVersion = 10,
-    /// A transaction has no inputs or no outputs, or is not exactly as long as a TSC proof says.
+    /// A transaction has no inputs or no outputs, has 64 bytes, as a pair of nodes has, or is not
+    /// exactly as long as a TSC proof says.
     BadTx = 11,
     /// A BEEF has no transaction.
     Empty = 12,
@@ -54,7 +55,8 @@ pub enum Reason {
     BadRoots = 21,
     /// The lent table has fewer records than the bundle has transactions, or lent room is short.
     NoRoom = 22,
-    /// Two proofs differ in root, position or layers.
+    /// Two proofs differ in root, position or layers; of two with different numbers of layers, see
+    /// [`compare_depths`](crate::compare_depths).
     Unlike = 23,
     /// Two proofs agree and prove one id.
     SameId = 24,
@@ -86,7 +88,7 @@ const REASONS: [(Reason, &str, &str); 30] = [
     (Reason::Repeated, "REPEATED", "offset again in its level"),
     (Reason::Extra, "EXTRA", "bytes left after the end"),
     (Reason::BadVersion, "BAD_VERSION", "first four bytes not BEEF's"),
-    (Reason::BadTx, "BAD_TX", "no inputs, no outputs, or not the stated length"),
+    (Reason::BadTx, "BAD_TX", "no inputs, no outputs, 64 bytes, or not the stated length"),
     (Reason::Empty, "EMPTY", "BEEF with no transaction"),
     (Reason::NotListed, "NOT_LISTED", "id not at level 0, or none chosen"),
     (Reason::Missing, "MISSING", "sibling not written and not to be worked out"),

@@ -72,6 +72,8 @@ fn header() {
     expected += "no set 0, blame 7 8 9\nno proposal 0, blame 7 8 9\nnot that 30, blame 0 0 0\n";
     expected += "too many 5, blame 0 0 0\nno second 2, blame 60 0 0\ntransaction 1\n";
     expected += "no proof to turn 2, blame 0 0 0\nno BUMP to turn 2, blame 0 0 0\n";
+    expected += "no proofs 2, blame 0 0 0\nas many layers 23, blame 0 0 0\n";
+    expected += "first is transaction 7\n";
     expected += &format!("first part {MORE}, blame 7 8 9\nsecond part 11, blame 4 0 0\n");
     expected += &format!("no part {MORE}, blame 7 8 9\nno parts 2, blame 0 0 0\n");
     expected += "missing 14, blame 0 0 20\n";

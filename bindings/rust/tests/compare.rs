@@ -2,52 +2,21 @@
 //!
 //! Two different strings of equal hash are not known, so every answer here is a refusal.
 
+#[path = "common/claims.rs"]
+mod claims;
 mod common;
 
-use barrowtide::ffi::{self, Lent};
+use barrowtide::ffi;
 use barrowtide::MAX_INPUT;
+use claims::{claim, damaged, describe, lent, wrapped};
 use common::{expected, plain, GUARDED};
 use reference::compare::{compare, Claim};
-use reference::generate::damage::random_edit;
-use reference::generate::path::Plan;
 use reference::generate::random::{rounds, Random};
 use reference::generate::tally::Tally;
 use reference::generate::tree::Tree;
 use reference::generate::tsc;
-use reference::hex::{expand, show};
+use reference::hex::expand;
 use reference::refusal::Refusal;
-use reference::Hash;
-
-/// The claim as the C call takes it; `tsc` is the number that stands for a TSC proof.
-fn lent(claim: &Claim, tsc: u32) -> Lent<'_> {
-    match claim {
-        Claim::Bump(data, id) => Lent { form: 0, data, id },
-        Claim::Cmp(data, id) => Lent { form: 1, data, id },
-        Claim::Tsc(data) => Lent { form: tsc, data, id: &[0x77; 32] },
-    }
-}
-
-fn from_stored(id: Hash) -> barrowtide::Hash {
-    barrowtide::Hash::from_stored(id)
-}
-
-/// The claim as the wrapper takes it.
-fn wrapped(claim: &Claim) -> barrowtide::Claim<'_> {
-    match claim {
-        Claim::Bump(data, id) => barrowtide::Claim::Bump { data, id: from_stored(*id) },
-        Claim::Cmp(data, id) => barrowtide::Claim::Cmp { data, id: from_stored(*id) },
-        Claim::Tsc(data) => barrowtide::Claim::Tsc { data },
-    }
-}
-
-fn describe(first: &Claim, second: &Claim) -> String {
-    let data = |claim: &Claim| match claim {
-        Claim::Bump(data, id) => format!("bump {} for {}", show(data), show(id)),
-        Claim::Cmp(data, id) => format!("cmp {} for {}", show(data), show(id)),
-        Claim::Tsc(data) => format!("tsc {}", show(data)),
-    };
-    format!("{} and {}", data(first), data(second))
-}
 
 type Strings = ([u8; 64], [u8; 64]);
 
@@ -108,18 +77,6 @@ fn examples() {
     assert_eq!(check(&tsc("06"), &twin), Err(Refusal::new(7, 0)));
 }
 
-/// A proof of an id in a form of choice.
-fn claim(random: &mut Random, tree: &Tree, position: u64) -> Claim {
-    let id: Hash = tree.ids()[position as usize];
-    let mut path = Plan::of(tree, &[position]);
-    path.thin(random, tree);
-    match random.within(0..=2) {
-        0 => Claim::Bump(path.bump().bytes, id),
-        1 => Claim::Cmp(path.cmp().bytes, id),
-        _ => Claim::Tsc(tsc::Plan::of(tree, position).draft().bytes),
-    }
-}
-
 /// Sound proofs of one tree or of two, in every mixture of forms.
 #[test]
 fn sound_pairs() {
@@ -169,26 +126,6 @@ fn damaged_pairs() {
     }
     if rounds() >= 1_000 {
         tally.assert_met(&[2, 3, 4, 5, 6, 7, 8, 9, 13, 14, 15, 16, 23, 24]);
-    }
-}
-
-fn damaged(random: &mut Random, tree: &Tree, position: u64) -> Claim {
-    let id = tree.ids()[position as usize];
-    let mut plan = Plan::of(tree, &[position]);
-    plan.thin(random, tree);
-    let mut proof = tsc::Plan::of(tree, position);
-    let spoil = random.one_in(2);
-    if spoil {
-        plan.spoil(random);
-        proof.spoil(random);
-    }
-    let drafts = [plan.bump(), plan.cmp(), proof.draft()];
-    let form = random.index(3);
-    let data = if spoil { drafts[form].bytes.clone() } else { random_edit(random, &drafts[form]) };
-    match form {
-        0 => Claim::Bump(data, id),
-        1 => Claim::Cmp(data, id),
-        _ => Claim::Tsc(data),
     }
 }
 

@@ -115,9 +115,10 @@ fn published_bundle() {
     }
 }
 
-/// A transaction of 60 bytes, and one of 65.
+/// A transaction of 60 bytes, one of 65, and the fields of one of 64.
 const T60: &str = "01 00 00 00 01 [aa] 00 00 00 00 00 ff{4} 01 e8 03 00{6} 00 00{4}";
 const T65: &str = "01 00 00 00 01 [aa] 00 00 00 00 05 51{5} ff{4} 01 e8 03 00{6} 00 00{4}";
+const T64: &str = "01 00 00 00 01 [aa] 00 00 00 00 04 51{4} ff{4} 01 e8 03 00{6} 00 00{4}";
 
 #[test]
 fn examples() {
@@ -127,6 +128,7 @@ fn examples() {
     let judged = |text: &str, roots: &[u8], room| {
         let text = text.replace("HEAD", "01 00 be ef 01 00 01 02 00 02 I60 01 00 [bb]");
         let text = text.replace("I60", &hex).replace("T60", T60).replace("T65", T65);
+        let text = text.replace("T64", T64);
         check(&expand(&text), roots, room)
     };
     // 5, 12 and 22 on the count, in that order; then what follows it.
@@ -142,6 +144,8 @@ fn examples() {
     assert_eq!(judged("HEAD 02 T60 01 00 T60 00", &root, 2), refused(19, 1));
     assert_eq!(judged("HEAD 02 T60 01 00 T60 01 00", &root, 2), refused(19, 1));
     assert_eq!(judged("HEAD 02 T60 01 00 T65 01 00", &root, 2), refused(13, 1));
+    assert_eq!(judged("HEAD 02 T60 01 00 T64 01 00", &root, 2), refused(11, 139));
+    assert_eq!(judged("HEAD 02 T64 01 00 T60 01 00", &root, 2), refused(11, 77));
     assert_eq!(judged("HEAD 01 T60 02", &root, 2), refused(7, 137));
     assert_eq!(judged("HEAD 01 T60 01 01", &root, 2), refused(18, 138));
     assert_eq!(judged("HEAD 01 T60 00", &root, 2), refused(20, 0));

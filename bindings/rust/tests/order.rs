@@ -89,6 +89,12 @@ fn examples() {
     assert_eq!(check(&with("07"), 1, 0), refused(9, 60, 1));
     assert_eq!(check(&with("01 00 00 00 00"), 2, 0), refused(11, 64, 1));
     assert_eq!(check(&with("01 00 00 00 fd 01 00"), 2, 0), refused(3, 64, 1));
+    // 64 bytes, at the first of them; before 9.
+    let sized = "01 00 00 00 01 [aa] 00 00 00 00 04 51{4} ff{4} 01 e8 03 00{6} 00 00{4}";
+    assert_eq!(check(&with(sized), 2, 2), refused(11, 60, 1));
+    assert_eq!(check(&with(&format!("{sized} 00")), 2, 2), refused(11, 60, 1));
+    assert_eq!(check(&expand(&format!("{sized} {SMALL}")), 2, 0), refused(11, 0, 0));
+    assert_eq!(check_proposal(&with(sized), 2, &[7]), refused(11, 60, 1));
     // 5, 1, reading, 19, 22.
     assert_eq!(check(&[7], 257, 0), refused(5, 0, 0));
     assert_eq!(check(&vec![7; MAX_INPUT + 1], 257, 300), refused(5, 0, 0));
@@ -245,6 +251,10 @@ fn random_sets() {
         if random.one_in(10) && count > 0 {
             let again = plans[random.index(count)].clone();
             plans[random.index(count)] = again;
+        }
+        if random.one_in(10) && count > 0 {
+            let length = random.within(63..=65) as usize;
+            plans[random.index(count)].shrink(&mut random, length);
         }
         let draft = set::draft(&plans);
         let data = match random.one_in(4) {

@@ -182,6 +182,32 @@ fn examples() {
     assert_eq!(check([&small[..59], &small[59..], b"\x00"]), refused(9, 60));
 }
 
+/// 64 bytes are 11 at the first of them with the last, ahead of 9.
+#[test]
+fn node_sized() {
+    let raw = expand("01 00 00 00 01 [aa] 00 00 00 00 04 51{4} ff{4} 01 e8 03 00{6} 00 00{4}");
+    let mut both = Both::new();
+    assert_eq!(both.part(&raw[..63]), None);
+    assert_eq!(both.part(b""), None);
+    assert_eq!(both.part(&raw[63..]), Some(refused(11, 0)));
+    assert_eq!(both.part(b"\x00"), Some(refused(11, 0)));
+    assert_eq!(both.end(), refused(11, 0));
+    assert_eq!(check_cuts(&raw, 0..=64), refused(11, 0));
+    assert_eq!(check_cuts(&[&raw[..], b"\x00"].concat(), 0..=65), refused(11, 0));
+    assert_eq!(check_cuts(&raw[..63], 0..=63), refused(2, 60));
+    // Wherever the four bytes stand; and one byte more or less is a transaction.
+    let mut random = Random::of("parts of 64 bytes");
+    for _ in 0..50 {
+        let plan = Plan::node_sized(&mut random);
+        assert_eq!(check_cuts(&plan.draft().bytes, 0..=64), refused(11, 0));
+        for length in [63, 65, 128] {
+            let mut plan = plan.clone();
+            plan.shrink(&mut random, length);
+            assert!(check_cuts(&plan.draft().bytes, 0..=length).is_ok());
+        }
+    }
+}
+
 /// Every cut of small transactions, of every change of one field in them and of every truncation.
 #[test]
 fn damaged_fields() {
@@ -224,6 +250,10 @@ fn random_cuttings() {
     let mut content = [FILL; 30];
     for _ in 0..rounds() {
         let mut plan = Plan::random(&mut random);
+        if random.one_in(4) {
+            let length = random.within(60..=68) as usize;
+            plan.shrink(&mut random, length);
+        }
         if random.one_in(20) {
             let length = random.pick(&[6_000, 65_535, 65_536]);
             plan.outputs[0].1 = random.bytes(length);

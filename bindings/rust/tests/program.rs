@@ -10,7 +10,7 @@ use std::io::Write;
 use std::path::PathBuf;
 use std::process::{Command, Output, Stdio};
 
-use barrowtide::Reason;
+use barrowtide::{join, Hash, Reason};
 use published::without_sibling;
 use reference::hex::{decode, encode};
 
@@ -500,6 +500,81 @@ fn compare() {
     assert!(text.contains("\"name\":\"MISSING\",\"input\":\"second\""), "{text}");
     cannot_use(&both(&tsc, &[]), "usage: barrowtide compare");
     cannot_use(&both(&tsc, &["tsc", "no such file"]), "no such file");
+}
+
+/// Two proofs of different numbers of layers, with a transaction: an inner node of a block of four
+/// poses as a payment of 64 bytes, which are two of its ids.
+#[test]
+fn compare_with_transaction() {
+    let mut raw = [0; 64];
+    (raw[0], raw[4], raw[41], raw[50]) = (1, 1, 4, 1);
+    let ids: [[u8; 32]; 2] = [0, 32].map(|at| std::array::from_fn(|i| raw[at + i]));
+    let [left, right] = ids.map(Hash::from_stored);
+    let payment = join(&left, &right);
+    let beside = [[0x00][..].to_vec(), vec![0xcc; 32]].concat();
+    let id_at = |offset: u8, id: &Hash| [&[offset, 0x02][..], id.stored()].concat();
+    let short = [&[0, 1, 2][..], &id_at(0, &payment), &[1], &beside].concat();
+    let pair = [id_at(0, &left), id_at(1, &right)].concat();
+    let long = [&[0, 2, 2][..], &pair, &[1, 1], &beside].concat();
+    let (short, long) = (file("posing-short.bin", short), file("posing-long.bin", long));
+    let (payment, left) = (payment.to_string(), left.to_string());
+    let posing = file("posing.bin", raw);
+    raw[41] = 3;
+    let other = file("not-posing.bin", [&raw[..42], &raw[43..]].concat());
+    let one: [&str; 3] = ["bump", &short, &payment];
+    let two: [&str; 3] = ["bump", &long, &left];
+    let with = |first: &[&str], second: &[&str], raw: &str| {
+        let words = [&["compare"][..], first, second, &["--transaction", raw]].concat();
+        let (status, text, error) = run(&words);
+        assert_eq!(error, "");
+        (status, text)
+    };
+    // Both proofs stand: nothing in them shows that the id is an inner node's.
+    for proof in [one, two] {
+        assert_eq!(run(&[&["prove"][..], &proof].concat()).0, Some(0));
+    }
+    let sized = "the transaction that starts here has 64 bytes, as two nodes of a tree have, so that \
+                 a node of a block can pose as this payment. Don't accept it; ask the sender for one \
+                 of another size.\n";
+    let refused = format!("refused 11 BAD_TX in the transaction at byte 0: {sized}");
+    assert_eq!(with(&one, &two, &posing), (Some(1), refused.clone()));
+    assert_eq!(with(&two, &one, &posing), (Some(1), refused));
+    let unlike = "refused 23 UNLIKE: the two proofs and the transaction do not contradict each \
+                  other: the roots differ, both proofs have as many layers, the places do not lie \
+                  one above the other, or the transaction is not the one that the shorter proof \
+                  proves.\n";
+    assert_eq!(with(&one, &two, &other), (Some(1), unlike.to_string()));
+    assert_eq!(with(&one, &one, &other), (Some(1), unlike.to_string()));
+    let gap = ["bump", "004-bump-gap.hex", ID];
+    let missing = |which| {
+        format!("refused 14 MISSING in the {which}: the sender must add the node at layer 0, position 20.\n")
+    };
+    assert_eq!(with(&gap, &two, &posing), (Some(1), missing("first")));
+    assert_eq!(with(&one, &gap, &posing), (Some(1), missing("second")));
+    let (_, text) = with(&one, &two, &file("not-a-transaction.bin", &raw[..5]));
+    assert!(text.starts_with("refused 2 SHORT in the transaction at byte 5: "), "{text}");
+    let json = [&["--json", "compare"][..], &one, &two, &["--transaction", &posing]].concat();
+    let start = "{\"accepted\":false,\"refusal\":{\"number\":11,\"name\":\"BAD_TX\",\
+                 \"input\":\"transaction\",\"place\":0,";
+    assert!(run(&json).1.starts_with(start), "{}", run(&json).1);
+    // The same words wherever it is read.
+    let told = |words: &[&str]| run(words).1;
+    assert_eq!(
+        told(&["list", "transaction", &posing]),
+        format!("refused 11 BAD_TX at byte 0: {sized}")
+    );
+    let order = told(&["order", &other, &posing]);
+    assert_eq!(order, format!("refused 11 BAD_TX at byte 0 in transaction 1: {sized}"));
+    let raw = fs::read(&posing).expect("the file");
+    let beef = [&[1, 0, 0xbe, 0xef, 0, 1][..], &raw, &[0]].concat();
+    let (_, text, _) = run_on(&beef, &["list", "beef", "-"]);
+    assert_eq!(text, format!("refused 11 BAD_TX at byte 6: {sized}"));
+    let tsc = [&[5, 0, 64][..], &raw, &[0xbb; 32], &[0]].concat();
+    let (_, text, _) = run_on(&tsc, &["prove", "tsc", "-"]);
+    assert_eq!(text, format!("refused 11 BAD_TX at byte 3: {sized}"));
+    let words = [&["compare"][..], &one, &two].concat();
+    cannot_use(&[&words[..], &["--transaction"]].concat(), "usage: barrowtide compare");
+    cannot_use(&[&words[..], &["--transaction", "no such file"]].concat(), "no such file: ");
 }
 
 #[test]

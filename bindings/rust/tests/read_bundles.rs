@@ -69,6 +69,10 @@ fn refused<T>(number: u32, carried: u64) -> Result<T, Refusal> {
 /// A transaction of 60 bytes: one input and one output without scripts.
 const SMALL: &str = "01 00 00 00 01 [aa] 00 00 00 00 00 ff{4} 01 e8 03 00{6} 00 00{4}";
 
+/// The fields of a transaction of 64 bytes, and a transaction of 65.
+const SIXTY_FOUR: &str = "01 00 00 00 01 [aa] 00 00 00 00 04 51{4} ff{4} 01 e8 03 00{6} 00 00{4}";
+const SIXTY_FIVE: &str = "01 00 00 00 01 [aa] 00 00 00 00 05 51{5} ff{4} 01 e8 03 00{6} 00 00{4}";
+
 #[test]
 fn transaction_examples() {
     assert!(check_transaction(&expand(SMALL)).is_ok());
@@ -90,6 +94,39 @@ fn transaction_examples() {
         assert_eq!(check_transaction(&expand(example)), answer, "{example}");
     }
     assert_eq!(check_transaction(&expand(&format!("{SMALL} 00"))), refused(9, 60));
+}
+
+/// 64 bytes are 11 at the first of them, in every form: after the last field and 25, before 9 and
+/// whatever follows.
+#[test]
+fn node_sized() {
+    let with = |text: &str| {
+        let text = text.replace("T64", SIXTY_FOUR).replace("T65", SIXTY_FIVE);
+        expand(&text.replace("SMALL", SMALL))
+    };
+    let raw = with("T64");
+    assert_eq!(raw.len(), 64);
+    assert_eq!(check_transaction(&raw), refused(11, 0));
+    assert_eq!(check_transaction(&with("T64 00")), refused(11, 0));
+    assert_eq!(check_transaction(&raw[..63]), refused(2, 60));
+    assert!(check_transaction(&with("T65")).is_ok());
+    assert_eq!(check_tsc(&with("05 00 40 T64")), refused(11, 3));
+    assert_eq!(check_tsc(&with("05 00 41 T64 00")), refused(11, 3));
+    assert_eq!(check_tsc(&with("05 00 40 T64 [bb] 00")), refused(11, 3));
+    assert_eq!(check_tsc(&with("05 00 41 T65 [bb] 00")), Ok(Tsc { flags: 5, index: 0, nodes: 0 }));
+    assert_eq!(check_beef(&with("01 00 be ef 00 01 T64")), refused(11, 6));
+    assert_eq!(check_beef(&with("01 00 be ef 00 01 T64 02")), refused(11, 6));
+    assert_eq!(check_beef(&with("01 00 be ef 00 02 SMALL 00 T64 00")), refused(11, 67));
+    assert_eq!(
+        check_beef(&with("01 00 be ef 00 01 T65 00")),
+        Ok(Beef { bumps: 0, transactions: 1 })
+    );
+    // An amount over the limit is told before it, in a bundle alone.
+    let mut rich = raw;
+    rich[58] = 1;
+    assert_eq!(check_transaction(&rich), refused(11, 0));
+    let head = expand("01 00 be ef 00 01");
+    assert_eq!(check_beef(&[head, rich].concat()), refused(25, 6 + 51));
 }
 
 /// P14 among them: position 7, then 8, over 3 layers.
@@ -283,7 +320,13 @@ fn damaged_fields() {
 fn random_damage() {
     let mut random = Random::of("random_damage");
     for _ in 0..rounds() {
-        let draft = raw::Plan::random(&mut random).draft();
+        let mut plan = raw::Plan::random(&mut random);
+        if random.one_in(2) {
+            let length = random.within(60..=68) as usize;
+            plan.shrink(&mut random, length);
+        }
+        let draft = plan.draft();
+        let _ = check_transaction(&draft.bytes);
         for _ in 0..4 {
             let _ = check_transaction(&random_edit(&mut random, &draft));
         }

@@ -1,2 +1,3 @@
 mod PartsLaws
 mod OrderingLaws
+mod DepthsLaws

@@ -6,4 +6,5 @@ pub mod Answers
 pub mod AnswersLaws
 pub mod Choices
 pub mod ChoicesLaws
+pub mod Depths
 pub mod Parts

@@ -22,7 +22,7 @@ ghost use Rattle.barrowtide.specs.Answers.{ofHashed};
 pub extern "C" fn barrowtide_version() -> u32
     ensures { λ r. ⌜ r ≡ I.VERSION ⌝ }
 {
-    0 * 65536 + 5 * 256 + 0
+    0 * 65536 + 6 * 256 + 0
 }
 
 #[no_mangle]

@@ -1,17 +1,20 @@
-// Proving an id, the all-clients check, and comparing two proofs.
+// Proving an id, the all-clients check, and comparing two proofs, of one number of layers or of two.
 use super::blame::blame_of;
 use path::Form;
 use spv::Agreement;
 use spv::Comparison;
+use spv::DepthComparison;
 use spv::Outcome;
 use spv::Proved;
 ghost use mathlib.Core.Path.{_≡_};
 ghost use Rattle.spv.specs.Result.{Result};
 ghost use Rattle.spv.specs.Compare.{Proof, prove, compare};
+ghost use Rattle.spv.specs.Depth.{depth, secondOf};
 ghost use Rattle.spv.specs.Readings.{bumpReading, cmpReading, tscReading, reading};
 ghost use Rattle.spv.specs.Clients.{bumpClients};
 ghost use Rattle.spv.specs.Shapes.{provedOf};
 ghost use Rattle.barrowtide.specs.Interface as I;
+ghost use Rattle.barrowtide.specs.Depths.{isTransaction, firstString};
 ghost use Rattle.barrowtide.specs.Forms.{formOf};
 
 // Gives what a proof proves to the memory lent for it.
@@ -199,6 +202,58 @@ pub extern "C" fn barrowtide_compare(
             rejection.number as u32
         }
         Comparison::Pair => {
+            *first_string = t;
+            *second_string = u;
+            0
+        }
+    }
+}
+
+#[no_mangle]
+pub extern "C" fn barrowtide_compare_depths(
+    first_form: u32,
+    first: &[u8],
+    first_id: &[u8; 32],
+    second_form: u32,
+    second: &[u8],
+    second_id: &[u8; 32],
+    transaction: &[u8],
+    blame: &mut [u64; 3],
+    first_is_transaction: &mut u64,
+    first_string: &mut [u8; 64],
+    second_string: &mut [u8; 64],
+) -> u32
+    ensures { λ r. ⌜ (let v = depth (prove (reading (formOf «first_form») (now (first .entry)) (now («first_id» .entry)))) (prove (reading (formOf «second_form») (now (second .entry)) (now («second_id» .entry)))) (now (transaction .entry)) in
+        (r ≡ I.refusal v)
+        × (now (blame .exit) ≡ I.blame v (now (blame .entry)))
+        × (now («first_is_transaction» .exit) ≡ I.taken isTransaction v (now («first_is_transaction» .entry)))
+        × (now («first_string» .exit) ≡ firstString v (now («first_string» .entry)))
+        × (now («second_string» .exit) ≡ I.taken secondOf v (now («second_string» .entry)))) ⌝ }
+{
+    let compared = spv::compare_depths(
+        first,
+        form_of(first_form),
+        *first_id,
+        second,
+        form_of(second_form),
+        *second_id,
+        transaction,
+    );
+    let comparison = compared.comparison;
+    let t = compared.first;
+    let u = compared.second;
+    match comparison {
+        DepthComparison::Refused(rejection) => {
+            *blame = blame_of(rejection);
+            rejection.number as u32
+        }
+        DepthComparison::Transaction => {
+            *first_is_transaction = 1;
+            *second_string = u;
+            0
+        }
+        DepthComparison::Strings => {
+            *first_is_transaction = 0;
             *first_string = t;
             *second_string = u;
             0

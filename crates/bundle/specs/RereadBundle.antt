@@ -15,8 +15,8 @@ use Rattle.format.specs.Bytes.{hashAt}
 use Rattle.format.specs.Field.{bytes, byte, le4, le8, number, varint}
 use Rattle.format.specs.Level.{holds, offsetField, flagAllowed, flagField, kindField, carriedField, leafField, andOffset, levelField, levelInTurn, nextTurn, levelFields}
 use Rattle.format.specs.Bump.{Bump, blockField, heightField, bumpField}
-use Rattle.format.specs.Transaction.{Transaction, scriptField, inputField, takes, outputField, outputsField, someField, listField, txFieldBy}
-use Rattle.format.specs.TransactionLaws.{TxRead, tx-told}
+use Rattle.format.specs.Transaction.{Transaction, scriptField, inputField, takes, outputField, outputsField, someField, listField, fieldsBy, txFieldBy}
+use Rattle.format.specs.TransactionLaws.{TxRead, tx-told, tx-fields, tx-size, tx-read}
 use Rattle.format.specs.Beef.{Entry, bumpNumberField, anchorField, entryField}
 use Rattle.format.specs.Refusals.{OVER-LIMIT, BAD-HEIGHT, BAD-OFFSET, BAD-FLAG, REPEATED, BAD-TX, BAD-INDEX, BAD-AMOUNT, MAX-LEAVES, MAX-BLOCK, MAX-HEIGHT}
 use Rattle.spv.specs.Climb.{Sibling, value}
@@ -141,8 +141,8 @@ module _ {u t : List ℕ} {base : ℕ} (stands : StandsIn u t base) where
   abbrev movedOf : List ℕ → Transaction → Moved
   movedOf s x = (map (outpointOf s) (x .inputs), map (λ y. y) (x .outputs))
 
-  moves-again : (limited : Bool) → Same (txFieldBy limited) (txFieldBy limited) (movedOf u) (movedOf t)
-  unfolding txFieldBy
+  moves-again : (limited : Bool) → Same (fieldsBy limited) (fieldsBy limited) (movedOf u) (movedOf t)
+  unfolding fieldsBy
   moves-again limited =
       then-again (skip-again 4) (λ p q _. then-again (list-again (times inputField) (map (outpointOf u)) (map (outpointOf t)) spends-again) (λ i j e. then-again (list-again (outputsField limited) (map (λ x. x)) (map (λ x. x)) (outputs-again limited))
       (λ o w f. then-again (skip-again 4) (λ _ _ _. then-again here-again
@@ -164,8 +164,9 @@ module _ {u t : List ℕ} {base : ℕ} (stands : StandsIn u t base) where
 
       moved : (at q : ℕ) (a : Transaction) → txFieldBy limited u at ≡ got a q → (b : Transaction) × (txFieldBy limited t (base + at) ≡ got b (base + q)) × (txSaid u a ≡ txSaid t b)
       moved at q a e =
-          let x = moves-again limited .again at q a e in
-          (x .0, x .1, run a (x .0) at q (tx-told u at e) (tx-told t (base + at) (x .1)) (ap (λ (z : Moved). z .0) (x .2)) (sym (map-id (a .outputs)) ∙ ap (λ (z : Moved). z .1) (x .2) ∙ map-id (x .0 .outputs)))
+          let x = moves-again limited .again at q a (tx-fields limited u at e .0) in
+          let y = tx-read limited t (base + at) (x .1) (λ z. tx-size limited u at e (omega arith)) in
+          (x .0, y, run a (x .0) at q (tx-told u at e) (tx-told t (base + at) y) (ap (λ (z : Moved). z .0) (x .2)) (sym (map-id (a .outputs)) ∙ ap (λ (z : Moved). z .1) (x .2) ∙ map-id (x .0 .outputs)))
 
   -- ---- a bundle's transaction
 

@@ -42,7 +42,7 @@ EXTRA = 9
 abbrev pub BAD-VERSION : ℕ
 BAD-VERSION = 10
 
--- no inputs or no outputs; TSC transaction not exactly its stated length
+-- no inputs or no outputs; a transaction of 64 bytes; TSC transaction not exactly its stated length
 abbrev pub BAD-TX : ℕ
 BAD-TX = 11
 

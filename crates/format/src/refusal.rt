@@ -36,7 +36,7 @@ pub const EXTRA: u8 = 9;
 // four bytes present, not BEEF's
 pub const BAD_VERSION: u8 = 10;
 
-// no inputs or no outputs; TSC transaction not exactly its stated length
+// no inputs or no outputs; a transaction of 64 bytes; TSC transaction not exactly its stated length
 pub const BAD_TX: u8 = 11;
 
 // BEEF with no transaction

@@ -6,7 +6,7 @@ use lib.ListN.{replicate}
 use Rattle.format.specs.Parse.{each, many}
 use Rattle.format.specs.Bytes.{same}
 use Rattle.format.specs.Field.{bytes, byte, varint}
-use Rattle.format.specs.Transaction.{scriptField, inputField, takes, outputField, outputsField, someField, listField, txFieldBy}
+use Rattle.format.specs.Transaction.{scriptField, inputField, takes, outputField, outputsField, someField, listField, fieldsBy, txFieldBy}
 use Rattle.spv.specs.Result.{carrying}
 use Rattle.spv.specs.Hashes.{among}
 use Rattle.order.specs.Listed.{listed}
@@ -72,18 +72,23 @@ raw parent =
 
 -- the bytes end between two: the next one's number
 ends-between : orderSet (raw 7) 2 2 ≡ refused (carrying 2 60) 1
-unfolding orderSet readSet readFrom before txFieldBy listField scriptField someField inputField takes outputField outputsField varint bytes byte many each
+unfolding orderSet readSet readFrom before fieldsBy txFieldBy listField scriptField someField inputField takes outputField outputsField varint bytes byte many each
 ends-between = refl
 
 -- 9: the count
 bytes-left : orderSet (raw 7 ++ (7 ∷ [])) 1 0 ≡ refused (carrying 9 60) 1
-unfolding orderSet readSet readFrom before txFieldBy listField scriptField someField inputField takes outputField outputsField varint bytes byte many each
+unfolding orderSet readSet readFrom before fieldsBy txFieldBy listField scriptField someField inputField takes outputField outputsField varint bytes byte many each
 bytes-left = refl
 
 -- a fault in the second: no inputs
 second-fault : checkSet (raw 7 ++ (1 ∷ 0 ∷ 0 ∷ 0 ∷ 0 ∷ [])) 2 [] ≡ refused (carrying 11 64) 1
-unfolding checkSet readSet readFrom before txFieldBy listField scriptField someField inputField takes outputField outputsField varint bytes byte many each
+unfolding checkSet readSet readFrom before fieldsBy txFieldBy listField scriptField someField inputField takes outputField outputsField varint bytes byte many each
 second-fault = refl
+
+-- 64 bytes (02, Item 13), at its first
+node-sized : checkSet (raw 7 ++ (1 ∷ 0 ∷ 0 ∷ 0 ∷ 1 ∷ (replicate 36 0 ++ (4 ∷ replicate 8 0 ++ (1 ∷ replicate 13 0))))) 2 [] ≡ refused (carrying 11 60) 1
+unfolding checkSet readSet readFrom before fieldsBy txFieldBy listField scriptField someField inputField takes outputField outputsField varint bytes byte many each
+node-sized = refl
 
 -- 5 before 1 and reading
 too-many : orderSet (7 ∷ []) 257 0 ≡ refusing 5

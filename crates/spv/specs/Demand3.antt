@@ -54,7 +54,7 @@ unfolding WholeReading
 read-whole (got a q) f h = h a
 read-whole (bad number place) f h = tt
 
-reading-whole : (form : Form) (s id : List ℕ) → WholeReading (reading form s id)
+pub reading-whole : (form : Form) (s id : List ℕ) → WholeReading (reading form s id)
 unfolding reading bumpReading cmpReading tscReading WholeReading nodeSiblings
 reading-whole Form.Bump s id = read-whole (bumpWhole s) _ (λ b. levels-whole s id (b .height) (b .levels))
 reading-whole Form.Cmp s id = read-whole (cmpWhole s) _ (λ p. levels-whole s id (p .height) (p .levels))

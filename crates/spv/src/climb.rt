@@ -111,11 +111,10 @@ pub(crate) fn layer_of(s: &[u8], path: Path, layer: usize, j: u64, c: [u8; 32]) 
     fold(node, o, c)
 }
 
-// The climb from id at position i of a path.
-pub fn climb(s: &[u8], path: Path, i: u64, id: [u8; 32]) -> Climbed
-    ensures { λ r. ⌜ r ≡ climbedOf (endOf id (ascend (pathSiblings (now (s .entry)) path) 0 (path .layers) i id)) ⌝ }
+// The climb from id at position i of a path, over its lowest h layers.
+pub(crate) fn climb_layers(s: &[u8], path: Path, h: usize, i: u64, id: [u8; 32]) -> Climbed
+    ensures { λ r. ⌜ r ≡ climbedOf (endOf id (ascend (pathSiblings (now (s .entry)) path) 0 h i id)) ⌝ }
 {
-    let h = path.layers;
     let mut k: usize = 0;
     let mut j = i;
     let mut c = id;
@@ -149,4 +148,11 @@ pub fn climb(s: &[u8], path: Path, i: u64, id: [u8; 32]) -> Climbed
         end: End::Root,
         root: c,
     }
+}
+
+// The climb from id at position i of a path.
+pub fn climb(s: &[u8], path: Path, i: u64, id: [u8; 32]) -> Climbed
+    ensures { λ r. ⌜ r ≡ climbedOf (endOf id (ascend (pathSiblings (now (s .entry)) path) 0 (path .layers) i id)) ⌝ }
+{
+    climb_layers(s, path, path.layers, i, id)
 }

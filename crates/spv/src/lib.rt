@@ -1,7 +1,8 @@
-// Merkle root computation over the published forms of Merkle proof: proving an id, the all-clients check and comparing two proofs.
+// Merkle root computation over the published forms of Merkle proof: proving an id, the all-clients check and comparing two proofs, of one number of layers or of two.
 mod clients;
 mod climb;
 mod comparing;
+mod depth;
 mod kept;
 mod marks;
 mod node;
@@ -18,6 +19,9 @@ pub use climb::sibling_position;
 pub use comparing::Compared;
 pub use comparing::Comparison;
 pub use comparing::compare;
+pub use depth::DepthCompared;
+pub use depth::DepthComparison;
+pub use depth::compare_depths;
 pub use kept::SLOTS;
 pub use kept::SLOTS_ROOM;
 pub use prove::Outcome;

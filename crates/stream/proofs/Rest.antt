@@ -26,8 +26,12 @@ countsOf t = record { size = t .end; inputs = length (t .inputs); outputs = leng
 unfoldable pub endRest : ℕ → ℕ → Reader Counts
 endRest i o s at = pick (ltb at (length s)) (bad EXTRA at) (got (record { size = at; inputs = i; outputs = o }) at)
 
+-- 64 bytes are refused at the first
+unfoldable pub sizeRest : ℕ → ℕ → Reader Counts
+sizeRest i o s at = pick (eqb at 64) (bad BAD-TX 0) (endRest i o s at)
+
 unfoldable pub lockTimeRest : ℕ → ℕ → Reader Counts
-lockTimeRest i o = bytes 4 >>= (λ _. endRest i o)
+lockTimeRest i o = bytes 4 >>= (λ _. sizeRest i o)
 
 -- an output of any amount, and n of them more
 abbrev pub anyOutput : Reader ℕ
@@ -86,7 +90,7 @@ thenAt Stage.OutputCount start i o left v = λ s at. pick (leb 1 v) (outputsRest
 thenAt Stage.Amount start i o left v = outputLengthRest i o (left - 1)
 thenAt Stage.OutputLength start i o left v = outputScriptRest i o (left - 1) v
 thenAt Stage.OutputScript start i o left v = outputsRest i o (left - 1)
-thenAt Stage.LockTime start i o left v = endRest i o
+thenAt Stage.LockTime start i o left v = sizeRest i o
 thenAt Stage.End start i o left v = endRest i o
 
 -- what is left of a field that is no VarInt

@@ -1,10 +1,10 @@
 -- Laws of what is left to read: from a transaction's first byte it is the reading of the transaction, and a byte changes nothing of it.
 use mathlib.Core.Path.{_≡_, refl, sym, ap, _∙_}
 use mathlib.Core.List.{List, _∷_}
-use mathlib.Core.Bool.{Bool, true, false, true≢false}
+use mathlib.Core.Bool.{Bool, true, false, not, true≢false}
 use Prim.Native.Nat.{ℕ, zero, suc, _+_, _-_, _*_, _≤_, _<_}
 use native.Mathlib.Omega.{arith}
-use native.Mathlib.Nat.{add-zero}
+use native.Mathlib.Nat.{add-zero, sub-zero}
 use lib.ListN.{length, getD}
 use lib.Dec.{leb, ltb, eqb}
 use borrow.Author.Tests.{lt-ltb, le-ltb, le-leb, lt-leb, leb-true, leb-false, ltb-true, ltb-false}
@@ -12,13 +12,15 @@ use Rattle.format.specs.Parse.{Parse, Reader, pick, pure, onward, each, many, t
 use Rattle.format.specs.ParseLaws.{many-length}
 use Rattle.format.specs.Field.{bytes, number, varint, le2, le4, le8}
 use Rattle.format.specs.FieldLaws.{varint-none, varint-announced, bytes-here}
-use Rattle.format.specs.Transaction.{Listed, scriptField, inputField, takes, outputField, outputsField, someField, listField, txFieldBy, txField}
+use Rattle.format.specs.Span.{bytes-told}
+use Rattle.format.specs.declared.tx.Input.{Input}
+use Rattle.format.specs.Transaction.{Listed, Transaction, scriptField, inputField, takes, outputField, outputsField, someField, listField, fieldsBy, txFieldBy, txField}
 use Rattle.format.specs.Refusals.{SHORT, LONG-VARINT, EXTRA, BAD-TX}
 use Rattle.stream.specs.declared.progress.Stage.{Stage}
 use Rattle.stream.specs.declared.progress.Progress.{Progress}
 use Rattle.stream.specs.declared.progress.Fed.{Fed}
-use Rattle.stream.specs.Progress.{isNumber, isEnd, begin, onePassed, countInputs, countOutputs, afterInput, afterOutput, nextAt, next, moved, passed, shiftIn, widthOf, scaled, least, numbered, announce, shifted, firstDigit, laterDigit, digit, taken, fed}
-use Rattle.stream.proofs.Rest.{Counts, countsOf, endRest, lockTimeRest, anyOutput, outputsRest, outputScriptRest, outputLengthRest, amountRest, outputCountRest, inputsRest, sequenceRest, inputScriptRest, inputLengthRest, outputNumberRest, parentRest, inputCountRest, versionRest, thenAt, runLeft, shifting, shortest, digitsLeft, firstLeft, numberLeft, rest, restOf, ending}
+use Rattle.stream.specs.Progress.{isNumber, isEnd, begin, onePassed, countInputs, countOutputs, afterInput, afterOutput, afterLockTime, nextAt, next, moved, passed, shiftIn, widthOf, scaled, least, numbered, announce, shifted, firstDigit, laterDigit, digit, taken, fed}
+use Rattle.stream.proofs.Rest.{Counts, countsOf, endRest, sizeRest, lockTimeRest, anyOutput, outputsRest, outputScriptRest, outputLengthRest, amountRest, outputCountRest, inputsRest, sequenceRest, inputScriptRest, inputLengthRest, outputNumberRest, parentRest, inputCountRest, versionRest, thenAt, runLeft, shifting, shortest, digitsLeft, firstLeft, numberLeft, rest, restOf, ending}
 
 -- ---- parses one after the other
 
@@ -105,13 +107,29 @@ list-then {A = A} list item s at f g same h =
     onward-assoc (list n s q) _ f ∙ ap (λ (p : Parse (List A)). onward p (λ l r. f (record { at = q; items = l }) r)) (same n q) ∙ onward-told (times item n s q) _ _ (λ l r e.
     h (record { at = q; items = l }) r ∙ ap (λ (k : ℕ). g k r) (many-length {S = Unit {0}} (λ _. item) (λ u _. u) n tt s q e)))
 
+-- the test on the size, and nothing after it
+size-then : (s : List ℕ) (ins : Listed Input) (outs : Listed ℕ) (start at : ℕ) → start ≡ 0
+    → onward (pick (not (eqb (at - start) 64)) (got (record { start = start; end = at; inputsAt = ins .at; inputs = ins .items; outputsAt = outs .at; outputs = outs .items }) at) (bad BAD-TX 0))
+    (λ t next. onward (pick (ltb next (length s)) (bad EXTRA next) (got t next)) (λ t r. got (countsOf t) r))
+    ≡ sizeRest (length (ins .items)) (length (outs .items)) s at
+unfolding sizeRest endRest
+size-then s ins outs start at e = rw (e, sub-zero) (go (eqb at 64))
+  where
+    t : Transaction
+    t = record { start = 0; end = at; inputsAt = ins .at; inputs = ins .items; outputsAt = outs .at; outputs = outs .items }
+
+    go : (b : Bool) → onward (pick (not b) (got t at) (bad BAD-TX 0)) (λ t next. onward (pick (ltb next (length s)) (bad EXTRA next) (got t next)) (λ t r. got (countsOf t) r))
+        ≡ pick b (bad BAD-TX 0) (endRest (length (ins .items)) (length (outs .items)) s at)
+    go true = refl
+    go false = onward-pick (ltb at (length s)) _ _ _
+
 pub whole-rest : (s : List ℕ) → each countsOf (ended txField s 0) ≡ versionRest s 0
-unfolding txFieldBy outputsField versionRest inputCountRest inputsRest outputCountRest outputsRest lockTimeRest endRest each
+unfolding fieldsBy txFieldBy outputsField versionRest inputCountRest inputsRest outputCountRest outputsRest lockTimeRest each
 whole-rest s =
-    onward-assoc (txField s 0) _ _ ∙ onward-assoc (bytes 4 s 0) _ _ ∙ onward-same (bytes 4 s 0) _ _ (λ start q.
+    onward-assoc (txField s 0) _ _ ∙ onward-assoc (fieldsBy false s 0) _ _ ∙ onward-assoc (bytes 4 s 0) _ _ ∙ onward-told (bytes 4 s 0) _ _ (λ start q first.
     onward-assoc (listField (times inputField) s q) _ _ ∙ list-then (times inputField) inputField s q _ (λ i r. outputCountRest i s r) (λ n u. refl) (λ ins r.
     onward-assoc (listField (outputsField false) s r) _ _ ∙ list-then (outputsField false) anyOutput s r _ (λ o u. lockTimeRest (length (ins .items)) o s u) (λ n u. outputs-any s n 0 u) (λ outs u.
-    onward-assoc (bytes 4 s u) _ _ ∙ onward-same (bytes 4 s u) _ _ (λ a w. onward-pick (ltb w (length s)) _ _ _))))
+    onward-assoc (bytes 4 s u) _ _ ∙ onward-same (bytes 4 s u) _ _ (λ a w. size-then s ins outs start w (bytes-told 4 s 0 first .place-is)))))
 
 -- ---- a VarInt by its bytes
 
@@ -270,6 +288,14 @@ module _ (s : List ℕ) where
   unfolding begin rest
   from-end f = refl
 
+  after-lock-time : (f : Progress) → restOf (afterLockTime f) s ≡ sizeRest (f .inputs) (f .outputs) s (f .at)
+  unfolding afterLockTime sizeRest
+  after-lock-time f = go (eqb (f .at) 64)
+    where
+      go : (t : Bool) → restOf (pick t (Fed.Refused BAD-TX 0) (Fed.On (begin Stage.End 0 f))) s ≡ pick t (bad BAD-TX 0) (endRest (f .inputs) (f .outputs) s (f .at))
+      go true = refl
+      go false = from-end f
+
   after-input : (f : Progress) → restOf (afterInput f) s ≡ inputsRest (f .inputs) (f .left - 1) s (f .at)
   unfolding afterInput onePassed
   after-input f = go (leb (f .left) 1) refl
@@ -324,7 +350,7 @@ module _ (s : List ℕ) where
       go true e = from-output-script f v
       go false e = rw (zero-is v e) (after-output f ∙ nothing-rest (λ q. outputsRest (f .inputs) (f .outputs) (f .left - 1) s q) (f .at) h)
   next-rest Stage.OutputScript f v h = after-output f
-  next-rest Stage.LockTime f v h = from-end f
+  next-rest Stage.LockTime f v h = after-lock-time f
   next-rest Stage.End f v h = from-end f
 
   -- ---- a byte

@@ -21,7 +21,7 @@ use Rattle.stream.specs.declared.progress.Stage.{Stage}
 use Rattle.stream.specs.declared.progress.Progress.{Progress}
 use Rattle.stream.specs.declared.progress.Fed.{Fed}
 use Rattle.stream.specs.Parts.{tooLong, reading, Said, more, refused, received, partSays, endSays}
-use Rattle.stream.specs.Progress.{isNumber, isEnd, first, begin, onePassed, countInputs, countOutputs, afterInput, afterOutput, nextAt, next, moved, passed, shiftIn, scaled, least, numbered, announce, shifted, firstDigit, laterDigit, digit, taken, fed, feed, run}
+use Rattle.stream.specs.Progress.{isNumber, isEnd, first, begin, onePassed, countInputs, countOutputs, afterInput, afterOutput, afterLockTime, nextAt, next, moved, passed, shiftIn, scaled, least, numbered, announce, shifted, firstDigit, laterDigit, digit, taken, fed, feed, run}
 use Rattle.stream.proofs.Rest.{Counts, countsOf, versionRest, thenAt, runLeft, rest, restOf, ending}
 use Rattle.stream.proofs.RestLaws.{whole-rest, fed-rest, rest-done}
 use Rattle.format.specs.Field.{bytes}
@@ -48,6 +48,10 @@ fair-output : (f : Progress) → Fair (afterOutput f) (f .at)
 unfolding afterOutput onePassed
 fair-output f = fair-pick (leb (f .left) 1) _ _ (f .at) (λ _. fair-begin Stage.LockTime 4 f _ refl (omega arith)) (λ _. fair-begin Stage.Amount 8 (onePassed f) _ refl (omega arith))
 
+fair-lock-time : (f : Progress) → Fair (afterLockTime f) (f .at)
+unfolding afterLockTime begin
+fair-lock-time f = fair-pick (eqb (f .at) 64) _ _ (f .at) (λ _. refl) (λ _. (refl, λ h. absurd (true≢false h)))
+
 fair-next : (stage : Stage) (f : Progress) (v : ℕ) → Fair (nextAt stage f v) (f .at)
 unfolding nextAt begin countInputs countOutputs
 fair-next Stage.Version f v = (refl, λ _. omega arith)
@@ -61,7 +65,7 @@ fair-next Stage.OutputCount f v = fair-pick (leb 1 v) _ _ (f .at) (λ _. (refl, 
 fair-next Stage.Amount f v = (refl, λ _. omega arith)
 fair-next Stage.OutputLength f v = fair-pick (leb 1 v) _ _ (f .at) (λ h. (refl, λ _. leb-true 1 v h)) (λ _. fair-output f)
 fair-next Stage.OutputScript f v = fair-output f
-fair-next Stage.LockTime f v = (refl, λ h. absurd (true≢false h))
+fair-next Stage.LockTime f v = fair-lock-time f
 fair-next Stage.End f v = (refl, λ h. absurd (true≢false h))
 
 fair-digit : (f : Progress) (x : ℕ) → Fair (digit f x) (f .at + 1)

@@ -13,6 +13,9 @@ ghost use Rattle.stream.specs.Progress.{Leaps};
 // The most bytes of a transaction.
 pub const MAX_PARTS: u64 = 4_294_967_295;
 
+// The size of two nodes.
+const NODE_PAIR: u64 = 64;
+
 // The fields in their order.
 pub enum Stage {
     Version,
@@ -156,6 +159,16 @@ fn after_output(f: Progress) -> Fed
     Fed::On(begin(Stage::Amount, 8, one_passed(f)))
 }
 
+// A transaction of 64 bytes can be read as a pair of nodes, and is refused.
+fn after_lock_time(f: Progress) -> Fed
+    ensures { λ r. ⌜ r ≡ P.afterLockTime f ⌝ }
+{
+    if f.at == NODE_PAIR {
+        return Fed::Refused(BAD_TX, 0);
+    }
+    Fed::On(begin(Stage::End, 0, f))
+}
+
 fn after_input_count(f: Progress, v: u64) -> Fed
     ensures { λ r. ⌜ r ≡ P.nextAt Stage.InputCount f v ⌝ }
 {
@@ -209,7 +222,7 @@ fn next(f: Progress, v: u64) -> Fed
         Stage::Amount => Fed::On(begin(Stage::OutputLength, 1, f)),
         Stage::OutputLength => after_output_length(f, v),
         Stage::OutputScript => after_output(f),
-        Stage::LockTime => Fed::On(begin(Stage::End, 0, f)),
+        Stage::LockTime => after_lock_time(f),
         Stage::End => Fed::On(begin(Stage::End, 0, f)),
     }
 }

@@ -1,7 +1,10 @@
-//! Proving an id by each form.
+//! Proving an id by each form, and comparing two proofs of different numbers of layers.
 
+use reference::compare::Claim;
+use reference::depth::compare_depths;
 use reference::generate::path::{Leaf, Plan};
 use reference::generate::random::Random;
+use reference::generate::transaction;
 use reference::generate::tree::Tree;
 use reference::generate::tsc;
 use reference::prove;
@@ -26,19 +29,48 @@ pub fn run() {
         "{:<20} {:>12} {:>12} {:>6} {:>22}",
         "", "library", "reference", "ratio", "hashing, of all time"
     );
-    let table = |name, library: Subject, reference: Subject| {
+    let table = |name, joins: f64, library: Subject, reference: Subject| {
         let times = seconds(vec![library, reference, subject(|| join(&id, &id))]);
         println!(
             "{name:<20} {:>10.0}/s {:>10.0}/s {:>6.2} {:>20.0} %",
             1.0 / times[0],
             1.0 / times[1],
             times[0] / times[1],
-            100.0 * 10.0 * times[2] / times[0]
+            100.0 * joins * times[2] / times[0]
         );
     };
-    table("by BUMP", subject(|| prove_bump(&bump, &id)), subject(|| prove::by_bump(&bump, &id)));
-    table("by CMP", subject(|| prove_cmp(&cmp, &id)), subject(|| prove::by_cmp(&cmp, &id)));
-    table("by TSC", subject(|| barrowtide::prove_tsc(&proof)), subject(|| prove::by_tsc(&proof)));
+    table(
+        "by BUMP",
+        10.0,
+        subject(|| prove_bump(&bump, &id)),
+        subject(|| prove::by_bump(&bump, &id)),
+    );
+    table("by CMP", 10.0, subject(|| prove_cmp(&cmp, &id)), subject(|| prove::by_cmp(&cmp, &id)));
+    let (by_tsc, by_reference) = (|| barrowtide::prove_tsc(&proof), || prove::by_tsc(&proof));
+    table("by TSC", 10.0, subject(by_tsc), subject(by_reference));
+    // The same id, and the node above it with a layer less. A transaction of 226 bytes is hashed in
+    // five compressions, a pair of nodes in three.
+    let upper = Tree::new((0..512).map(|place| tree.hash(1, place)).collect());
+    let short = Plan::of(&upper, &[position / 2]).bump().bytes;
+    let node = upper.ids()[position as usize / 2];
+    let raw = transaction::Plan {
+        version: 1,
+        inputs: vec![([7; 32], 0, vec![0; 107], 0)],
+        outputs: vec![(1, vec![0; 25]), (1, vec![0; 25])],
+        lock_time: 0,
+    };
+    let raw = raw.draft().bytes;
+    assert_eq!(raw.len(), 226);
+    let two = (Claim::Bump(short.clone(), node), Claim::Bump(bump.clone(), id));
+    let bump_of =
+        |data, id| barrowtide::Claim::Bump { data, id: barrowtide::Hash::from_stored(id) };
+    let (one, other) = (bump_of(&short, node), bump_of(&bump, id));
+    table(
+        "compare 9 and 10",
+        9.0 + 10.0 + 5.0 / 3.0,
+        subject(|| barrowtide::compare_depths(one, other, &raw)),
+        subject(|| compare_depths(&two.0, &two.1, &raw)),
+    );
     worst_cases(&tree);
 }
 

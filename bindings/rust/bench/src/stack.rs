@@ -67,6 +67,7 @@ pub fn run() {
     row(c"check_clients", &bump, &[]);
     row(c"prove_page", &bump, &[id; 256].concat());
     row(c"compare", &bump, &id);
+    row(c"compare_depths", &bump, &id);
     row(c"differences", &bump, &[]);
     row(c"shorter", &bump, &id);
     row(c"judge_beef", &beef, &roots);

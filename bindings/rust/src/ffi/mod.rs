@@ -32,7 +32,7 @@ pub type Stored = [u8; 32];
 
 pub use blame::Blame;
 pub use bundle::{read_beef, read_transaction, read_tsc};
-pub use compare::{compare, Lent};
+pub use compare::{compare, compare_depths, Lent};
 pub use convert::{bump_to_tsc, tsc_to_bump};
 pub use difference::{differences, shorter};
 pub use hash::{join, sha256d};

@@ -68,6 +68,21 @@ int main(void)
                &blame);
     print_call("no BUMP to turn", barrowtide_bump_to_tsc(NULL, 0, id, NULL, 0, &blame, &written),
                &blame);
+    /* No proofs; and two of no layers, which are as many, with a transaction. */
+    static const uint8_t alone[67] = {0};
+    uint64_t first_is_transaction = 7;
+    uint8_t first_string[64], second_string[64];
+    print_call("no proofs",
+               barrowtide_compare_depths(BARROWTIDE_TSC, NULL, 0, id, BARROWTIDE_TSC, NULL, 0, id,
+                                         NULL, 0, &blame, &first_is_transaction, first_string,
+                                         second_string),
+               &blame);
+    print_call("as many layers",
+               barrowtide_compare_depths(BARROWTIDE_TSC, alone, sizeof alone, id, BARROWTIDE_TSC,
+                                         alone, sizeof alone, id, one, sizeof one, &blame,
+                                         &first_is_transaction, first_string, second_string),
+               &blame);
+    printf("first is transaction %" PRIu64 "\n", first_is_transaction);
     /* A version, then an input count of 0, in two parts; then nothing at all. */
     barrowtide_parts state;
     uint64_t length = 7, inputs = 7, outputs = 7;

@@ -1,5 +1,6 @@
 //! The commands: each makes one call of the library and says what it answered.
 
+use std::borrow::Cow;
 use std::ffi::{OsStr, OsString};
 
 use barrowtide::{
@@ -84,7 +85,7 @@ struct Given {
 
 impl Given {
     /// Takes `bump FILE ID`, `cmp FILE ID` or `tsc FILE` from the front.
-    fn take(words: &[OsString]) -> Result<(Self, &[OsString]), Failure> {
+    fn take<'a, 'b>(words: &'a [&'b OsStr]) -> Result<(Self, &'a [&'b OsStr]), Failure> {
         let [form, path, rest @ ..] = words else { return Err(Failure::Misused) };
         let form = match form.to_str() {
             Some("bump") => Form::Bump,
@@ -118,7 +119,8 @@ impl Given {
 }
 
 pub fn prove(words: &[OsString]) -> Answer {
-    let (given, []) = Given::take(words)? else { return Err(Failure::Misused) };
+    let words: Vec<&OsStr> = words.iter().map(OsString::as_os_str).collect();
+    let (given, []) = Given::take(&words)? else { return Err(Failure::Misused) };
     let proof = given.prove().map_err(refused(Asked::Prove(given.form), &given.data))?;
     let Proof { id, position, layers, root } = proof;
     let text = format!(
@@ -273,15 +275,15 @@ fn list_beef(data: &[u8]) -> Answer {
 }
 
 pub fn compare(words: &[OsString]) -> Answer {
-    let (first, rest) = Given::take(words)?;
+    let (transaction, words) = input::option("--transaction", words)?;
+    let (first, rest) = Given::take(&words)?;
     let (second, []) = Given::take(rest)? else { return Err(Failure::Misused) };
+    if let Some(path) = transaction {
+        return compare_depths(&first, &second, &input::bytes(path)?);
+    }
     let strings = barrowtide::compare(first.claim(), second.claim()).map_err(|refusal| {
-        let of = |given: &Given| Refused::of(&given.data, refusal, Asked::Prove(given.form));
-        Failure::Refused(match refusal.reason {
-            Reason::Unlike | Reason::SameId => Refused::new(refusal, Asked::Compare),
-            _ if first.prove().is_err() => of(&first).which("first"),
-            _ => of(&second).which("second"),
-        })
+        let asked = Refused::new(refusal, Asked::Compare);
+        Failure::Refused(of_proofs(&first, &second, refusal).unwrap_or(asked))
     })?;
     let (first, second) = (hex::encode(&strings.first), hex::encode(&strings.second));
     let text = format!(
@@ -289,6 +291,41 @@ pub fn compare(words: &[OsString]) -> Answer {
          with one double SHA-256\nfirst   {first}\nsecond  {second}\n"
     );
     Ok(Told::text(text, vec![("first", first.into()), ("second", second.into())]))
+}
+
+/// A refusal of the first of two proofs, or else of the second.
+fn of_proofs(first: &Given, second: &Given, refusal: Refusal) -> Option<Refused> {
+    let of = |given: &Given| Refused::of(&given.data, refusal, Asked::Prove(given.form));
+    if first.prove().is_err() {
+        return Some(of(first).which("first"));
+    }
+    second.prove().is_err().then(|| of(second).which("second"))
+}
+
+fn compare_depths(first: &Given, second: &Given, transaction: &[u8]) -> Answer {
+    let strings = barrowtide::compare_depths(first.claim(), second.claim(), transaction);
+    let strings = strings.map_err(|refusal| {
+        let rest = || match refusal.reason {
+            Reason::Unlike => Refused::new(refusal, Asked::CompareDepths),
+            _ => Refused::of(transaction, refusal, Asked::Read(Form::Transaction))
+                .which("transaction"),
+        };
+        Failure::Refused(of_proofs(first, second, refusal).unwrap_or_else(rest))
+    })?;
+    let is_transaction = matches!(strings.first, Cow::Borrowed(_));
+    let (one, other) = (hex::encode(&strings.first), hex::encode(&strings.second));
+    let what = if is_transaction { ", the first of them the transaction" } else { "" };
+    let text = format!(
+        "accepted: the two proofs contradict each other, as one has the payment where the other \
+         has a node, and here is how: two strings with one double SHA-256{what}\nfirst   {one}\n\
+         second  {other}\n"
+    );
+    let fields = vec![
+        ("first_is_transaction", is_transaction.into()),
+        ("first", one.into()),
+        ("second", other.into()),
+    ];
+    Ok(Told::text(text, fields))
 }
 
 pub fn write(words: &[OsString]) -> Answer {

@@ -111,13 +111,25 @@ transaction is read in parts: it may have up to 4294967295 bytes, whatever the m
     },
     Command {
         name: "compare",
-        usage: "compare PROOF PROOF, each: bump FILE ID, cmp FILE ID or tsc FILE",
+        usage: "compare PROOF PROOF [--transaction FILE], each proof: bump FILE ID, cmp FILE ID or tsc FILE",
         brief: "whether two proofs contradict each other",
         about: "\
 Accepted are two proofs of different ids at one position under one root. Then one
 of them is false, and double SHA-256 is broken: the two strings of 64 bytes that
-show it are printed. Proofs that agree are refused with 24, unlike ones with 23.",
-        example: "    ./barrowtide compare tsc bindings/rust/tests/data/000-proof.hex tsc bindings/rust/tests/data/000-proof.hex",
+show it are printed. Proofs that agree are refused with 24, unlike ones with 23.
+
+With --transaction the proofs have different numbers of layers, in either order, and
+FILE is the raw transaction that the shorter one proves. Accepted are two under one
+root whose places lie one above the other: one has the payment where the other has a
+node, and two strings of one hash show it, the shorter proof's first, which may be the
+transaction itself. Any other two are refused with 23. A transaction of 64 bytes, which
+could be two nodes, is refused with 11, here and wherever one is read.",
+        example: "    ./barrowtide compare tsc bindings/rust/tests/data/000-proof.hex tsc bindings/rust/tests/data/000-proof.hex
+    ./barrowtide compare tsc bindings/rust/tests/data/000-proof.hex \\
+      bump bindings/rust/tests/data/004-bump.hex \\
+      3ecead27a44d013ad1aae40038acbb1883ac9242406808bb4667c15b4f164eac \\
+      --transaction bindings/rust/tests/data/004-transaction.hex",
+        options: &["--transaction"],
         run: commands::compare,
         ..PLAIN
     },

@@ -54,6 +54,8 @@ pub enum Asked {
     Judge,
     /// To compare two proofs that were accepted.
     Compare,
+    /// To compare two of different numbers of layers, and the transaction of the one with fewer.
+    CompareDepths,
     /// Which of two BUMPs that prove an id is the shorter.
     Shorter,
     /// To write a BUMP.
@@ -75,13 +77,13 @@ impl Asked {
             Asked::Judge => Some(Form::Beef),
             Asked::ToBump => Some(Form::Tsc),
             Asked::Order => Some(Form::Transaction),
-            Asked::Compare | Asked::Write | Asked::Page => None,
+            Asked::Compare | Asked::CompareDepths | Asked::Write | Asked::Page => None,
         }
     }
 
     fn noun(self) -> &'static str {
         match self {
-            Asked::Compare => "proof",
+            Asked::Compare | Asked::CompareDepths => "proof",
             _ => self.form().map_or("list", Form::noun),
         }
     }
@@ -98,18 +100,20 @@ pub struct Refused {
     pub which: Option<&'static str>,
     /// What that input looks like and which form it should have, if it is of another one.
     looks: Option<(&'static str, Form)>,
+    /// Whether it blames a transaction of 64 bytes.
+    node_sized: bool,
 }
 
 impl Refused {
     /// A refusal about no input, or about one that is of the form asked for.
     pub fn new(refusal: Refusal, asked: Asked) -> Self {
-        Self { refusal, asked, which: None, looks: None }
+        Self { refusal, asked, which: None, looks: None, node_sized: false }
     }
 
     /// A refusal about an input.
     pub fn of(data: &[u8], refusal: Refusal, asked: Asked) -> Self {
         let looks = asked.form().and_then(|form| Some((looks::like(data, form)?, form)));
-        Self { looks, ..Self::new(refusal, asked) }
+        Self { looks, node_sized: is_node_sized(data, refusal), ..Self::new(refusal, asked) }
     }
 
     /// The same, about one of two inputs.
@@ -209,6 +213,12 @@ impl Refused {
             (Reason::BadVersion, _) => "the first four bytes are not 0100beef, so this is no BEEF \
                  of that version. Ask the sender for one."
                 .to_string(),
+            (Reason::BadTx, _) if self.node_sized => {
+                "the transaction that starts here has 64 bytes, as two nodes of a tree have, so that \
+                 a node of a block can pose as this payment. Don't accept it; ask the sender for \
+                 one of another size."
+                    .to_string()
+            }
             (Reason::BadTx, Asked::Prove(_) | Asked::Read(Form::Tsc) | Asked::ToBump) => format!(
                 "the transaction that starts here is not sound, or not as long as the proof says. \
                  {software}."
@@ -279,6 +289,12 @@ impl Refused {
             (Reason::Unlike, Asked::Shorter) => {
                 "the two lead to different roots, so one of them is not of this block. Compare both \
                  roots with the block's header."
+                    .to_string()
+            }
+            (Reason::Unlike, Asked::CompareDepths) => {
+                "the two proofs and the transaction do not contradict each other: the roots \
+                 differ, both proofs have as many layers, the places do not lie one above the \
+                 other, or the transaction is not the one that the shorter proof proves."
                     .to_string()
             }
             (Reason::Unlike, _) => {
@@ -355,6 +371,16 @@ impl Refused {
         }
         text + ": " + &self.words()
     }
+}
+
+/// Whether a refusal blames the first byte of a transaction of 64 bytes.
+fn is_node_sized(data: &[u8], refusal: Refusal) -> bool {
+    let start = refusal.carried as usize;
+    let Some(raw) = start.checked_add(64).and_then(|end| data.get(start..end)) else {
+        return false;
+    };
+    let read = barrowtide::read_transaction(raw).map_err(|told| (told.reason, told.carried));
+    refusal.reason == Reason::BadTx && read == Err((Reason::BadTx, 0))
 }
 
 impl fmt::Display for Refused {

@@ -14,6 +14,7 @@ pub mod climb;
 pub mod cmp;
 pub mod compare;
 pub mod convert;
+pub mod depth;
 pub mod difference;
 pub mod fields;
 pub mod generate;

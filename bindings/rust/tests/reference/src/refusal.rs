@@ -51,7 +51,7 @@ pub const REPEATED: u32 = 8;
 pub const EXTRA: u32 = 9;
 /// Four bytes present, not BEEF's.
 pub const BAD_VERSION: u32 = 10;
-/// No inputs or no outputs; a TSC transaction not exactly its stated length.
+/// No inputs or no outputs; a transaction of 64 bytes; a TSC transaction not exactly its stated length.
 pub const BAD_TX: u32 = 11;
 /// BEEF with no transaction.
 pub const EMPTY: u32 = 12;

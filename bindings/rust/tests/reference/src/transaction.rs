@@ -89,6 +89,11 @@ pub fn read_at(cursor: &mut Cursor, most: Option<u64>) -> Result<Transaction, Re
     })?;
     let lock_time = u32::from_le_bytes(cursor.array()?);
     let length = cursor.place() - start;
+    // "Refuse any raw transaction of exactly 64 bytes": "11 at the transaction's first byte, after
+    // its last field is read" (02, Item 13).
+    if length == 64 {
+        return refuse(BAD_TX, start);
+    }
     let id = sha256d(from_start.bytes(length as u64)?);
     Ok(Transaction { start, length, version, inputs, outputs, lock_time, id })
 }

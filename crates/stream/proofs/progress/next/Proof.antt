@@ -77,14 +77,14 @@ after-output-requires c κs = search needs
 enum-told-12 : tie.Need-enum-told-12
 enum-told-12 c = search needs
 
-begin-requires-6 : tie.Need-begin-requires-6
-begin-requires-6 c κs = search needs
+after-lock-time-requires : tie.Need-after-lock-time-requires
+after-lock-time-requires c κs = search needs
 
 enum-told-13 : tie.Need-enum-told-13
 enum-told-13 c = search needs
 
-begin-requires-7 : tie.Need-begin-requires-7
-begin-requires-7 c κs = search needs
+begin-requires-6 : tie.Need-begin-requires-6
+begin-requires-6 c κs = search needs
 
 returns : tie.Need-returns
 unfolding nextAt
@@ -132,11 +132,11 @@ returns-11 c = c .after-output .ensures ∙ next-at (c .before .before .before .
 
 returns-12 : tie.Need-returns-12
 unfolding nextAt
-returns-12 c = ap (λ (p : Progress). Fed.On p) (c .begin6 .ensures) ∙ next-at (c .before .before .before .args .f) (c .before .before .before .args .v) Stage.LockTime (c .before .enum-told12 .given .1)
+returns-12 c = c .after-lock-time .ensures ∙ next-at (c .before .before .before .args .f) (c .before .before .before .args .v) Stage.LockTime (c .before .enum-told12 .given .1)
 
 returns-13 : tie.Need-returns-13
 unfolding nextAt
-returns-13 c = ap (λ (p : Progress). Fed.On p) (c .begin7 .ensures) ∙ next-at (c .before .before .before .args .f) (c .before .before .before .args .v) Stage.End (c .before .enum-told13 .given .1)
+returns-13 c = ap (λ (p : Progress). Fed.On p) (c .begin6 .ensures) ∙ next-at (c .before .before .before .args .f) (c .before .before .before .args .v) Stage.End (c .before .enum-told13 .given .1)
 
 pub next-spec : {M : Type 1} → statement M
 next-spec =
@@ -165,9 +165,9 @@ next-spec =
     enum-told-11
     after-output-requires
     enum-told-12
-    begin-requires-6
+    after-lock-time-requires
     enum-told-13
-    begin-requires-7
+    begin-requires-6
     returns
     returns-2
     returns-3

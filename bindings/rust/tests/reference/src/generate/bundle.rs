@@ -101,7 +101,7 @@ impl Plan {
         }
         let (one, other) = (random.index(count), random.index(count));
         let bump_count = self.bumps.len() as u64;
-        match random.within(0..=15) {
+        match random.within(0..=16) {
             0 => self.entries.swap(one, other),
             1 => self.entries.push(self.entries[one].clone()),
             2 => drop(self.entries.remove(one)),
@@ -134,6 +134,10 @@ impl Plan {
                 transaction.outputs[output].0 = amount_at_limit(random, others);
             }),
             14 => self.ask_fee(random, one),
+            15 => {
+                let length = random.within(63..=65) as usize;
+                self.change(one, |transaction| transaction.shrink(random, length));
+            }
             _ => {
                 let bump = self.bumps[random.index(self.bumps.len())].clone();
                 self.bumps.push(bump);

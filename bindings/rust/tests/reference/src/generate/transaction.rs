@@ -23,14 +23,19 @@ pub struct Plan {
 pub type Outpoint = (Hash, u32);
 
 impl Plan {
-    /// A transaction that spends these outputs and pays these amounts.
+    /// A transaction that spends these outputs and pays these amounts; it has not 64 bytes.
     pub fn spending(random: &mut Random, outpoints: &[Outpoint], amounts: &[u64]) -> Self {
         let inputs = outpoints
             .iter()
             .map(|(parent, output)| (*parent, *output, script(random), random.bits() as u32))
             .collect();
         let outputs = amounts.iter().map(|amount| (*amount, script(random))).collect();
-        Self { version: random.pick(&[1, 2]), inputs, outputs, lock_time: random.bits() as u32 }
+        let version = random.pick(&[1, 2]);
+        let mut plan = Self { version, inputs, outputs, lock_time: random.bits() as u32 };
+        if plan.draft().bytes.len() == 64 {
+            plan.outputs[0].1.push(0x51);
+        }
+        plan
     }
 
     /// A transaction of one to three inputs whose parents nobody knows, with amounts that a bundle
@@ -46,6 +51,23 @@ impl Plan {
         let amounts: Vec<u64> = (0..random.within(1..=3)).map(|_| random.number()).collect();
         let outpoints = unknown(random);
         Self::spending(random, &outpoints, &amounts)
+    }
+
+    /// Leaves one input and one output, with scripts that bring it to this length, 60 to 560.
+    pub fn shrink(&mut self, random: &mut Random, length: usize) {
+        self.inputs.truncate(1);
+        self.outputs.truncate(1);
+        let scripts = length - 60;
+        let first = random.within(scripts.saturating_sub(250) as u64..=scripts.min(250) as u64);
+        self.inputs[0].2 = random.bytes(first as usize);
+        self.outputs[0].1 = random.bytes(scripts - first as usize);
+    }
+
+    /// The fields of a transaction of 64 bytes, which is none.
+    pub fn node_sized(random: &mut Random) -> Self {
+        let mut plan = Self::mined(random);
+        plan.shrink(random, 64);
+        plan
     }
 
     /// What its outputs come to.

@@ -108,7 +108,7 @@ impl Plan {
         let own = self.body.bytes.clone();
         let node = random.index(self.nodes.len().max(1));
         let shift = random.index(self.target.len());
-        match random.within(0..=9) {
+        match random.within(0..=10) {
             0 => self.index = random.number(),
             1 => self.index ^= 1 << random.within(0..=8),
             2 => self.flags = random.bits() as u8 % 10,
@@ -117,6 +117,12 @@ impl Plan {
             5 => self.target.rotate_left(shift),
             6 => self.nodes.push((random.bits() as u8 % 3, random.hash())),
             7 => drop(self.nodes.pop()),
+            8 if self.stated.is_some() => {
+                let mut other = transaction::Plan::random(random);
+                other.shrink(random, 63 + shift % 3);
+                self.body = other.draft();
+                self.stated = Some(self.body.bytes.len() as u64);
+            }
             _ => match self.nodes.get_mut(node) {
                 Some(node) if own.len() == 32 && random.one_in(2) => {
                     node.1.copy_from_slice(&own);
