@@ -50,8 +50,8 @@
  *
  * Stack. As built by the kit a call needs at most
  *   - 144 KiB barrowtide_judge_beef
- *   - 64 KiB  barrowtide_prove_page
- *   - 48 KiB  barrowtide_write_bump, barrowtide_check_clients
+ *   - 64 KiB  barrowtide_prove_page, barrowtide_check_clients
+ *   - 48 KiB  barrowtide_write_bump
  *   - 40 KiB  barrowtide_prove_bump, barrowtide_prove_cmp, barrowtide_compare,
  *             barrowtide_compare_depths, barrowtide_shorter, barrowtide_bump_to_tsc
  *   - 32 KiB  barrowtide_order, barrowtide_check_order

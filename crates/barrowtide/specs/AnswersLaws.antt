@@ -7,8 +7,8 @@ use native.Mathlib.Omega.{arith}
 use borrow.Author.Tests.{eq-eqb, ne-eqb}
 use Rattle.hash.specs.declared.Hashed.{Hashed}
 use Rattle.spv.specs.declared.rejection.Rejection.{Rejection}
-use Rattle.spv.specs.declared.clients.Agreement.{Agreement}
-use Rattle.spv.specs.declared.clients.Checked.{Checked}
+use Rattle.climbs.specs.declared.want.Agreement.{Agreement}
+use Rattle.climbs.specs.declared.want.Checked.{Checked}
 use Rattle.spv.specs.declared.comparing.Comparison.{Comparison}
 use Rattle.spv.specs.declared.comparing.Compared.{Compared}
 use Rattle.bundle.specs.declared.judging.Verdict.{Verdict}
@@ -18,7 +18,7 @@ use Rattle.page.specs.declared.Paged.{Paged}
 use Rattle.spv.specs.Result.{Result, accepted, refused, carrying}
 use Rattle.spv.specs.Compare.{Strings}
 use Rattle.spv.specs.Shapes.{comparedOf, refusedPair}
-use Rattle.spv.specs.ClientsShapes.{checkedOf, refusedCheck}
+use Rattle.climbs.specs.ClientsShapes.{checkedOf, refusedCheck}
 use Rattle.bundle.specs.Bundle.{Judgement, verdictOf}
 use Rattle.bundle.specs.declared.table.Record.{Record}
 use Rattle.block.specs.Output.{writtenOf}

@@ -1,7 +1,7 @@
 // Proving an id, the all-clients check, and comparing two proofs, of one number of layers or of two.
 use super::blame::blame_of;
+use climbs::Agreement;
 use path::Form;
-use spv::Agreement;
 use spv::Comparison;
 use spv::DepthComparison;
 use spv::Outcome;
@@ -139,7 +139,7 @@ pub extern "C" fn barrowtide_check_clients(
         × (now (blame .exit) ≡ I.blame v (now (blame .entry)))
         × (now (root .exit) ≡ I.taken (λ r. r) v (now (root .entry)))) ⌝ }
 {
-    let checked = spv::check_clients(message);
+    let checked = climbs::check_clients(message);
     let agreement = checked.agreement;
     let bytes = checked.root;
     match agreement {

@@ -26,7 +26,7 @@ use Rattle.spv.specs.Hashes.{hashesOf}
 use Rattle.block.specs.Tree.{above, layer, size, node, heightFor, treeClimb}
 use Rattle.block.proofs.TreeLaws.{above-length, above-pair, above-last, height-holds, height-least, size-suc}
 use Rattle.spv.specs.HashesLaws.{hashes-length, hashes-at}
-use Rattle.spv.specs.KeptLaws.{stored-here, stored-other}
+use Rattle.spv.specs.Stored.{stored-here, stored-other}
 use Rattle.block.proofs.TreeClimb.{twinAt, endFrom, from-end, from-twin, from-on, from-all}
 use Rattle.block.specs.declared.tree.Climb.the-variants.{Free, Twin}
 use Rattle.block.specs.Heap.{nodeIn, rightIn, pairIn, setFour, Stored, Heap, Level, twinIn, Grown, climbOf}

@@ -1,26 +1,34 @@
--- The ids of the transactions ahead of a place, as the code makes them four at a time.
+-- The ids of the transactions ahead of a place, as the code makes them four at a time, and the BUMPs that these name.
 use Prim.Native.Nat.{ℕ, zero, suc, _+_, _*_, _/_, _≤_, _<_}
 use mathlib.Core.Path.{_≡_}
 use mathlib.Core.Bool.{Bool}
 use mathlib.Core.List.{List}
-use lib.ListN.{length}
+use lib.ListN.{length, getD, set}
+use Rattle.format.specs.declared.beef.Anchor.{Anchor}
+use Rattle.format.specs.declared.beef.Anchor.the-variants.{Unanchored, Bump as InBump}
 use Rattle.format.specs.declared.beef.EntryHead.{EntryHead}
 use Rattle.format.specs.Bytes.{setHash, hashAt}
 use Rattle.format.specs.Parse.{Parse, pick, otherwise, each}
 use Rattle.format.specs.Beef.{entryField}
 use Rattle.format.specs.BeefAnswer.{entryHeadOf}
 use Rattle.format.specs.Id.{spanHash}
+use Rattle.format.specs.Refusals.{MAX-BUMPS}
 use Rattle.lanes.specs.Lanes as L
 use Rattle.lanes.specs.declared.Nodes.{Nodes}
 use Rattle.bundle.specs.declared.ids.Span.{Span}
 use Rattle.bundle.specs.declared.ids.Spans.{Spans}
 
+-- the number of the BUMP that an anchor names; past the BUMPs if it names none
+unfoldable pub anchorOf : Anchor → ℕ
+anchorOf (InBump n) = n
+anchorOf Unanchored = MAX-BUMPS
+
 -- where no transaction can be read
 unfoldable pub noSpan : Span
-noSpan = record { start = 1; end = 0 }
+noSpan = record { start = 1; end = 0; anchor = MAX-BUMPS }
 
 unfoldable pub spanOf : EntryHead → Span
-spanOf e = record { start = e .transaction .start; end = e .transaction .end }
+spanOf e = record { start = e .transaction .start; end = e .transaction .end; anchor = anchorOf (e .anchor) }
 
 -- the place in lane l
 unfoldable pub span : ℕ → Spans → Span
@@ -62,3 +70,11 @@ setFour ids i four = setHash (setHash (setHash (setHash ids i (four .a)) (i + 1)
 -- the ids of n transactions from a place on stand end to end, as far as there is room
 unfoldable pub IdsFrom : ℕ → List ℕ → ℕ → ℕ → List ℕ → Type 0
 IdsFrom count s at n ids = (k : ℕ) → k < n → k < length ids / 32 → hashAt ids (32 * k) ≡ spanId s (spanAt count s at k)
+
+-- four numbers of BUMPs, from the i-th on
+unfoldable pub setAnchors : List ℕ → ℕ → Spans → List ℕ
+setAnchors anchors i x = set (set (set (set anchors i (x .a .anchor)) (i + 1) (x .b .anchor)) (i + 2) (x .c .anchor)) (i + 3) (x .d .anchor)
+
+-- the numbers of the BUMPs of n transactions from a place on, as far as there is room
+unfoldable pub AnchorsFrom : ℕ → List ℕ → ℕ → ℕ → List ℕ → Type 0
+AnchorsFrom count s at n anchors = (k : ℕ) → k < n → k < length anchors → getD anchors k 0 ≡ spanAt count s at k .anchor

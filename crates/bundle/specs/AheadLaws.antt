@@ -6,24 +6,31 @@ use mathlib.Core.List.{List}
 use native.Mathlib.Nat.{zero-add}
 use native.Mathlib.Omega.{arith}
 use lib.Dec.{ltb}
-use lib.ListN.{length, take, drop}
-use lib.Seq.{paste, length-paste}
+use lib.ListN.{length, take, drop, getD, set, length-set}
+use lib.Seq.{paste, length-paste, getD-set-same, getD-set-other}
 use borrow.Author.Count.{below-more}
 use borrow.Author.Tests.{ltb-true, ltb-false}
 use Rattle.hash.specs.Sha256.{hashed}
 use Rattle.format.specs.declared.beef.EntryHead.{EntryHead}
-use Rattle.format.specs.Parse.{got, bad}
+use Rattle.format.specs.declared.beef.Anchor.{Anchor}
+use Rattle.format.specs.declared.beef.Anchor.the-variants.{Unanchored, Bump as InBump}
+use Rattle.format.specs.Beef.{Entry, entryField}
+use Rattle.format.specs.BeefAnswer.{entryHeadOf}
+use Rattle.format.specs.BeefLaws.{entry-told}
+use Rattle.format.specs.ParseLaws.{each-got}
+use Rattle.format.specs.Refusals.{MAX-BUMPS}
+use Rattle.format.specs.Parse.{Parse, got, bad}
 use Rattle.format.specs.Bytes.{setHash, hashAt}
 use Rattle.format.specs.BytesLaws.{set-inside, set-outside}
 use Rattle.format.specs.Id.{spanHash}
 use Rattle.format.specs.IdLaws.{span-inside, span-length}
-use Rattle.spv.specs.KeptLaws.{stored-here, stored-other}
+use Rattle.spv.specs.Stored.{stored-here, stored-other}
 use Rattle.lanes.specs.Lanes as L
 use Rattle.lanes.specs.declared.Nodes.{Nodes}
 use Rattle.bundle.specs.declared.ids.Span.{Span}
 use Rattle.bundle.specs.declared.ids.Spans.{Spans}
 use Rattle.bundle.specs.BundleHeads.{headId}
-use Rattle.bundle.specs.Ahead.{noSpan, spanOf, span, entryAt, spanAt, spanFrom, spanId, Reaches, ReachesFour, Onward, Inside, setFour, IdsFrom}
+use Rattle.bundle.specs.Ahead.{noSpan, anchorOf, spanOf, span, entryAt, spanAt, spanFrom, spanId, Reaches, ReachesFour, Onward, Inside, setFour, setAnchors, IdsFrom, AnchorsFrom}
 
 module _ (count : ℕ) (s : List ℕ) (at : ℕ) where
   pub from-more : (m : ℕ) → spanFrom count s at true m ≡ spanAt count s at m
@@ -106,17 +113,17 @@ module _ (count : ℕ) (s : List ℕ) (at : ℕ) where
 
   -- the one that is read next is the i-th, and the others come after it
   module _ (i p : ℕ) {q : ℕ} {e : EntryHead} (o : Onward count s at i p true) (read : entryAt count s p ≡ got e q) where
-    onward-here : spanId s (spanAt count s at i) ≡ headId s e
-    unfolding Onward spanId spanOf
-    onward-here = let n : i + 0 ≡ i = omega arith in ap (spanId s) (ap (spanAt count s at) (sym n) ∙ sym (o 0) ∙ from-more count s p 0 ∙ first-at count s p read)
+    pub onward-here : spanAt count s at i ≡ spanOf e
+    unfolding Onward
+    onward-here = let n : i + 0 ≡ i = omega arith in ap (spanAt count s at) (sym n) ∙ sym (o 0) ∙ from-more count s p 0 ∙ first-at count s p read
 
     pub onward-one : Onward count s at (i + 1) q true
     unfolding Onward
     onward-one m = let n : i + suc m ≡ i + 1 + m = omega arith in from-more count s q m ∙ sym (later-at count s p read m) ∙ sym (from-more count s p (suc m)) ∙ o (suc m) ∙ ap (spanAt count s at) n
 
     pub id-here : (n : ℕ) (ids : List ℕ) → IdsFrom count s at n ids → i < n → i < length ids / 32 → hashAt ids (32 * i) ≡ headId s e
-    unfolding IdsFrom
-    id-here n ids made low room = made i low room ∙ onward-here
+    unfolding IdsFrom spanId spanOf
+    id-here n ids made low room = made i low room ∙ ap (spanId s) onward-here
 
   pub ids-none : (ids : List ℕ) → IdsFrom count s at 0 ids
   unfolding IdsFrom
@@ -164,3 +171,66 @@ module _ (count : ℕ) (s : List ℕ) (at : ℕ) where
       let third = ids-one two (four .c) (i + 2) (rw n2 at second) (is 2 (omega arith)) in
       let fourth = ids-one three (four .d) (i + 3) (rw n3 at third) (is 3 (omega arith)) in
       rw n4 at fourth
+
+  -- ---- the BUMPs that they name
+
+  pub anchors-none : (anchors : List ℕ) → AnchorsFrom count s at 0 anchors
+  unfolding AnchorsFrom
+  anchors-none anchors k low room = absurd (omega arith)
+
+  pub anchors-enough : {n i : ℕ} (anchors : List ℕ) → n ≤ i → AnchorsFrom count s at i anchors → AnchorsFrom count s at n anchors
+  unfolding AnchorsFrom
+  anchors-enough anchors past made k low room = made k (omega arith) room
+
+  anchors-one : (anchors : List ℕ) (i x : ℕ) → AnchorsFrom count s at i anchors → x ≡ spanAt count s at i .anchor → AnchorsFrom count s at (i + 1) (set anchors i x)
+  unfolding AnchorsFrom
+  anchors-one anchors i x made e =
+      rw (length-set anchors i x)
+      (below-more (λ (k : ℕ). k < length anchors → getD (set anchors i x) k 0 ≡ spanAt count s at k .anchor) i
+      (λ k h room. getD-set-other anchors i k x 0 (λ d. omega arith) ∙ made k h room)
+      (λ room. getD-set-same anchors i x 0 room ∙ e))
+
+  pub anchors-four : (anchors : List ℕ) (i p q : ℕ) (more onward : Bool) (x : Spans) → AnchorsFrom count s at i anchors → Onward count s at i p more → ReachesFour count s p more x q onward
+      → AnchorsFrom count s at (i + 4) (setAnchors anchors i x)
+  unfolding setAnchors span L.inLane Onward
+  anchors-four anchors i p q more onward x made o r =
+      let is : (l : ℕ) → l < 4 → span l x .anchor ≡ spanAt count s at (i + l) .anchor = λ l h. ap (λ (y : Span). y .anchor) (r .0 l h ∙ o l) in
+      let one : List ℕ = set anchors i (x .a .anchor) in
+      let two : List ℕ = set one (i + 1) (x .b .anchor) in
+      let three : List ℕ = set two (i + 2) (x .c .anchor) in
+      let n0 : i + 0 ≡ i = omega arith in
+      let n2 : i + 1 + 1 ≡ i + 2 = omega arith in
+      let n3 : i + 2 + 1 ≡ i + 3 = omega arith in
+      let n4 : i + 3 + 1 ≡ i + 4 = omega arith in
+      let a = is 0 (omega arith) in
+      let first = anchors-one anchors i (x .a .anchor) made (rw n0 at a) in
+      let second = anchors-one one (i + 1) (x .b .anchor) first (is 1 (omega arith)) in
+      let third = anchors-one two (i + 2) (x .c .anchor) (rw n2 at second) (is 2 (omega arith)) in
+      let fourth = anchors-one three (i + 3) (x .d .anchor) (rw n3 at third) (is 3 (omega arith)) in
+      rw n4 at fourth
+
+-- a BUMP that a transaction names is one of the bundle's
+anchor-low : (count : ℕ) (s : List ℕ) (at : ℕ) {e : EntryHead} {next : ℕ} → entryAt count s at ≡ got e next → anchorOf (e .anchor) < MAX-BUMPS → anchorOf (e .anchor) < count
+unfolding anchorOf
+anchor-low count s at {e} {next} read = told (each-got entryHeadOf (entryField count s at) read)
+  where
+    by : (x : Anchor) → ((n : ℕ) → x ≡ InBump n → n < count) → anchorOf x < MAX-BUMPS → anchorOf x < count
+    by (InBump n) low h = low n refl
+    by Unanchored low h = absurd (omega arith)
+
+    told : (x : Entry) × (entryField count s at ≡ got x next) × (entryHeadOf x ≡ e) → anchorOf (e .anchor) < MAX-BUMPS → anchorOf (e .anchor) < count
+    told x = rw (← x .2) (by (x .0 .anchor) (entry-told count s at (x .1) .anchored))
+
+pub span-low : (count : ℕ) (s : List ℕ) (at m : ℕ) → spanAt count s at m .anchor < MAX-BUMPS → spanAt count s at m .anchor < count
+unfolding noSpan spanOf
+span-low count s at zero = go (entryAt count s at) refl
+  where
+    go : (r : Parse EntryHead) → entryAt count s at ≡ r → spanAt count s at 0 .anchor < MAX-BUMPS → spanAt count s at 0 .anchor < count
+    go (got e next) q = rw (first-at count s at q) (anchor-low count s at q)
+    go (bad k p) q = rw (none-at count s at q 0) (λ h. absurd (omega arith))
+span-low count s at (suc m) = go (entryAt count s at) refl (λ next. span-low count s next m)
+  where
+    go : (r : Parse EntryHead) → entryAt count s at ≡ r → ((next : ℕ) → spanAt count s next m .anchor < MAX-BUMPS → spanAt count s next m .anchor < count)
+        → spanAt count s at (suc m) .anchor < MAX-BUMPS → spanAt count s at (suc m) .anchor < count
+    go (got e next) q on = rw (later-at count s at q m) (on next)
+    go (bad k p) q on = rw (none-at count s at q (suc m)) (λ h. absurd (omega arith))

@@ -9,7 +9,7 @@ use lib.Dec.{ltb}
 use lib.ListN.{length, getD, take, drop, take-append-drop}
 use borrow.Author.Tests.{lt-ltb, le-ltb}
 use Rattle.format.specs.Refusals.{MAX-TOTAL}
-use Rattle.bundle.specs.TestLaws.{and-left}
+use Rattle.spv.specs.TestLaws.{and-left}
 use Rattle.bundle.specs.Amounts.{Outpoint, Payment, total, fresh, worths, enough, anchoredTotal, unspent}
 use Rattle.bundle.specs.AmountLaws.{noPayment, fresh-append}
 use Rattle.bundle.specs.Balance.{Different, grand, grand-parts, unspent-le, unspent-many}

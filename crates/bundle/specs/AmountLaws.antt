@@ -9,7 +9,7 @@ use lib.Dec.{ltb, eqb}
 use lib.ListN.{length, getD, take}
 use borrow.Author.Tests.{ltb-true, lt-ltb, eqb-true, eq-eqb, not-true}
 use Rattle.format.specs.Parse.{pick}
-use Rattle.bundle.specs.TestLaws.{clash, and-left, and-right, and-both, or-told, or-left, or-right}
+use Rattle.spv.specs.TestLaws.{clash, and-left, and-right, and-both, or-told, or-left, or-right}
 use Rattle.format.specs.Bytes.{same}
 use Rattle.format.specs.BytesLaws.{same-eq, same-refl}
 use Rattle.bundle.specs.Amounts.{Outpoint, Payment, total, outputsOf, exist, sameOutput, spent, fresh, spends, worth, worths, refuses, passes, enough, funded, amounts}

@@ -7,7 +7,7 @@ use native.Mathlib.Omega.{arith}
 use lib.ListN.{length, getD, take, length-take}
 use lib.Seq.{getD-take}
 use Rattle.format.specs.Parse.{pick}
-use Rattle.bundle.specs.TestLaws.{clash, and-both}
+use Rattle.spv.specs.TestLaws.{clash, and-both}
 use Rattle.bundle.specs.Amounts.{Standing}
 use Rattle.bundle.specs.Amounts.{Outpoint, Payment, total, outputsOf, spent, fresh, spends, worths, passes, amounts, anchoredTotal, unspentTotal, lefts}
 use Rattle.bundle.specs.AmountLaws.{noOutpoint, noPayment, spends-anchored, spends-unanchored, fresh-told, exist-told, outputs-at, told-spent, fresh-append, worths-append, worths-found, amounts-told}

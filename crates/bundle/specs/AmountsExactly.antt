@@ -10,7 +10,7 @@ use lib.ListN.{length, getD, take, length-take}
 use lib.Seq.{getD-take}
 use borrow.Author.Tests.{lt-ltb}
 use Rattle.format.specs.Parse.{pick}
-use Rattle.bundle.specs.TestLaws.{clash, and-both, or-told, or-left, or-right, else-false}
+use Rattle.spv.specs.TestLaws.{clash, and-both, or-told, or-left, or-right, else-false}
 use Rattle.format.specs.Bytes.{same}
 use Rattle.format.specs.BytesLaws.{same-eq, same-refl}
 use Rattle.bundle.specs.Amounts.{Outpoint, Payment, total, outputsOf, exist, spent, fresh, spends, worths, passes, amounts, funded}

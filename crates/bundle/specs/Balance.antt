@@ -7,7 +7,7 @@ use native.Mathlib.Omega.{arith}
 use lib.ListN.{length, getD}
 use borrow.Author.Tests.{not-true}
 use Rattle.format.specs.Parse.{pick}
-use Rattle.bundle.specs.TestLaws.{clash, and-left, and-right}
+use Rattle.spv.specs.TestLaws.{clash, and-left, and-right}
 use Rattle.format.specs.Bytes.{same}
 use Rattle.format.specs.BytesLaws.{same-eq, same-refl}
 use Rattle.bundle.specs.Amounts.{Outpoint, Payment, total, outputsOf, sameOutput, spent, fresh, worth, worths, anchoredTotal, kept, unspent}

@@ -9,7 +9,6 @@ use borrow.Author.Tests.{lt-ltb, le-ltb}
 use Rattle.format.specs.declared.tx.Input.{Input}
 use Rattle.format.specs.declared.bump.BumpHead.{BumpHead}
 use Rattle.path.specs.declared.path.Path.{Path}
-use Rattle.format.specs.declared.beef.Anchor.{Anchor}
 use Rattle.format.specs.declared.beef.Anchor.the-variants.{Unanchored, Bump as InBump}
 use Rattle.format.specs.declared.beef.EntryHead.{EntryHead}
 use Rattle.format.specs.Parse.{got, bad, many}
@@ -21,7 +20,6 @@ use Rattle.bundle.specs.Amounts.{total}
 use Rattle.format.specs.BeefAnswer.{noBump}
 use Rattle.format.specs.Refusals.{UNTRUSTED, BAD-INDEX, SAME-TX, NO-PARENT, MAX-BUMPS}
 use Rattle.bundle.specs.declared.judging.Standing.the-variants.{Refuses, Passes}
-use Rattle.bundle.specs.declared.judging.Kept.{Kept}
 use Rattle.bundle.specs.declared.judging.Standing.{Standing}
 use Rattle.spv.specs.declared.prove.Proved.{Proved}
 use Rattle.spv.specs.declared.prove.Outcome.the-variants.{Accepted, Refused}
@@ -33,7 +31,7 @@ use Rattle.spv.specs.Shapes.{provedOf, acceptedOf}
 use Rattle.spv.specs.Hashes.{hashesOf, among}
 use Rattle.bundle.specs.Bundle.{trusted}
 use Rattle.format.specs.Basics.{one-less}
-use Rattle.bundle.specs.BundleHeads.{IsKept, Names, totalFrom, restsFrom, headProving, headAnchoring, headStanding, headId, headStands}
+use Rattle.bundle.specs.BundleHeads.{totalFrom, restsFrom, headProving, headAnchoring, headStanding, headId, headStands}
 
 -- a search for parents that has passed i of n inputs
 module _ (s : List ℕ) (ids : List (List ℕ)) (n i at : ℕ) where
@@ -134,19 +132,3 @@ module _ (s roots : List ℕ) (bumps : List BumpHead) (earlier : List (List ℕ)
 pub head-told : (s roots : List ℕ) (bumps : List BumpHead) (earlier : List (List ℕ)) (e : EntryHead) {id : List ℕ} {t x : Standing}
     → id ≡ headId s e → t ≡ headStanding s roots bumps earlier id e → t ≡ x → headStands s roots bumps earlier e ≡ x
 head-told s roots bumps earlier e i h is = ap (λ (y : List ℕ). headStanding s roots bumps earlier y e) (sym i) ∙ sym h ∙ is
-
--- the path that an anchor names
-module _ (s : List ℕ) (bumps : List BumpHead) (anchor : Anchor) (path : Path) where
-  pub names-none : anchor ≡ Unanchored → Names s bumps anchor path
-  names-none e n f low = absurd (let z : _≡_ {A = ℕ} 0 1 = cc in omega arith)
-
-  module _ (m : ℕ) (e : anchor ≡ InBump m) where
-    pub names-over : MAX-BUMPS ≤ m → Names s bumps anchor path
-    names-over past n f low = absurd (let same : m ≡ n = cc in omega arith)
-
-    pub names-it : path ≡ bumpPathOf s (getD bumps m noBump) → Names s bumps anchor path
-    names-it is n f low = is ∙ ap (λ (k : ℕ). bumpPathOf s (getD bumps k noBump)) (let same : m ≡ n = cc in same)
-
--- the path that is kept
-pub kept-same : (s : List ℕ) (bumps : List BumpHead) (kept : Kept) (n : ℕ) → n ≡ kept .bump → n < MAX-BUMPS → IsKept s bumps kept → kept .path ≡ bumpPathOf s (getD bumps n noBump)
-kept-same s bumps kept n e low k = k (omega arith) ∙ ap (λ (m : ℕ). bumpPathOf s (getD bumps m noBump)) (sym e)

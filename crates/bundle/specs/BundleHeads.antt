@@ -18,8 +18,6 @@ use Rattle.format.specs.Beef.{entryField}
 use Rattle.format.specs.BeefAnswer.{noBump, entryHeadOf}
 use Rattle.format.specs.Id.{spanHash}
 use Rattle.format.specs.Refusals.{BAD-INDEX, SAME-TX, NO-PARENT, MAX-BUMPS}
-use Rattle.path.specs.declared.path.Path.{Path}
-use Rattle.bundle.specs.declared.judging.Kept.{Kept}
 use Rattle.bundle.specs.declared.table.Record.{Record}
 use Rattle.bundle.specs.declared.judging.Standing.the-variants.{Refuses, Passes}
 use Rattle.bundle.specs.declared.judging.Standing.{Standing}
@@ -66,14 +64,6 @@ module _ (s roots : List ℕ) (bumps : List BumpHead) where
 
   unfoldable pub headStanding : List (List ℕ) → List ℕ → EntryHead → Standing
   headStanding earlier id e = pick (among id earlier) (Refuses (carrying SAME-TX 0)) (headAnchoring earlier id (e .transaction) (e .anchor))
-
--- a path that is kept is its BUMP's
-abbrev pub IsKept : List ℕ → List BumpHead → Kept → Type 0
-IsKept s bumps k = k .bump < MAX-BUMPS → k .path ≡ bumpPathOf s (getD bumps (k .bump) noBump)
-
--- the path of the BUMP that an anchor names
-abbrev pub Names : List ℕ → List BumpHead → Anchor → Path → Type 0
-Names s bumps anchor path = (n : ℕ) → anchor ≡ InBump n → n < MAX-BUMPS → path ≡ bumpPathOf s (getD bumps n noBump)
 
 -- what is judged, by an entry's head
 abbrev pub headId : List ℕ → EntryHead → List ℕ

@@ -270,6 +270,15 @@ read-few s room h q e =
     few : (b : Beef) → beefHeadOf b ≡ h → BeefRead room s b → h .transactions ≤ MAX-TXS
     few b is read = let low = read .entries-low in let same = ap (λ (k : BeefHead). k .transactions) is in omega arith
 
+-- nor more BUMPs than their heads have room
+pub read-low : (s : List ℕ) (room : ℕ) (h : BeefHead) (q : ℕ) → each beefHeadOf (beefWhole room s) ≡ got h q → h .bumps ≤ MAX-BUMPS
+read-low s room h q e =
+    let w = each-got beefHeadOf (beefWhole room s) e in
+    low (w .0) (w .2) (beef-told room s (w .1))
+  where
+    low : (b : Beef) → beefHeadOf b ≡ h → BeefRead room s b → h .bumps ≤ MAX-BUMPS
+    low b is read = let few = read .bumps-low in let same = ap (λ (k : BeefHead). k .bumps) is in omega arith
+
 -- and all of them can be read again
 pub read-every : (s : List ℕ) (room : ℕ) (h : BeefHead) (q : ℕ) → each beefHeadOf (beefWhole room s) ≡ got h q → length (headsFrom (h .bumps) s (h .transactions) (h .entries .at)) ≡ h .transactions
 read-every s room h q e =

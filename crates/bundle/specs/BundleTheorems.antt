@@ -23,7 +23,8 @@ use Rattle.bundle.specs.declared.table.Record.{Record}
 use Rattle.spv.specs.Result.{Result, accepted, refused, carrying}
 use Rattle.spv.specs.Compare.{Proof}
 use Rattle.bundle.specs.Table.{blankRecord}
-use Rattle.spv.specs.Hashes.{hashesOf, among}
+use Rattle.spv.specs.Hashes.{hashesOf, among, Among}
+use Rattle.spv.specs.HashesLaws.{among-told, told-among}
 use Rattle.bundle.specs.Amounts.{Payment, paymentOf, idsOf, isAnchored, exist, fresh, spends, enough, funded, passes, refuses}
 use Rattle.bundle.specs.AmountLaws.{noPayment, Funded, funded-told, told-funded}
 use Rattle.bundle.specs.Balance.{Different}
@@ -32,26 +33,7 @@ use Rattle.bundle.specs.Bundle.{rests, trusted, proving, nthBump, entryI
 use Rattle.bundle.specs.BundleLaws.{accepted-passed, all-accepted}
 use Rattle.spv.specs.RowsLaws.{map-at}
 
--- ---- being among hashes
-
--- x stands in the list
-abbrev pub Among : List ℕ → List (List ℕ) → Type 0
-Among x l = (k : ℕ) × (k < length l) × (getD l k [] ≡ x)
-
-pub among-told : (x : List ℕ) (l : List (List ℕ)) → among x l ≡ true → Among x l
-unfolding among
-among-told x [] e = absurd (let z : _≡_ {A = ℕ} 0 1 = cc in omega arith)
-among-told x (y ∷ l) e = go (same y x) refl e (among-told x l)
-  where
-    go : (t : Bool) → same y x ≡ t → (t || among x l) ≡ true → (among x l ≡ true → Among x l) → Among x (y ∷ l)
-    go true h m f = (0, omega arith, same-eq y x h)
-    go false h m f = let w = f m in (suc (w .0), omega (arith, w .1), w .2)
-
-pub told-among : (x : List ℕ) (l : List (List ℕ)) (k : ℕ) → k < length l → getD l k [] ≡ x → among x l ≡ true
-unfolding among
-told-among x [] k h e = absurd (omega arith)
-told-among x (y ∷ l) zero h e = rw (eq-same y x e)
-told-among x (y ∷ l) (suc k) h e = rw (told-among x l k (omega arith) e) (or-true (same y x))
+-- ---- being among ids
 
 -- among the ids of the first k transactions is the id of one of them
 module _ {A : Type 0} (id : A → List ℕ) (l : List A) (d : A) (k : ℕ) (few : k ≤ length l) (x : List ℕ) where
@@ -65,7 +47,7 @@ module _ {A : Type 0} (id : A → List ℕ) (l : List A) (d : A) (k : ℕ) (few 
       go (j, h, m) = let low : j < k = omega (arith, h, length-map (take k l) id, length-take k l, few) in (j, low, sym (first-at j low) ∙ m)
 
   pub told-earlier : (j : ℕ) → j < k → id (getD l j d) ≡ x → among x (map id (take k l)) ≡ true
-  told-earlier j h e = told-among x (map id (take k l)) j (omega (arith, h, length-map (take k l) id, length-take k l, few)) (first-at j h ∙ e)
+  told-earlier j h e = told-among x (map id (take k l)) (j, omega (arith, h, length-map (take k l) id, length-take k l, few), first-at j h ∙ e)
 
 -- ---- how one transaction stands
 
@@ -266,7 +248,7 @@ module _ (s roots : List ℕ) (fee : ℕ) (b : Beef) where
         1,
         m .bump,
         m .proof .position,
-        rw (ids-is, h, m .anchored) (told-trusted roots (m .bump) (proving s (nthBump (b .bumps) (m .bump)) (idAt k)) (m .proof) (m .climbs) (told-among (m .proof .root) (hashesOf roots) (m .listed .0) (m .listed .1) (m .listed .2))),
+        rw (ids-is, h, m .anchored) (told-trusted roots (m .bump) (proving s (nthBump (b .bumps) (m .bump)) (idAt k)) (m .proof) (m .climbs) (told-among (m .proof .root) (hashesOf roots) (m .listed))),
       )
       by false h (inr c) =
           let all : rests s (ids k) (inputsAt k) ≡ true = told-rests s (ids k) (inputsAt k) (λ m l. told-earlier (entryId s) (b .entries) emptyEntry k (omega arith) (hashAt s (getD (inputsAt k) m noInput .parent)) (c .parent m) (c .earlier m l) (c .named m l)) in

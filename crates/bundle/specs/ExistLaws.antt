@@ -17,7 +17,8 @@ use Rattle.format.specs.Transaction.{inputField}
 use Rattle.format.specs.TransactionLaws.{input-told}
 use Rattle.bundle.specs.Amounts.{outpointOf, Payment, idsOf, outputsOf, exist}
 use Rattle.bundle.specs.AmountLaws.{noPayment}
-use Rattle.bundle.specs.FlatForm.{column, indexOf, Finds, Distinct, fourAt, outputsAt, existFrom}
+use Rattle.bundle.specs.FlatForm.{column, Finds, fourAt, outputsAt, existFrom}
+use Rattle.spv.specs.Hashes.{indexOf, Distinct}
 use Rattle.bundle.specs.FlatLaws.{finds-index}
 use Rattle.bundle.specs.Pictured.{four-there}
 

@@ -17,12 +17,13 @@ use Rattle.format.specs.Bytes.{same, hashAt}
 use Rattle.format.specs.BytesLaws.{same-eq, eq-same}
 use Rattle.format.specs.Field.{le4, number}
 use Rattle.format.specs.Transaction.{inputField}
-use Rattle.spv.specs.Hashes.{hashes, hashesOf, among}
+use Rattle.spv.specs.Hashes.{hashes, hashesOf, among, indexOf, Distinct}
+use Rattle.spv.specs.HashesLaws.{told-among}
 use Rattle.format.specs.declared.tx.Items.{Items}
 use Rattle.bundle.specs.Windows.{inside, markOne, marked, markAll, twice, lesserIf, marksIn, firstIn}
 use Rattle.format.specs.ParseLaws.{otherwise-got, otherwise-bad}
 use Rattle.format.specs.Refusals.{U32}
-use Rattle.bundle.specs.FlatForm.{column, inputsOf, listsFrom, indexOf, Finds, Distinct, fourAt, through, spentFrom}
+use Rattle.bundle.specs.FlatForm.{column, inputsOf, listsFrom, Finds, fourAt, through, spentFrom}
 
 -- ---- the place of a hash
 
@@ -53,12 +54,6 @@ among-none : (x : List ℕ) (l : List (List ℕ)) → ((k : ℕ) → k < length 
 unfolding among
 among-none x [] g = refl
 among-none x (y ∷ l) g = rw (g 0 (omega arith), among-none x l (λ k h. g (suc k) (omega arith)))
-
-among-some : (x : List ℕ) (l : List (List ℕ)) (k : ℕ) → k < length l → getD l k [] ≡ x → among x l ≡ true
-unfolding among
-among-some x [] k h e = absurd (omega arith)
-among-some x (y ∷ l) zero h e = rw (eq-same y x e)
-among-some x (y ∷ l) (suc k) h e = rw (among-some x l k (omega arith) e) (or-true (same y x))
 
 -- a search from the last one back
 hashes-length : (n : ℕ) (l : List ℕ) → length (hashes n l) ≡ n
@@ -100,7 +95,7 @@ module _ (x list : List ℕ) where
 
   -- what the place says of the hash
   pub finds-some : (r : ℕ) → Finds x (hashesOf list) r → r < length list / 32 → among x (hashesOf list) ≡ true
-  finds-some r (inl (h, e)) low = among-some x (hashesOf list) r h e
+  finds-some r (inl (h, e)) low = told-among x (hashesOf list) (r, h, e)
   finds-some r (inr (h, e)) low = absurd (omega (arith, h, low, count-is))
 
   pub finds-none : (r : ℕ) → Finds x (hashesOf list) r → length list / 32 ≤ r → among x (hashesOf list) ≡ false

@@ -1,4 +1,3 @@
-pub mod TestLaws
 pub mod Listed
 pub mod Amounts
 pub mod AmountLaws
@@ -30,6 +29,8 @@ pub mod Bundle
 pub mod BundleHeads
 pub mod Ahead
 pub mod AheadLaws
+pub mod Anchored
+pub mod AnchoredLaws
 pub mod BundleHeadLaws
 pub mod BundleLaws
 pub mod Phases

@@ -8,7 +8,7 @@ use native.Mathlib.Omega.{arith}
 use lib.Dec.{eqb}
 use lib.ListN.{length, getD}
 use borrow.Author.Tests.{eqb-true, eq-eqb, ne-eqb}
-use Rattle.bundle.specs.TestLaws.{clash, or-told, or-left, or-right}
+use Rattle.spv.specs.TestLaws.{clash, or-told, or-left, or-right}
 
 unfoldable pub listed : ℕ → List ℕ → Bool
 listed x [] = false

@@ -8,7 +8,7 @@ use lib.Dec.{ltb, eqb}
 use lib.ListN.{length}
 use borrow.Author.Tests.{ltb-true, lt-ltb, eq-eqb, ne-eqb}
 use Rattle.format.specs.Parse.{pick}
-use Rattle.bundle.specs.TestLaws.{clash, and-left, and-right, and-both}
+use Rattle.spv.specs.TestLaws.{clash, and-left, and-right, and-both}
 use Rattle.bundle.specs.Listed.{listed}
 use Rattle.format.specs.Bytes.{same}
 use Rattle.format.specs.BytesLaws.{same-eq}

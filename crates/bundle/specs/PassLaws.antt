@@ -9,7 +9,7 @@ use lib.Dec.{ltb, leb, eqb}
 use lib.ListN.{length, getD, take, replicate, length-append}
 use borrow.Author.Tests.{ltb-true, ltb-false, leb-true, leb-false, le-leb, lt-ltb, eq-eqb}
 use Rattle.format.specs.Parse.{pick}
-use Rattle.bundle.specs.TestLaws.{clash, and-left, and-right, and-both, or-right, else-false}
+use Rattle.spv.specs.TestLaws.{clash, and-left, and-right, and-both, or-right, else-false}
 use Rattle.bundle.specs.Listed.{listed}
 use Rattle.bundle.specs.Numbering.{freshNumbers}
 use Rattle.bundle.specs.Windows.{numbersIn, inside, spenderFrom, freshIn, markAll, twice, lesserIf, marksIn, firstIn}

@@ -16,13 +16,13 @@ use Rattle.format.specs.Field.{bytes, le4}
 use Rattle.format.specs.Transaction.{inputField}
 use Rattle.format.specs.TransactionLaws.{input-told}
 use Rattle.format.specs.Refusals.{U32}
-use Rattle.spv.specs.Hashes.{hashesOf}
-use Rattle.bundle.specs.TestLaws.{and-left, and-right}
+use Rattle.spv.specs.Hashes.{hashesOf, indexOf}
+use Rattle.spv.specs.TestLaws.{and-left, and-right}
 use Rattle.bundle.specs.Amounts.{Outpoint, outpointOf, Payment, idsOf, total, outputsOf, exist}
 use Rattle.bundle.specs.AmountLaws.{noPayment}
 use Rattle.bundle.specs.Balance.{Different}
 use Rattle.bundle.specs.Numbering.{flat, outputCount, There}
-use Rattle.bundle.specs.FlatForm.{column, indexOf, fourAt, through, spentFrom}
+use Rattle.bundle.specs.FlatForm.{column, fourAt, through, spentFrom}
 use Rattle.bundle.specs.Walks.{Counted}
 
 pub record Pictured (s ids numbers : List ℕ) (l : List Payment) : Type 0 where

@@ -10,7 +10,7 @@ use lib.Seq.{getD-set-same, getD-set-other, take-all}
 use borrow.Author.Tests.{eqb-true, eqb-false, ltb-true, ltb-false}
 use Rattle.format.specs.Parse.{pick}
 use Rattle.format.specs.Refusals.{U32}
-use Rattle.spv.specs.Hashes.{hashesOf}
+use Rattle.spv.specs.Hashes.{hashesOf, Distinct}
 use Rattle.spv.specs.RowsLaws.{map-at}
 use Rattle.bundle.specs.declared.sums.Walk.{Walk}
 use Rattle.bundle.specs.Listed.{listed}
@@ -19,7 +19,7 @@ use Rattle.bundle.specs.AmountLaws.{noPayment}
 use Rattle.bundle.specs.Numbering.{flat, outputCount, freshNumbers}
 use Rattle.bundle.specs.Windows.{numbersOf, numbersIn, spenderFrom, freshIn, marksIn, firstIn, sumTo}
 use Rattle.bundle.specs.WindowLaws.{Marks}
-use Rattle.bundle.specs.FlatForm.{column, Distinct, spentFrom, inputsOf, listsFrom}
+use Rattle.bundle.specs.FlatForm.{column, spentFrom, inputsOf, listsFrom}
 use Rattle.bundle.specs.Walks.{walkAt, Counted, Here, Says, Sums}
 use Rattle.bundle.specs.WalkLaws.{here-start, count-take}
 use Rattle.bundle.specs.PassLaws.{Blank, spender-empty, marks-start, marks-in, First, first-told, fresh-below, fresh-less, fresh-none, below-fresh, not-fresh}

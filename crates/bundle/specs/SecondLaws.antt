@@ -14,7 +14,7 @@ use Rattle.format.specs.Bytes.{same}
 use Rattle.spv.specs.declared.rejection.Rejection.{Rejection}
 use Rattle.spv.specs.Result.{accepted, refused, blaming}
 use Rattle.spv.specs.RowsLaws.{map-at}
-use Rattle.bundle.specs.TestLaws.{clash, or-told}
+use Rattle.spv.specs.TestLaws.{clash, or-told}
 use Rattle.bundle.specs.Listed.{listed}
 use Rattle.bundle.specs.Amounts.{Outpoint, Payment, Standing, outputsOf, exist, fresh, spends, worth, worths}
 use Rattle.bundle.specs.AmountLaws.{noPayment, worths-found}

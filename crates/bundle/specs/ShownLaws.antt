@@ -13,7 +13,7 @@ use Rattle.format.specs.Parse.{pick}
 use Rattle.format.specs.Refusals.{NO-OUTPUT}
 use Rattle.spv.specs.declared.rejection.Rejection.{Rejection}
 use Rattle.spv.specs.Result.{accepted, refused, carrying, blaming}
-use Rattle.spv.specs.Hashes.{hashesOf}
+use Rattle.spv.specs.Hashes.{hashesOf, Distinct}
 use Rattle.spv.specs.HashesLaws.{hashes-at, taken-length}
 use Rattle.spv.specs.RowsLaws.{map-at}
 use Rattle.bundle.specs.declared.pass.Fault.{Fault}
@@ -21,7 +21,7 @@ use Rattle.bundle.specs.Amounts.{Payment, Standing, passes, refuses, ids
 use Rattle.bundle.specs.AmountLaws.{noPayment}
 use Rattle.bundle.specs.Balance.{Different}
 use Rattle.bundle.specs.Numbering.{outputCount}
-use Rattle.bundle.specs.FlatForm.{column, Distinct, inputsOf, existFrom}
+use Rattle.bundle.specs.FlatForm.{column, inputsOf, existFrom}
 use Rattle.bundle.specs.ExistLaws.{exist-is}
 use Rattle.bundle.specs.Walks.{Counted}
 use Rattle.bundle.specs.Pictured.{Pictured, take-count}
@@ -229,8 +229,16 @@ module _ (s ids numbers : List ℕ) (fee n : ℕ) where
           let x = first l size w .missing (omega arith) in
           sym (rest l size w ∙ fault-here (amounts fee) l m (omega arith) (carrying NO-OUTPUT 0) (amounts-missing fee (take m l) (getD l m noPayment) (x .0) (x .1)))
 
-      pub answers-none : (r : Fault) → n ≤ m → faultOf r ≡ accepted tt → Answers s ids numbers fee n r
-      answers-none r past e l size w = e ∙ sym (rest l size w ∙ fault-end (amounts fee) l m (omega arith))
+  or-none : (t : Standing) → orElse t (accepted tt) ≡ t
+  unfolding orElse
+  or-none (refused why) = refl
+  or-none (accepted u) = refl
+
+  -- where none is missing 27 and 28 are all there is
+  pub answers-all : (m : ℕ) → m ≤ n → ((l : List Payment) → length l ≡ n → Shown s ids numbers l → FirstMissing l m) → n ≤ m → (f : Fault) → Judged s (take (32 * n) ids) numbers fee n f → Answers s ids numbers fee n f
+  answers-all m few first past f judged l size w =
+      let same : m ≡ n = omega arith in
+      sym (in-turn n (omega arith) (λ l size w. subst (λ (k : ℕ). FirstMissing l k) same (first l size w)) f judged l size w ∙ ap (orElse (faultOf f)) (fault-end (amounts fee) l n (omega arith)) ∙ or-none (faultOf f))
 
 -- ---- a loop for 26: those below k pass
 

@@ -10,7 +10,7 @@ use lib.ListN.{length, getD, set, length-set}
 use lib.Seq.{getD-set-same, getD-set-other}
 use borrow.Author.Tests.{ltb-true, lt-ltb, le-leb, leb-true, eqb-true, eqb-false, eq-eqb, ne-eqb, not-true}
 use Rattle.format.specs.Parse.{pick}
-use Rattle.bundle.specs.TestLaws.{clash, and-left, and-right, and-both, or-told, or-left, or-right, else-false}
+use Rattle.spv.specs.TestLaws.{clash, and-left, and-right, and-both, or-told, or-left, or-right, else-false}
 use Rattle.bundle.specs.Listed.{listed, last-listed, other-listed}
 use Rattle.bundle.specs.Numbering.{freshNumbers}
 use Rattle.bundle.specs.Windows.{numbersIn, inside, spenderFrom, freshIn, markOne, marked, markAll, twice, sumTo, sumAt}

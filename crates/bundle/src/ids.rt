@@ -1,4 +1,6 @@
-// The ids of a bundle's transactions, four at a time.
+// The ids of a bundle's transactions, four at a time, and the BUMPs that these name.
+use format::Anchor;
+use format::Beef;
 use format::Cursor;
 use format::EntryAnswer;
 use format::span_hash;
@@ -8,12 +10,14 @@ ghost use mathlib.Core.Bool.{true, false};
 ghost use Prim.Native.Nat.{ℕ, _≤_};
 ghost use Rattle.format.specs.Refusals.{MAX-TXS};
 ghost use Rattle.lanes.specs.Lanes as L;
-ghost use Rattle.bundle.specs.Ahead.{noSpan, span, spanId, Reaches, ReachesFour, Inside, setFour, IdsFrom};
+ghost use lib.ListN.{set};
+ghost use Rattle.bundle.specs.Ahead.{noSpan, anchorOf, span, spanId, Reaches, ReachesFour, Inside, setFour, setAnchors, IdsFrom, AnchorsFrom};
 
-// Where a transaction starts and ends.
+// Where a transaction starts and ends, and the number of its BUMP.
 pub(crate) struct Span {
     start: usize,
     end: usize,
+    anchor: u64,
 }
 
 pub(crate) struct Spans {
@@ -37,11 +41,25 @@ struct Group {
     more: bool,
 }
 
+// The number of the BUMP that an anchor names; past the BUMPs if it names none.
+pub(crate) fn anchor_number(anchor: Anchor) -> u64
+    ensures { λ r. ⌜ r ≡ anchorOf anchor ⌝ }
+{
+    match anchor {
+        Anchor::Bump(n) => n,
+        Anchor::Unanchored => Beef::MAX_BUMPS as u64,
+    }
+}
+
 // Where no transaction can be read; it lies in no input.
 fn no_span() -> Span
     ensures { λ r. ⌜ r ≡ noSpan ⌝ }
 {
-    Span { start: 1, end: 0 }
+    Span {
+        start: 1,
+        end: 0,
+        anchor: Beef::MAX_BUMPS as u64,
+    }
 }
 
 fn none_reached(c: Cursor) -> Reached
@@ -63,10 +81,12 @@ fn reach(s: &[u8], count: u64, c: Cursor) -> Reached
         return none_reached(c);
     };
     let tx = e.transaction;
+    let named = e.anchor;
+    let anchor = anchor_number(named);
     let start = tx.start;
     let end = tx.end;
     Reached {
-        span: Span { start, end },
+        span: Span { start, end, anchor },
         next: after,
         more: true,
     }
@@ -177,18 +197,48 @@ fn set_four(ids: &mut [u8], i: usize, four: Nodes)
     format::set_hash(ids, i + 3, d);
 }
 
-// The ids of n transactions from a place on, end to end, as far as there is room.
-pub(crate) fn write_ids(s: &[u8], count: u64, start: Cursor, n: usize, ids: &mut [u8])
+// The i-th number, if there is room for it.
+fn set_number(list: &mut [u64], i: usize, x: u64)
+    ensures { λ _. ⌜ now (list .exit) ≡ set (now (list .entry)) i x ⌝ }
+{
+    if list.len() <= i {
+        return;
+    }
+    list[i] = x;
+}
+
+// The BUMPs' numbers of four from the i-th on, as far as there is room.
+fn set_anchors(anchors: &mut [u64], i: usize, x: Spans)
+    requires { ⌜ i ≤ MAX-TXS ⌝ }
+    ensures { λ _. ⌜ now (anchors .exit) ≡ setAnchors (now (anchors .entry)) i x ⌝ }
+{
+    set_number(anchors, i, x.a.anchor);
+    set_number(anchors, i + 1, x.b.anchor);
+    set_number(anchors, i + 2, x.c.anchor);
+    set_number(anchors, i + 3, x.d.anchor);
+}
+
+// The ids of n transactions from a place on, end to end, and the numbers of their BUMPs, as far as there is room.
+pub(crate) fn write_ids(
+    s: &[u8],
+    count: u64,
+    start: Cursor,
+    n: usize,
+    ids: &mut [u8],
+    anchors: &mut [u64],
+)
     requires { ⌜ n ≤ MAX-TXS ⌝ }
-    ensures { λ _. ⌜ IdsFrom count (now (s .entry)) (start .at) n (now (ids .exit)) ⌝ }
+    ensures { λ _. ⌜ IdsFrom count (now (s .entry)) (start .at) n (now (ids .exit)) × AnchorsFrom count (now (s .entry)) (start .at) n (now (anchors .exit)) ⌝ }
 {
     let mut next = start;
     let mut more = true;
     let mut i = 0;
     while i < n {
         let group = spans_from(s, count, next, more);
-        let four = ids_of(s, group.spans);
+        let spans = group.spans;
+        let four = ids_of(s, spans);
         set_four(ids, i, four);
+        set_anchors(anchors, i, spans);
         next = group.next;
         more = group.more;
         i += 4;

@@ -1,4 +1,8 @@
 // Judging a BEEF against a list of trusted roots (paper 01, "The bundle rule").
+use super::anchored::ENDS_ROOM;
+use super::anchored::climb_bumps;
+use super::anchored::end_at;
+use super::ids::anchor_number;
 use super::ids::write_ids;
 use super::outputs::judge_amounts;
 use super::parents::in_order;
@@ -9,7 +13,6 @@ use super::sums::outputs_total;
 use format::Anchor;
 use format::Beef;
 use format::BeefAnswer;
-use format::BumpHead;
 use format::Cursor;
 use format::EntryAnswer;
 use format::EntryHead;
@@ -23,28 +26,21 @@ use format::refusal::NO_ROOM;
 use format::refusal::SAME_TX;
 use format::refusal::SHORT;
 use format::refusal::TOO_LONG;
-use format::refusal::UNTRUSTED;
-use path::Form;
-use path::LAYERS;
-use path::Path;
-use spv::Outcome;
 use spv::Rejection;
-use spv::prove_in;
 use spv::reject;
 use spv::reject_reading;
 ghost use mathlib.Core.Path.{_≡_};
 ghost use Prim.Native.Nat.{ℕ, _+_, _*_, _<_, _≤_};
-ghost use lib.ListN.{length, take, drop};
+ghost use lib.ListN.{length};
 ghost use lib.Seq.{paste};
-ghost use Rattle.format.specs.Bytes.{same};
-ghost use Rattle.format.specs.Refusals.{MAX-TXS, MAX-BUMPS};
+ghost use Rattle.format.specs.Refusals.{MAX-TXS};
 ghost use Rattle.spv.specs.Result.{carrying, blaming};
 ghost use Rattle.spv.specs.Hashes.{hashesOf, among};
 ghost use Rattle.bundle.specs.Ahead.{IdsFrom};
-ghost use Rattle.bundle.specs.Bundle.{trusted, judgeFrom, judgeBeef};
-ghost use Rattle.bundle.specs.BundleHeads.{numbersOf, restsFrom, IsKept, Names, headStanding, headId, headStands, headRow, headsFrom, Written};
-ghost use Rattle.spv.specs.Compare.{prove};
-ghost use Rattle.spv.specs.Readings.{pathReading};
+ghost use Rattle.bundle.specs.Anchored.{ENDS-ROOM, EndsFrom, Mined};
+ghost use Rattle.bundle.specs.Bundle.{judgeFrom, judgeBeef};
+ghost use Rattle.bundle.specs.BundleHeads.{numbersOf, restsFrom, headStanding, headId, headStands, headRow, headsFrom, Written};
+ghost use Rattle.format.specs.declared.bump.BumpHead.{BumpHead};
 ghost use Rattle.bundle.specs.BundleAnswer.{judgementOf, reachedBy};
 ghost use Rattle.bundle.specs.Phases.{settled};
 ghost use Rattle.bundle.specs.Pass.{faultOf};
@@ -134,76 +130,16 @@ fn rests_on(s: &[u8], inputs: Items, ids: &[u8], order: &[u64]) -> bool
     true
 }
 
-// The path of one of a bundle's BUMPs, kept for the transactions that name the same BUMP; past the BUMPs none is kept.
-pub(crate) struct Kept {
-    bump: u64,
-    path: Path,
-}
-
-fn none_kept() -> Kept
-    ensures { λ r. ⌜ r .bump ≡ MAX-BUMPS ⌝ }
-{
-    Kept {
-        bump: Beef::MAX_BUMPS as u64,
-        path: Path {
-            form: Form::Bump,
-            layers: 0,
-            at: [0usize; LAYERS],
-        },
-    }
-}
-
-// The path that an anchor names, found anew only if another is kept.
-fn keep_path(s: &[u8], bumps: [BumpHead; Beef::MAX_BUMPS], anchor: Anchor, kept: Kept) -> Kept
-    ensures { λ r. ⌜ (IsKept (now (s .entry)) bumps kept → IsKept (now (s .entry)) bumps r × Names (now (s .entry)) bumps anchor (r .path)) ⌝ }
-{
-    let Anchor::Bump(n) = anchor else {
-        return kept;
-    };
-    if Beef::MAX_BUMPS as u64 <= n {
-        return kept;
-    }
-    if n == kept.bump {
-        return kept;
-    }
-    let head = bumps[n as usize];
-    let path = path::bump_path(s, head);
-    Kept { bump: n, path }
-}
-
-// An anchored transaction: by the path of its BUMP to a root of the list.
-fn judge_anchor(s: &[u8], roots: &[u8], path: Path, bump: u64, id: [u8; 32]) -> Standing
-    ensures { λ r. ⌜ r ≡ trusted (now (roots .entry)) bump (prove (pathReading (now (s .entry)) path id)) ⌝ }
-{
-    let proved = prove_in(s, path, id);
-    let outcome = proved.outcome;
-    let root = proved.root;
-    match outcome {
-        Outcome::Refused(rejection) => Standing::Refuses(rejection),
-        Outcome::Accepted { position, layers } => {
-            if !is_among(root, roots) {
-                return Standing::Refuses(reject(UNTRUSTED));
-            }
-            Standing::Passes {
-                anchored: 1,
-                bump,
-                position,
-            }
-        }
-    }
-}
-
-// A transaction after those with the ids, by the path that its anchor names.
+// A transaction after those with the ids, by what it came to in the BUMP that it names.
 fn judge_entry(
     s: &[u8],
-    roots: &[u8],
-    path: Path,
+    mined: Standing,
     ids: &[u8],
     order: &[u64],
     id: [u8; 32],
     e: EntryHead,
 ) -> Standing
-    ensures { λ r. ⌜ ((bumps : List BumpHead) → Names (now (s .entry)) bumps (e .anchor) path → r ≡ headStanding (now (s .entry)) (now (roots .entry)) bumps (hashesOf (now (ids .entry))) id e) ⌝ }
+    ensures { λ r. ⌜ ((roots : List ℕ) (bumps : List BumpHead) → Mined (now (s .entry)) roots bumps id (e .anchor) mined → r ≡ headStanding (now (s .entry)) roots bumps (hashesOf (now (ids .entry))) id e) ⌝ }
 {
     if is_among(id, ids) {
         return Standing::Refuses(reject(SAME_TX));
@@ -215,7 +151,7 @@ fn judge_entry(
             if Beef::MAX_BUMPS as u64 <= n {
                 return Standing::Refuses(reject(BAD_INDEX));
             }
-            judge_anchor(s, roots, path, n, id)
+            mined
         }
         Anchor::Unanchored => {
             if !rests_on(s, tx.inputs, ids, order) {
@@ -248,27 +184,26 @@ fn blame(rejection: Rejection, n: usize) -> Rejection
     }
 }
 
-// So many transactions, each read again at its place and judged up to 20, from the first. Their ids are there; the numbers of those that pass are
-// written.
+// So many transactions, each read again at its place and judged up to 20, from the first. Their ids and what they came to in their BUMPs are there; the
+// numbers of those that pass are written.
 fn judge_entries(
     s: &[u8],
-    roots: &[u8],
-    bumps: [BumpHead; Beef::MAX_BUMPS],
     count: u64,
     start: Cursor,
     n: usize,
     order: &[u64],
+    ends: &[u64],
     ids: &[u8],
     numbers: &mut [u64],
 ) -> Verdict
     requires { ⌜ n ≤ MAX-TXS ⌝ }
     requires { ⌜ IDS-ROOM ≤ length (now ids) ⌝ }
     requires { ⌜ NUMBERS-ROOM ≤ length (now numbers) ⌝ }
+    requires { ⌜ ENDS-ROOM ≤ length (now ends) ⌝ }
     requires { ⌜ IdsFrom count (now s) (start .at) n (now ids) ⌝ }
     requires { ⌜ length (headsFrom count (now s) n (start .at)) ≡ n ⌝ }
-    ensures { λ r. ⌜ (judgementOf r (now (ids .entry)) (now (numbers .exit)) ≡ judgeFrom (headId (now (s .entry))) (headStands (now (s .entry)) (now (roots .entry)) bumps) (headRow (now (s .entry))) [] (headsFrom count (now (s .entry)) n (start .at))) × Written (now (s .entry)) (now (ids .entry)) (now (numbers .exit)) (headsFrom count (now (s .entry)) n (start .at)) (reachedBy r) ⌝ }
+    ensures { λ r. ⌜ ((roots : List ℕ) (bumps : List BumpHead) → EndsFrom count (now (s .entry)) roots bumps (start .at) n (now (ends .entry)) → (judgementOf r (now (ids .entry)) (now (numbers .exit)) ≡ judgeFrom (headId (now (s .entry))) (headStands (now (s .entry)) roots bumps) (headRow (now (s .entry))) [] (headsFrom count (now (s .entry)) n (start .at))) × Written (now (s .entry)) (now (ids .entry)) (now (numbers .exit)) (headsFrom count (now (s .entry)) n (start .at)) (reachedBy r)) ⌝ }
 {
-    let mut kept = none_kept();
     let mut next = start;
     let mut i = 0;
     while i < n {
@@ -277,11 +212,11 @@ fn judge_entries(
             // Each was read before: this is not reached.
             return Verdict::Refused(blame(reject(SHORT), i));
         };
-        let anchor = e.anchor;
-        kept = keep_path(s, bumps, anchor, kept);
         let tx = e.transaction;
         let id = format::hash_at(ids, 32 * i);
-        let standing = judge_entry(s, roots, kept.path, &ids[..32 * i], order, id, e);
+        let anchor = e.anchor;
+        let mined = end_at(ends, anchor_number(anchor), i);
+        let standing = judge_entry(s, mined, &ids[..32 * i], order, id, e);
         match standing {
             Standing::Refuses(rejection) => {
                 return Verdict::Refused(blame(rejection, i));
@@ -359,19 +294,12 @@ pub(crate) fn judge_flat(
             let count = head.bumps;
             let start = head.entries;
             let n = head.transactions;
-            write_ids(s, count as u64, start, n, ids);
+            let mut anchors = [0u64; Beef::MAX_TRANSACTIONS];
+            write_ids(s, count as u64, start, n, ids, &mut anchors);
+            let mut ends = [0u64; ENDS_ROOM];
+            climb_bumps(s, roots, bumps, count, n, &anchors, ids, &mut ends);
             let order = in_order(ids, n);
-            let verdict = judge_entries(
-                s,
-                roots,
-                bumps,
-                count as u64,
-                start,
-                n,
-                &order,
-                ids,
-                numbers,
-            );
+            let verdict = judge_entries(s, count as u64, start, n, &order, &ends, ids, numbers);
             let fault = judge_amounts(s, ids, &order, numbers, reached(verdict), fee);
             settle(verdict, fault)
         }

@@ -1,4 +1,5 @@
 // Judging a BEEF against a list of trusted roots, into a table that the caller lends.
+mod anchored;
 mod ids;
 mod judging;
 mod marks;

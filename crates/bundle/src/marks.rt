@@ -8,9 +8,9 @@ ghost use mathlib.Core.Path.{_≡_};
 ghost use mathlib.Core.Bool.{_||_};
 ghost use Prim.Native.Nat.{_+_, _-_, _<_, _≤_, _*_};
 ghost use lib.ListN.{length};
-ghost use Rattle.spv.specs.Hashes.{hashesOf};
+ghost use Rattle.spv.specs.Hashes.{hashesOf, Distinct};
 ghost use Rattle.bundle.specs.Windows.{markOne, marked, markAll, twice, lesserIf, marksIn, firstIn};
-ghost use Rattle.bundle.specs.FlatForm.{Distinct, fourAt, through, spentFrom, inputsOf, listsFrom};
+ghost use Rattle.bundle.specs.FlatForm.{fourAt, through, spentFrom, inputsOf, listsFrom};
 
 const U32: u64 = 4294967296;
 

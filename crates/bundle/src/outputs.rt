@@ -13,9 +13,9 @@ ghost use mathlib.Core.Bool.{true};
 ghost use mathlib.Core.List.{List};
 ghost use Prim.Native.Nat.{ℕ, _+_, _*_, _<_, _≤_};
 ghost use lib.ListN.{length, take, getD};
-ghost use Rattle.spv.specs.Hashes.{hashesOf};
+ghost use Rattle.spv.specs.Hashes.{hashesOf, Distinct};
 ghost use Rattle.bundle.specs.Amounts.{Payment};
-ghost use Rattle.bundle.specs.FlatForm.{Distinct, inputsOf, outputsAt, existFrom};
+ghost use Rattle.bundle.specs.FlatForm.{inputsOf, outputsAt, existFrom};
 ghost use Rattle.bundle.specs.Shown.{Shown, FirstMissing, Answers};
 
 // How many outputs the p-th transaction has; none past the ids.
@@ -112,15 +112,16 @@ pub(crate) fn judge_amounts(
         return no_fault();
     }
     let missing = first_missing(s, ids, order, numbers, n);
+    // Called from two places, `judge_sums` keeps a frame of its own: its marks take no room while climbs are made.
+    if n <= missing {
+        return judge_sums(s, &ids[..32 * n], order, numbers, n, fee);
+    }
     let fault = judge_sums(s, &ids[..32 * missing], order, numbers, missing, fee);
     if fault.number != 0 {
         return fault;
     }
-    if missing < n {
-        return Fault {
-            number: NO_OUTPUT,
-            entry: missing,
-        };
+    Fault {
+        number: NO_OUTPUT,
+        entry: missing,
     }
-    no_fault()
 }

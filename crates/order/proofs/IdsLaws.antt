@@ -12,12 +12,11 @@ use borrow.Author.Tests.{lt-ltb, le-ltb, le-leb}
 use Rattle.format.specs.Parse.{pick}
 use Rattle.format.specs.Bytes.{same, hashAt}
 use Rattle.format.specs.BytesLaws.{same-eq, same-ne, ne-same}
-use Rattle.spv.specs.Hashes.{among, hashes}
-use Rattle.spv.specs.HashesLaws.{hashes-length, hashes-at}
-use Rattle.order.proofs.Tests.{clash, and-left, and-right}
-use Rattle.order.specs.Set.{Among, newFrom}
-use Rattle.order.proofs.SetTheorems.{among-told, told-among}
-use Rattle.order.specs.Ids.{indexOf, keyOf, Keys, Different}
+use Rattle.spv.specs.Hashes.{among, hashes, indexOf, Distinct, Among}
+use Rattle.spv.specs.HashesLaws.{hashes-length, hashes-at, among-told, told-among}
+use Rattle.spv.specs.TestLaws.{clash, and-left, and-right}
+use Rattle.order.specs.Set.{newFrom}
+use Rattle.order.specs.Ids.{keyOf, Keys}
 
 hashes-fewer : (i n : ℕ) (l : List ℕ) → i ≤ n → take i (hashes n l) ≡ hashes i l
 unfolding hashes
@@ -57,15 +56,6 @@ pub keys-differ : (a x : List ℕ) → (keyOf a ≡ keyOf x → ⊥) → same a 
 keys-differ a x ne = ne-same a x (λ e. ne (ap keyOf e))
 
 -- ---- what is found
-
-pub index-most : (x : List ℕ) (l : List (List ℕ)) → indexOf x l ≤ length l
-unfolding indexOf
-index-most x [] = omega arith
-index-most x (y ∷ l) = go (same y x) (index-most x l)
-  where
-    go : (t : Bool) → indexOf x l ≤ length l → pick t 0 (suc (indexOf x l)) ≤ suc (length l)
-    go true h = omega arith
-    go false h = omega arith
 
 pub index-told : (x : List ℕ) (l : List (List ℕ)) → indexOf x l < length l → getD l (indexOf x l) [] ≡ x
 unfolding indexOf
@@ -135,7 +125,7 @@ module _ (l : List (List ℕ)) where
       off true q = clash false q refl
       off false q = refl
 
-  pub new-different : newFrom [] l ≡ true → Different l
+  pub new-different : newFrom [] l ≡ true → Distinct l
   new-different e j k low h same-id =
       let few = length-take-le k l (omega arith) in
       clash (among (getD l k []) (take k l)) (told-among (getD l k []) (take k l) (j, omega arith, getD-take k l j [] low ∙ same-id)) (new-at e k h)
@@ -181,7 +171,7 @@ module _ (ids : List ℕ) (n i : ℕ) (room : 32 * n ≤ length ids) (low : i < 
       ∙ ap (λ (k : ℕ). ltb k i) (sym e)
 
 -- ids that differ are all new
-pub different-new : (l : List (List ℕ)) → Different l → newFrom [] l ≡ true
+pub different-new : (l : List (List ℕ)) → Distinct l → newFrom [] l ≡ true
 different-new l d = on (length l) 0 (omega arith)
   where
     fresh : (k : ℕ) → k < length l → (t : Bool) → among (getD l k []) (take k l) ≡ t → among (getD l k []) (take k l) ≡ false

@@ -1,4 +1,3 @@
-pub mod Tests
 pub mod BitsLaws
 pub mod ListedLaws
 pub mod Pigeon

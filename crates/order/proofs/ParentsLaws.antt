@@ -17,12 +17,11 @@ use Rattle.format.specs.Parse.{pick, each, got, bad}
 use Rattle.format.specs.Bytes.{same, hashAt}
 use Rattle.format.specs.BytesLaws.{same-eq, same-ne, eq-same, ne-same}
 use Rattle.format.specs.Transaction.{inputField, txField, txHeadOf}
-use Rattle.spv.specs.Hashes.{among, hashes}
+use Rattle.spv.specs.Hashes.{among, hashes, indexOf, Distinct}
 use Rattle.spv.specs.HashesLaws.{hashes-length}
 use Rattle.order.specs.Bits.{bit, withBit}
 use Rattle.order.proofs.BitsLaws.{bit-with}
 use Rattle.order.specs.Code.{dependsIn}
-use Rattle.order.specs.Ids.{indexOf, Different}
 use Rattle.order.proofs.IdsLaws.{index-here, index-told}
 use Rattle.order.specs.Parents.{parentsFrom, withParent, putParent, named, allNamed, filledFrom}
 
@@ -83,7 +82,7 @@ module _ (ids : List (List ℕ)) (few : length ids ≤ 256) where
   all-named-length i m [] = refl
   all-named-length i m (x ∷ l) = all-named-length i (named ids i m x) l ∙ named-length i m x
 
-  module _ (different : Different ids) where
+  module _ (different : Distinct ids) where
     -- ids that differ: the one at q is found at q
     found-at : (q : ℕ) (x : List ℕ) → q < length ids → x ≡ getD ids q [] → indexOf x ids ≡ q
     found-at q x h e = index-here x ids q h (λ k low. ne-same (getD ids k []) x (λ z. different k q low h (z ∙ e))) (eq-same (getD ids q []) x (sym e))

@@ -17,14 +17,14 @@ use Rattle.spv.specs.declared.rejection.Rejection.{Rejection}
 use Rattle.order.specs.Order.{NotAfter}
 use Rattle.order.specs.Set.{SetResult, accepted, refused, refusing, follow, readSet, Handed, handedIn, idOf, newIds, InOrder, passes, oursOf, proposed, ordering, checking, orderSet, checkSet}
 use Rattle.order.proofs.SetTheorems.{passes-exactly, ours-in-order, ours-first, none-exactly}
-use Rattle.order.specs.Ids.{Different}
+use Rattle.spv.specs.Hashes.{Distinct}
 use Rattle.order.proofs.IdsLaws.{new-different, different-new}
 
 -- the bytes hold so many transactions, of which no two have one id
 pub record Holds (s : List ℕ) (count : ℕ) : Type 0 where
   pub transactions : List Transaction
   pub read : readSet s count ≡ accepted transactions
-  pub differ : Different (map idOf (map (handedIn s) transactions))
+  pub differ : Distinct (map idOf (map (handedIn s) transactions))
 
 abbrev pub setOf : (s : List ℕ) {count : ℕ} → Holds s count → List Handed
 setOf s h = map (handedIn s) (h .transactions)
@@ -140,14 +140,14 @@ module _ (s : List ℕ) (count : ℕ) where
     abbrev ids : List (List ℕ)
     ids = map idOf (map (handedIn s) l)
 
-    old : (Different ids → ⊥) → newIds (map (handedIn s) l) ≡ false
+    old : (Distinct ids → ⊥) → newIds (map (handedIn s) l) ≡ false
     old ne = go (newIds (map (handedIn s) l)) refl
       where
         go : (t : Bool) → newIds (map (handedIn s) l) ≡ t → newIds (map (handedIn s) l) ≡ false
         go true q = absurd (ne (new-different ids (unfold newIds in q)))
         go false q = q
 
-    pub order-19 : (room : ℕ) → (orderSet s count room ≡ refusing SAME-TX) ↔ (Different ids → ⊥)
+    pub order-19 : (room : ℕ) → (orderSet s count room ≡ refusing SAME-TX) ↔ (Distinct ids → ⊥)
     order-19 room = (λ e d. apart (record { transactions = l; read = m; differ = d }) e, λ ne. unfold orderSet ordering in rw m (rw (old ne)))
       where
         apart : Holds s count → orderSet s count room ≡ refusing SAME-TX → ⊥
@@ -158,7 +158,7 @@ module _ (s : List ℕ) (count : ℕ) where
             go true (some o) f = let g : _≡_ {A = SetResult (List ℕ)} (accepted o) (refusing SAME-TX) = (unfold proposed in f) in let z : _≡_ {A = ℕ} 0 1 = cc in omega arith
             go false x f = let z : _≡_ {A = ℕ} NO-ROOM SAME-TX = same-refusal NO-ROOM SAME-TX f in omega arith
 
-    pub check-19 : (order : List ℕ) → (checkSet s count order ≡ refusing SAME-TX) ↔ (Different ids → ⊥)
+    pub check-19 : (order : List ℕ) → (checkSet s count order ≡ refusing SAME-TX) ↔ (Distinct ids → ⊥)
     check-19 order = (λ e d. apart (record { transactions = l; read = m; differ = d }) e, λ ne. unfold checkSet checking in rw m (rw (old ne)))
       where
         apart : Holds s count → checkSet s count order ≡ refusing SAME-TX → ⊥

@@ -18,15 +18,14 @@ use Rattle.format.specs.Id.{txid}
 use Rattle.format.specs.Refusals.{SAME-TX, NO-ROOM, NO-ORDER, BAD-ORDER, MAX-INPUT, MAX-TXS}
 use Rattle.spv.specs.declared.rejection.Rejection.{Rejection}
 use Rattle.spv.specs.Result.{carrying}
-use Rattle.spv.specs.Hashes.{among, hashes}
+use Rattle.spv.specs.Hashes.{among, hashes, Distinct}
 use Rattle.order.specs.declared.answer.Ordered.{Ordered}
 use Rattle.order.specs.declared.answer.Ordered.the-variants.{Accepted, Refused}
-use Rattle.order.proofs.Tests.{clash}
+use Rattle.spv.specs.TestLaws.{clash}
 use Rattle.order.specs.Bits.{bit}
 use Rattle.order.specs.Order.{check, ours}
 use Rattle.order.proofs.OrderSame.{check-same, ours-same}
 use Rattle.order.specs.Code.{dependsIn, isSome}
-use Rattle.order.specs.Ids.{Different}
 use Rattle.order.proofs.IdsLaws.{new-different}
 use Rattle.order.specs.Parents.{parentsFrom, allNamed, filledFrom}
 use Rattle.order.proofs.ParentsLaws.{all-named-length, all-named-told}
@@ -81,7 +80,7 @@ parents-read s (suc n) at l q e =
 
 -- ---- the matrix
 
-module _ (s : List ℕ) (ids : List (List ℕ)) (few : length ids ≤ 256) (different : Different ids) where
+module _ (s : List ℕ) (ids : List (List ℕ)) (few : length ids ≤ 256) (different : Distinct ids) where
   fill-turn : (n i at : ℕ) (m : List ℕ) (t : Transaction) (next : ℕ) → txField s at ≡ got t next
       → filledFrom s ids (suc n) i at m ≡ filledFrom s ids n (suc i) next (allNamed ids i m (handedIn s t .parents))
   fill-turn n i at m t next e = made (tx-told s at e)

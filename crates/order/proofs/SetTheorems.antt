@@ -1,34 +1,16 @@
 -- What Item 12 promises of a set.
-use Prim.Native.Nat.{ℕ, zero, suc, _<_}
-use mathlib.Core.Path.{_≡_, refl}
-use mathlib.Core.Bool.{true, false}
-use mathlib.Core.List.{List, [], _∷_}
-use mathlib.Core.Logic.{_⊎_, inl, inr, _↔_}
+use Prim.Native.Nat.{ℕ, _<_}
+use mathlib.Core.Path.{_≡_}
+use mathlib.Core.Bool.{true}
+use mathlib.Core.List.{List}
+use mathlib.Core.Logic.{_↔_}
 use mathlib.Core.Option.{none, some}
-use native.Mathlib.Omega.{arith}
 use lib.ListN.{length, getD}
-use Rattle.format.specs.Bytes.{same}
-use Rattle.format.specs.BytesLaws.{same-eq, eq-same}
-use Rattle.spv.specs.Hashes.{among}
-use Rattle.order.proofs.Tests.{clash, or-told, or-left, or-right}
+use Rattle.spv.specs.Hashes.{Among}
+use Rattle.spv.specs.HashesLaws.{among-told, told-among}
 use Rattle.order.specs.Order.{NotAfter}
 use Rattle.order.proofs.OrderTheorems.{Passes, check-passes, passes-check, ours-passes, ours-least, none-passes, passes-none}
-use Rattle.order.specs.Set.{Handed, Among, idAt, parentsAt, parentIn, InOrder, passes, oursOf}
-
-pub among-told : (x : List ℕ) (l : List (List ℕ)) → among x l ≡ true → Among x l
-unfolding among
-among-told x [] e = clash false e refl
-among-told x (y ∷ l) e = go (or-told (same y x) (among x l) e) (among-told x l)
-  where
-    go : (same y x ≡ true) ⊎ (among x l ≡ true) → (among x l ≡ true → Among x l) → Among x (y ∷ l)
-    go (inl h) f = (0, omega arith, same-eq y x h)
-    go (inr h) f = let w = f h in (suc (w .0), omega (arith, w .1), w .2)
-
-pub told-among : (x : List ℕ) (l : List (List ℕ)) → Among x l → among x l ≡ true
-unfolding among
-told-among x [] (k, h, e) = absurd (omega (arith, h))
-told-among x (y ∷ l) (zero, h, e) = or-left (same y x) (among x l) (eq-same y x e)
-told-among x (y ∷ l) (suc k, h, e) = or-right (same y x) (among x l) (told-among x l (k, omega (arith, h), e))
+use Rattle.order.specs.Set.{Handed, idAt, parentsAt, parentIn, InOrder, passes, oursOf}
 
 module _ (set : List Handed) where
   in-order : (order : List ℕ) → Passes (length set) (parentIn set) order → InOrder set order

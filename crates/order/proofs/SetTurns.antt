@@ -1,73 +1,60 @@
--- A loop that reads a set and keeps the id of each transaction: what holds after i of n.
-use Prim.Native.Nat.{ℕ, zero, suc, _+_, _-_, _*_, _/_, _<_, _≤_}
-use mathlib.Core.Path.{_≡_, refl, sym, ap, subst, _∙_}
+-- A loop that reads a set and keeps where each transaction ends: what holds after i of n; and the ids by these places.
+use Prim.Native.Nat.{ℕ, zero, suc, _+_, _-_, _*_, _<_, _≤_}
+use mathlib.Core.Path.{_≡_, refl, sym, ap, ap₂, subst, _∙_}
 use mathlib.Core.Bool.{false}
 use mathlib.Core.List.{List, [], _∷_, _++_, map, append-assoc, append-nil}
 use native.Mathlib.Nat.{sub-zero}
 use native.Mathlib.Numerals.{add-one}
 use native.Mathlib.Omega.{arith}
-use lib.ListN.{length, take, drop, length-drop}
-use lib.Seq.{paste, take-paste, length-paste, take-all, length-take-le, take-add, take-take, drop-append-le, length-take-le}
+use lib.ListN.{length, getD, set, take, drop, replicate, length-set, length-replicate}
+use lib.Seq.{drop-drop, getD-set-same, getD-set-other}
 use borrow.Author.Tests.{lt-ltb, le-ltb}
 use Rattle.format.specs.declared.tx.TxHead.{TxHead}
 use Rattle.format.specs.Parse.{each, got, bad}
 use Rattle.format.specs.ParseLaws.{each-got, each-bad}
 use Rattle.format.specs.Basics.{one-less}
-use Rattle.format.specs.Bytes.{setHash}
-use Rattle.format.specs.BytesLaws.{set-inside}
+use Rattle.format.specs.Bytes.{hashAt}
+use Rattle.format.specs.BytesLaws.{hash-there}
 use Rattle.format.specs.Transaction.{Transaction, txField, txHeadOf}
 use Rattle.format.specs.TransactionLaws.{TxRead, tx-told}
 use Rattle.format.specs.Id.{txid, spanHash}
-use Rattle.format.specs.IdLaws.{tx-hash, span-length}
+use Rattle.format.specs.IdLaws.{tx-hash}
 use Rattle.format.specs.Refusals.{EXTRA, MAX-INPUT, MAX-TXS}
 use Rattle.spv.specs.Result.{carrying}
-use Rattle.spv.specs.Hashes.{hashes, hashesOf}
-use Rattle.spv.specs.HashesLaws.{hashes-more}
+use Rattle.spv.specs.Hashes.{hashes}
+use Rattle.spv.specs.Spans.{spanId, Hashed}
+use Rattle.spv.specs.SpansLaws.{hashed-enough}
 use Rattle.order.specs.Set.{SetResult, accepted, refused, before, readFrom}
-use Rattle.order.specs.SetRead.{idsOf}
+use Rattle.order.specs.SetRead.{between, idsBetween, idsOf}
 
--- ---- hashes end to end
+-- ---- ids by places, and end to end
 
-hashes-taken : (n m : ℕ) (l : List ℕ) → 32 * n ≤ m → m ≤ length l → hashes n (take m l) ≡ hashes n l
+-- a place past the first ids is none of theirs
+between-set : (s places : List ℕ) (i j q : ℕ) → i < j → idsBetween s (set places j q) i ≡ idsBetween s places i
+unfolding idsBetween between
+between-set s places zero j q h = refl
+between-set s places (suc i) j q h =
+    rw (between-set s places i j q (omega arith), getD-set-other places j i q 0 (λ e. omega arith), getD-set-other places j (suc i) q 0 (λ e. omega arith))
+
+-- one more
+between-more : (s places : List ℕ) (i q : ℕ) → i + 1 < length places → idsBetween s (set places (i + 1) q) (i + 1) ≡ idsBetween s places i ++ (spanHash s (getD places i 0) q ∷ [])
+unfolding idsBetween between spanId
+between-more s places i q h = rw add-one (rw (between-set s places i (suc i) q (omega arith), getD-set-other places (suc i) i q 0 (λ e. omega arith), getD-set-same places (suc i) q 0 (rw add-one at h)))
+
+hashes-last : (n : ℕ) (l : List ℕ) → hashes (suc n) l ≡ hashes n l ++ (take 32 (drop (32 * n) l) ∷ [])
 unfolding hashes
-hashes-taken zero m l h b = refl
-hashes-taken (suc n) m l h b =
-    let few : 32 ≤ m = omega arith in
-    let e : 32 + (m - 32) ≡ m = omega arith in
-    let cut : take m l ≡ take 32 l ++ take (m - 32) (drop 32 l) = ap (λ (k : ℕ). take k l) (sym e) ∙ take-add 32 (m - 32) l in
-    let long = length-take-le 32 l (omega arith) in
-    rw (take-take 32 m l few) (ap (take 32 l ∷_) (ap (λ (x : List ℕ). hashes n (drop 32 x)) cut ∙ rest long (hashes-taken n (m - 32) (drop 32 l) (omega arith) (inside (length-drop 32 l)))))
-  where
-    inside : length (drop 32 l) ≡ length l - 32 → m - 32 ≤ length (drop 32 l)
-    inside e = omega arith
+hashes-last zero l = refl
+hashes-last (suc n) l =
+    let e : 32 + 32 * n ≡ 32 * suc n = omega arith in
+    ap (take 32 l ∷_) (hashes-last n (drop 32 l) ∙ ap (λ (x : List ℕ). hashes n (drop 32 l) ++ (take 32 x ∷ [])) (drop-drop (32 * n) 32 l ∙ ap (λ (k : ℕ). drop k l) e))
 
-    rest : length (take 32 l) ≡ 32 → hashes n (take (m - 32) (drop 32 l)) ≡ hashes n (drop 32 l) → hashes n (drop 32 (take 32 l ++ take (m - 32) (drop 32 l))) ≡ hashes n (drop 32 l)
-    rest long f = ap (hashes n) (drop-append-le 32 (take 32 l) (take (m - 32) (drop 32 l)) (omega arith) ∙ nothing) ∙ f
-      where
-        nothing : drop 32 (take 32 l) ++ take (m - 32) (drop 32 l) ≡ take (m - 32) (drop 32 l)
-        nothing = ap (λ (x : List ℕ). x ++ take (m - 32) (drop 32 l)) (none (drop 32 (take 32 l)) (length-drop 32 (take 32 l) ∙ omega arith))
-          where
-            none : (x : List ℕ) → length x ≡ 0 → x ≡ []
-            none [] e = refl
-            none (y ∷ x) e = absurd (omega arith)
-
-of-taken : (n : ℕ) (l : List ℕ) → 32 * n ≤ length l → hashesOf (take (32 * n) l) ≡ hashes n l
-unfolding hashesOf
-of-taken n l h =
-    let e = length-take-le (32 * n) l h in
-    let q : length (take (32 * n) l) / 32 ≡ n = omega arith in
-    ap (λ (k : ℕ). hashes k (take (32 * n) l)) q ∙ hashes-taken n (32 * n) l (omega arith) h
-
--- one more id
-one-more : (i : ℕ) (ids x : List ℕ) → 32 * i + 32 ≤ length ids → length x ≡ 32 → hashes (i + 1) (paste ids (32 * i) x 32) ≡ hashes i ids ++ (x ∷ [])
-one-more i ids x h size =
-    let long = length-paste ids (32 * i) x 32 h (omega arith) in
-    let next : 32 * (i + 1) ≡ 32 * i + 32 = omega arith in
-    sym (of-taken (i + 1) (paste ids (32 * i) x 32) (omega arith))
-    ∙ ap (λ (k : ℕ). hashesOf (take k (paste ids (32 * i) x 32))) next
-    ∙ ap hashesOf (take-paste ids (32 * i) x 32 (omega arith) (omega arith) ∙ ap (λ (l : List ℕ). take (32 * i) ids ++ l) (take-all 32 x (omega arith)))
-    ∙ hashes-more i (take (32 * i) ids) x (length-take-le (32 * i) ids (omega arith)) size
-    ∙ ap (λ (l : List (List ℕ)). l ++ (x ∷ [])) (of-taken i ids (omega arith))
+pub ids-made : (s places ids : List ℕ) (n : ℕ) → 32 * n ≤ length ids → Hashed s (between places) n ids → hashes n ids ≡ idsBetween s places n
+unfolding idsBetween
+ids-made s places ids zero h made = unfold hashes in refl
+ids-made s places ids (suc n) h made =
+    let here : hashAt ids (32 * n) ≡ spanId s (between places n) = unfold Hashed in made n (omega arith) (omega arith) in
+    hashes-last n ids
+    ∙ ap₂ (λ (l : List (List ℕ)) (x : List ℕ). l ++ (x ∷ [])) (ids-made s places ids n (omega arith) (hashed-enough s (between places) ids (omega arith) made)) (sym (hash-there ids (32 * n) (omega arith)) ∙ here)
 
 -- ---- the loop
 
@@ -87,48 +74,49 @@ ahead-one s p t (accepted l) = ap accepted (sym (append-assoc p (txid s t ∷ []
 ahead-one s p t (refused why k) = refl
 
 module _ (s : List ℕ) (n : ℕ) where
-  -- the ids of the first i stand in front, and the next is read at a place
-  pub record Reading (ids : List ℕ) (i at : ℕ) : Type 0 where
+  -- the first i are read, their places stand, and the next is read at the last of these
+  pub record Reading (places : List ℕ) (i at : ℕ) : Type 0 where
     pub done : i ≤ n
-    pub wide : length ids ≡ 8192
-    pub kept : ahead (hashes i ids) (idsOf s (readFrom s (n - i) i at)) ≡ idsOf s (readFrom s n 0 0)
+    pub wide : length places ≡ 257
+    pub here : getD places i 0 ≡ at
+    pub kept : ahead (idsBetween s places i) (idsOf s (readFrom s (n - i) i at)) ≡ idsOf s (readFrom s n 0 0)
 
-  pub reading-start : {ids : List ℕ} → length ids ≡ 8192 → Reading ids 0 0
-  unfolding hashes
-  reading-start h = record { done = omega arith; wide = h; kept = ahead-none (idsOf s (readFrom s (n - 0) 0 0)) ∙ ap (λ (k : ℕ). idsOf s (readFrom s k 0 0)) (sub-zero n) }
+  pub reading-start : {places : List ℕ} → places ≡ replicate 257 0 → Reading places 0 0
+  unfolding idsBetween
+  reading-start h = record {
+    done = omega arith;
+    wide = ap length h ∙ length-replicate {A = ℕ} 257 0;
+    here = rw h;
+    kept = ahead-none (idsOf s (readFrom s (n - 0) 0 0)) ∙ ap (λ (k : ℕ). idsOf s (readFrom s k 0 0)) (sub-zero n);
+  }
 
-  module _ {ids : List ℕ} {i at : ℕ} (r : Reading ids i at) where
+  module _ {places : List ℕ} {i at : ℕ} (r : Reading places i at) where
     pub reading-refused : {k q : ℕ} → i < n → each txHeadOf (txField s at) ≡ bad k q → idsOf s (readFrom s n 0 0) ≡ refused (carrying k q) i
-    reading-refused {k} {q} low e = sym (r .kept) ∙ ap (λ (x : SetResult (List Transaction)). ahead (hashes i ids) (idsOf s x)) here ∙ (unfold ahead idsOf in refl)
+    reading-refused {k} {q} low e = sym (r .kept) ∙ ap (λ (x : SetResult (List Transaction)). ahead (idsBetween s places i) (idsOf s x)) here ∙ (unfold ahead idsOf in refl)
       where
         here : readFrom s (n - i) i at ≡ refused (carrying k q) i
         here = rw (one-less n i low) (unfold readFrom in rw (each-bad txHeadOf (txField s at) e))
 
-    pub reading-on : {head : TxHead} {q : ℕ} {x ids′ : List ℕ} → n ≤ MAX-TXS → length s ≤ MAX-INPUT → i < n → each txHeadOf (txField s at) ≡ got head q
-        → x ≡ spanHash s (head .start) (head .end) → ids′ ≡ setHash ids i x → Reading ids′ (i + 1) q
-    reading-on {head} {q} {x} {ids′} few short low e is new = go (each-got txHeadOf (txField s at) e)
+    pub reading-on : {head : TxHead} {q : ℕ} {places′ : List ℕ} → n ≤ MAX-TXS → length s ≤ MAX-INPUT → i < n → each txHeadOf (txField s at) ≡ got head q
+        → places′ ≡ set places (i + 1) q → Reading places′ (i + 1) q
+    reading-on {head} {q} {places′} few short low e new = go (each-got txHeadOf (txField s at) e)
       where
-        go : (t : Transaction) × (txField s at ≡ got t q) × (txHeadOf t ≡ head) → Reading ids′ (i + 1) q
-        go (t, m, h) = rw (new, set-inside ids i x room) (record {
+        go : (t : Transaction) × (txField s at ≡ got t q) × (txHeadOf t ≡ head) → Reading places′ (i + 1) q
+        go (t, m, h) = rw new (record {
           done = omega arith;
-          wide = let z = size in length-paste ids (32 * i) x 32 inside (omega arith) ∙ r .wide;
+          wide = length-set places (i + 1) q ∙ r .wide;
+          here = getD-set-same places (i + 1) q 0 room;
           kept =
-              ap (λ (l : List (List ℕ)). ahead l (idsOf s (readFrom s (n - (i + 1)) (i + 1) q))) (one-more i ids x inside size ∙ ap (λ (y : List ℕ). hashes i ids ++ (y ∷ [])) known)
-              ∙ sym (ahead-one s (hashes i ids) t (readFrom s (n - (i + 1)) (i + 1) q))
-              ∙ ap (λ (y : SetResult (List Transaction)). ahead (hashes i ids) (idsOf s y)) (sym turn)
+              ap (λ (l : List (List ℕ)). ahead l (idsOf s (readFrom s (n - (i + 1)) (i + 1) q))) (between-more s places i q room ∙ ap (λ (y : List ℕ). idsBetween s places i ++ (y ∷ [])) known)
+              ∙ sym (ahead-one s (idsBetween s places i) t (readFrom s (n - (i + 1)) (i + 1) q))
+              ∙ ap (λ (y : SetResult (List Transaction)). ahead (idsBetween s places i) (idsOf s y)) (sym turn)
               ∙ r .kept;
         })
           where
-            size : length x ≡ 32
-            size = ap length is ∙ span-length s (head .start) (head .end)
-
-            wide : length ids ≡ 8192
+            wide : length places ≡ 257
             wide = r .wide
 
-            inside : 32 * i + 32 ≤ length ids
-            inside = omega arith
-
-            room : i < length ids / 32
+            room : i + 1 < length places
             room = omega arith
 
             told : TxRead false s at q t
@@ -137,23 +125,23 @@ module _ (s : List ℕ) (n : ℕ) where
             ended : TxRead false s at (t .end) t
             ended = subst (λ (e : ℕ). TxRead false s at e t) (sym (told .end-is)) told
 
-            known : x ≡ txid s t
-            known = is ∙ ap (λ (y : TxHead). spanHash s (y .start) (y .end)) (sym h) ∙ tx-hash s t ended short
+            known : spanHash s (getD places i 0) q ≡ txid s t
+            known = ap₂ (spanHash s) (r .here ∙ sym (told .start-is)) (sym (told .end-is)) ∙ tx-hash s t ended short
 
             turn : readFrom s (n - i) i at ≡ before t (readFrom s (n - (i + 1)) (i + 1) q)
             turn = rw (one-less n i low) (unfold readFrom in rw (m, add-one i))
 
     pub reading-extra : n ≤ i → at < length s → idsOf s (readFrom s n 0 0) ≡ refused (carrying EXTRA at) i
-    reading-extra past more = sym (r .kept) ∙ ap (λ (x : SetResult (List Transaction)). ahead (hashes i ids) (idsOf s x)) here ∙ (unfold ahead idsOf in refl)
+    reading-extra past more = sym (r .kept) ∙ ap (λ (x : SetResult (List Transaction)). ahead (idsBetween s places i) (idsOf s x)) here ∙ (unfold ahead idsOf in refl)
       where
         here : readFrom s (n - i) i at ≡ refused (carrying EXTRA at) i
         here = let none : n - i ≡ 0 = omega arith in rw none (unfold readFrom in rw (lt-ltb at (length s) more))
 
-    pub reading-end : n ≤ i → length s ≤ at → idsOf s (readFrom s n 0 0) ≡ accepted (hashes n ids)
-    reading-end past over = sym (r .kept) ∙ ap (λ (x : SetResult (List Transaction)). ahead (hashes i ids) (idsOf s x)) here ∙ none-after ∙ ap (λ (k : ℕ). accepted (hashes k ids)) all
+    pub reading-end : n ≤ i → length s ≤ at → idsOf s (readFrom s n 0 0) ≡ accepted (idsBetween s places n)
+    reading-end past over = sym (r .kept) ∙ ap (λ (x : SetResult (List Transaction)). ahead (idsBetween s places i) (idsOf s x)) here ∙ none-after ∙ ap (λ (k : ℕ). accepted (idsBetween s places k)) all
       where
-        none-after : ahead (hashes i ids) (idsOf s (accepted [])) ≡ accepted (hashes i ids)
-        none-after = unfold ahead idsOf in ap accepted (append-nil (hashes i ids))
+        none-after : ahead (idsBetween s places i) (idsOf s (accepted [])) ≡ accepted (idsBetween s places i)
+        none-after = unfold ahead idsOf in ap accepted (append-nil (idsBetween s places i))
 
         all : i ≡ n
         all = let d = r .done in omega arith

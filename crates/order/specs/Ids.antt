@@ -7,11 +7,6 @@ use Rattle.format.specs.Parse.{pick}
 use Rattle.format.specs.Field.{le8}
 use Rattle.format.specs.Bytes.{same, hashAt}
 
--- the number of the first id that is x; their count, if none is
-unfoldable pub indexOf : List ℕ → List (List ℕ) → ℕ
-indexOf x [] = 0
-indexOf x (y ∷ l) = pick (same y x) 0 (suc (indexOf x l))
-
 -- an id's first eight bytes as a number
 unfoldable pub keyOf : List ℕ → ℕ
 keyOf x = le8 x 0
@@ -19,7 +14,3 @@ keyOf x = le8 x 0
 -- the keys of n ids that stand end to end
 abbrev pub Keys : List ℕ → List ℕ → ℕ → Type 0
 Keys ids keys n = (length keys ≡ 256) × ((k : ℕ) → k < n → getD keys k 0 ≡ keyOf (hashAt ids (32 * k)))
-
--- no two are equal
-abbrev pub Different : List (List ℕ) → Type 0
-Different l = (j k : ℕ) → j < k → k < length l → getD l j [] ≡ getD l k [] → ⊥

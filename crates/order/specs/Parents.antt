@@ -7,7 +7,7 @@ use Rattle.format.specs.Parse.{pick, otherwise, each}
 use Rattle.format.specs.Bytes.{hashAt}
 use Rattle.format.specs.Transaction.{inputField, txField, txHeadOf}
 use Rattle.order.specs.Bits.{withBit}
-use Rattle.order.specs.Ids.{indexOf}
+use Rattle.spv.specs.Hashes.{indexOf}
 
 -- the parents' ids of n inputs from a place, as far as they can be read
 unfoldable pub parentsFrom : List ℕ → ℕ → ℕ → List (List ℕ)

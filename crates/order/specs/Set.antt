@@ -15,7 +15,7 @@ use Rattle.format.specs.Refusals.{TOO-LONG, OVER-LIMIT, EXTRA, SAME-TX, NO-ROOM
 use Rattle.spv.specs.declared.rejection.Rejection.{Rejection}
 use Rattle.spv.specs.Result.{Result, carrying}
 use Rattle.spv.specs.Result as R
-use Rattle.spv.specs.Hashes.{among}
+use Rattle.spv.specs.Hashes.{among, Among}
 use Rattle.order.specs.declared.answer.Ordered.{Ordered}
 use Rattle.order.specs.declared.answer.Ordered.the-variants.{Accepted, Refused}
 use Rattle.order.specs.Order.{check, ours}
@@ -72,10 +72,6 @@ handedIn s t = record { id = txid s t; parents = map (λ (i : Input). hashAt s (
 
 abbrev pub idOf : Handed → List ℕ
 idOf t = t .id
-
--- an id that stands among ids
-abbrev pub Among : List ℕ → List (List ℕ) → Type 0
-Among x l = (k : ℕ) × (k < length l) × (getD l k [] ≡ x)
 
 -- no id is equal to an earlier one
 unfoldable pub newFrom : List (List ℕ) → List (List ℕ) → Bool

@@ -6,9 +6,9 @@ ghost use Prim.Native.Nat.{_+_, _*_, _<_, _≤_};
 ghost use lib.ListN.{length, replicate};
 ghost use Rattle.format.specs.Field.{le2, le4, le8};
 ghost use Rattle.format.specs.Bytes.{same, hashAt};
-ghost use Rattle.spv.specs.Hashes.{hashes};
+ghost use Rattle.spv.specs.Hashes.{hashes, indexOf};
 ghost use Rattle.order.specs.Set.{newFrom};
-ghost use Rattle.order.specs.Ids.{indexOf, keyOf, Keys};
+ghost use Rattle.order.specs.Ids.{keyOf, Keys};
 
 // The most transactions of a set.
 pub(crate) const MOST: usize = 256;

@@ -1,21 +1,20 @@
 -- The flat form in which the code holds the answers of a page: their roots end to end, and five numbers for each. What an
 -- answer carries is left out: it is 0 for every id.
-use Prim.Native.Nat.{ℕ, _+_, _*_, _/_, _<_}
+use Prim.Native.Nat.{ℕ, _+_, _*_, _/_, _<_, _≤_}
 use mathlib.Core.Path.{_≡_}
 use mathlib.Core.List.{List}
 use lib.Dec.{ltb}
 use lib.ListN.{length, getD}
+use Rattle.path.specs.declared.path.Form.{Form}
 use Rattle.path.specs.declared.path.Path.{Path}
 use Rattle.format.specs.Parse.{pick}
-use Rattle.path.specs.Path.{startIn}
+use Rattle.path.specs.Path.{LAYERS}
 use Rattle.format.specs.Bytes.{hashAt}
 use Rattle.spv.specs.Compare.{prove}
 use Rattle.spv.specs.Readings.{pathReading}
 use Rattle.spv.specs.Shapes.{provedOf}
-use Rattle.spv.specs.Together.{notBegun, beginAt}
-use Rattle.spv.specs.declared.together.Rising.{Rising}
+use Rattle.climbs.specs.Proofs.{provedAt}
 use Rattle.page.specs.declared.Answer.{Answer}
-use Rattle.page.specs.declared.Answers.{Answers}
 use Rattle.page.specs.Page.{blankAnswer, answerOf}
 
 -- the room of a flat form
@@ -52,17 +51,23 @@ pub record Puts (roots numbers : List ℕ) (row : ℕ) (answer : Answer) (roots�
   pub here : flatAt roots′ numbers′ row ≡ uncarried answer
   pub others : (r : ℕ) → (r ≡ row → ⊥) → flatAt roots′ numbers′ r ≡ flatAt roots numbers r
 
--- the same of four rows
-pub record PutsFour (roots numbers : List ℕ) (row : ℕ) (four : Answers) (roots′ numbers′ : List ℕ) : Type 0 where
-  pub first : flatAt roots′ numbers′ row ≡ uncarried (four .a)
-  pub second : flatAt roots′ numbers′ (row + 1) ≡ uncarried (four .b)
-  pub third : flatAt roots′ numbers′ (row + 2) ≡ uncarried (four .c)
-  pub fourth : flatAt roots′ numbers′ (row + 3) ≡ uncarried (four .d)
-  pub below : (r : ℕ) → r < row → flatAt roots′ numbers′ r ≡ flatAt roots numbers r
+-- the ids stand where their roots are going to be
+unfoldable pub Copied : List ℕ → ℕ → List ℕ → Type 0
+Copied ids n roots = (r : ℕ) → r < n → hashAt roots (32 * r) ≡ hashAt ids (32 * r)
 
--- the climb of a row's id, or none past the ids
-unfoldable pub startFor : List ℕ → List ℕ → Path → ℕ → Rising
-startFor s ids path row = pick (ltb row (length ids / 32)) (beginAt (hashAt ids (row * 32)) (startIn s path (hashAt ids (row * 32)))) notBegun
+-- the first n rows have the answers of what was proved
+unfoldable pub Answered : List ℕ → ℕ → List ℕ → List ℕ → List ℕ → ℕ → List ℕ → List ℕ → Type 0
+Answered ids layers starts states proved n roots numbers =
+    (r : ℕ) → r < n → flatAt roots numbers r ≡ uncarried (answerOf (provedAt layers (hashAt ids (32 * r)) starts states proved r))
+
+-- roots from a row on are as they were
+unfoldable pub Later : List ℕ → ℕ → List ℕ → Type 0
+Later proved n roots = (r : ℕ) → n ≤ r → hashAt roots (32 * r) ≡ hashAt proved (32 * r)
+
+-- a path as a BUMP's reading gives it
+pub record Levelled (path : Path) : Type 0 where
+  pub bump : path .form ≡ Form.Bump
+  pub few : path .layers ≤ LAYERS
 
 -- what asking for a row's id answers
 unfoldable pub asked : List ℕ → List ℕ → Path → ℕ → Answer
@@ -71,12 +76,6 @@ asked s ids path row = answerOf (provedOf (prove (pathReading s path (hashAt ids
 -- an answer of a row is right, if the row has an id
 abbrev pub Right : List ℕ → List ℕ → Path → ℕ → Answer → Type 0
 Right s ids path row answer = row < length ids / 32 → answer ≡ asked s ids path row
-
-pub record FourRight (s ids : List ℕ) (path : Path) (row : ℕ) (four : Answers) : Type 0 where
-  pub first : Right s ids path row (four .a)
-  pub second : Right s ids path (row + 1) (four .b)
-  pub third : Right s ids path (row + 2) (four .c)
-  pub fourth : Right s ids path (row + 3) (four .d)
 
 -- the first n rows are right
 unfoldable pub AllRight : List ℕ → List ℕ → Path → ℕ → List ℕ → List ℕ → Type 0

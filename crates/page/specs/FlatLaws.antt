@@ -1,4 +1,4 @@
--- Laws of the flat form: an answer that is put, four of them, and that the answers of all ids give the page.
+-- Laws of the flat form: an answer that is put, rows that were proved, and that the answers of all ids give the page.
 use Prim.Native.Nat.{ℕ, zero, suc, _+_, _*_, _/_, _≤_, _<_}
 use mathlib.Core.Path.{_≡_, refl, sym, ap, _∙_}
 use mathlib.Core.Bool.{Bool, true, false}
@@ -12,7 +12,7 @@ use borrow.Author.Tests.{lt-ltb, le-ltb, ltb-true}
 use Rattle.path.specs.declared.path.Path.{Path}
 use Rattle.format.specs.Parse.{Parse, got, bad, pick}
 use Rattle.format.specs.Bump.{Bump}
-use Rattle.path.specs.Path.{startIn, bumpPath}
+use Rattle.path.specs.Path.{LAYERS, startIn, bumpPathOf, bumpPath}
 use Rattle.format.specs.Bytes.{setHash, hashAt}
 use Rattle.format.specs.BytesLaws.{set-inside}
 use Rattle.hash.specs.Sha256.{sha256d}
@@ -24,22 +24,20 @@ use Rattle.spv.specs.ClimbLaws.{ascend-joins, ascend-fails}
 use Rattle.spv.specs.Compare.{any, hits, settle, proofOf, proveBy, prove}
 use Rattle.spv.specs.Readings.{starting, pathReading}
 use Rattle.spv.specs.Shapes.{acceptedOf, provedOf}
-use Rattle.spv.specs.KeptLaws.{stored-here, stored-other}
+use Rattle.spv.specs.Stored.{stored-here, stored-other}
 use Rattle.spv.specs.Siblings.{pathSiblings}
-use Rattle.spv.specs.Together.{beginAt, riseFrom, cameTo, provedBy}
-use Rattle.spv.specs.TogetherLaws.{begun-proves}
+use Rattle.climbs.specs.Proofs.{provedAt}
 use Rattle.spv.specs.Rows.{rows}
 use Rattle.spv.specs.RowsLaws.{rows-same}
 use Rattle.spv.specs.declared.rejection.Rejection.{Rejection}
-use Rattle.spv.specs.declared.together.Rising.{Rising}
+use Rattle.spv.specs.declared.prove.Proved.{Proved}
 use Rattle.page.specs.declared.Answer.{Answer}
-use Rattle.page.specs.declared.Answers.{Answers}
 use Rattle.page.specs.declared.Opening.{Opening}
 use Rattle.page.specs.declared.Paged.{Paged}
 use Rattle.page.specs.Page.{MAX-PAGE, blankAnswer, answerBy, answerOf, bumpFor, page, pagedOf, rowOf}
 use Rattle.page.specs.PageLaws.{page-few, opening-row, opening-paged}
 use Rattle.page.specs.Opening.{unopened, openingOf, answerUnder, answerAt, countOf}
-use Rattle.page.specs.Flat.{ROOTS-ROOM, NUMBERS-ROOM, flatAt, flatAnswer, Puts, PutsFour, uncarried, startFor, asked, Right, FourRight, AllRight}
+use Rattle.page.specs.Flat.{ROOTS-ROOM, NUMBERS-ROOM, flatAt, flatAnswer, Puts, uncarried, Copied, Answered, Later, Levelled, asked, Right, AllRight}
 
 -- ---- an answer that is put
 
@@ -125,32 +123,60 @@ module _ (roots numbers : List ℕ) (row : ℕ) (a : Answer) (low : row < MAX-PA
             );
       }
 
--- ---- four answers
+-- ---- rows that were proved
 
-pub puts-four : (four : Answers) (row : ℕ) (r₀ n₀ r₁ n₁ r₂ n₂ r₃ n₃ r₄ n₄ : List ℕ)
-    → Puts r₀ n₀ row (four .a) r₁ n₁ → Puts r₁ n₁ (row + 1) (four .b) r₂ n₂ → Puts r₂ n₂ (row + 2) (four .c) r₃ n₃ → Puts r₃ n₃ (row + 3) (four .d) r₄ n₄
-    → PutsFour r₀ n₀ row four r₄ n₄
-puts-four four row r₀ n₀ r₁ n₁ r₂ n₂ r₃ n₃ r₄ n₄ a b c d =
-    record {
-      first = d .others row (λ e. omega arith) ∙ c .others row (λ e. omega arith) ∙ b .others row (λ e. omega arith) ∙ a .here;
-      second = d .others (row + 1) (λ e. omega arith) ∙ c .others (row + 1) (λ e. omega arith) ∙ b .here;
-      third = d .others (row + 2) (λ e. omega arith) ∙ c .here;
-      fourth = d .here;
-      below = λ r l. d .others r (λ e. omega arith) ∙ c .others r (λ e. omega arith) ∙ b .others r (λ e. omega arith) ∙ a .others r (λ e. omega arith);
-    }
+pub copied-none : (ids roots : List ℕ) → Copied ids 0 roots
+unfolding Copied
+copied-none ids roots r l = absurd (omega arith)
 
--- a lane of four climbs
-pub lane-right : (s ids : List ℕ) (path : Path) (row : ℕ) (x y : Rising) (a : Answer) → x ≡ startFor s ids path row
-    → cameTo y ≡ riseFrom (pathSiblings s path) 0 (path .layers) x → a ≡ answerOf (provedBy (path .layers) x (cameTo y)) → Right s ids path row a
-unfolding startFor asked
-lane-right s ids path row x y a ex ey ea below =
-    let id : List ℕ = hashAt ids (row * 32) in
-    let begun : x ≡ beginAt id (startIn s path id) = ex ∙ rw (lt-ltb row (length ids / 32) below) in
-    ea
-    ∙ ap answerOf
-    (ap (provedBy (path .layers) x) ey
-    ∙ ap (λ (u : Rising). provedBy (path .layers) u (riseFrom (pathSiblings s path) 0 (path .layers) u)) begun
-    ∙ begun-proves s path id)
+pub copied-on : (ids roots : List ℕ) (row : ℕ) → row < MAX-PAGE → ROOTS-ROOM ≤ length roots → length (hashAt ids (32 * row)) ≡ 32 → Copied ids row roots → Copied ids (row + 1) (setHash roots row (hashAt ids (32 * row)))
+unfolding Copied
+copied-on ids roots row low wide whole v =
+    let e : setHash roots row (hashAt ids (32 * row)) ≡ _ = set-inside roots row (hashAt ids (32 * row)) (omega arith) in
+    below-more (λ r. hashAt (setHash roots row (hashAt ids (32 * row))) (32 * r) ≡ hashAt ids (32 * r)) row
+    (λ r l. rw e (stored-other roots (hashAt ids (32 * row)) row whole (omega arith) r (λ z. omega arith)) ∙ v r l)
+    (rw e (stored-here roots (hashAt ids (32 * row)) row whole (omega arith)))
+
+pub copied-all : (ids : List ℕ) (n row : ℕ) (roots : List ℕ) → n ≤ row → Copied ids row roots → Copied ids n roots
+unfolding Copied
+copied-all ids n row roots b v r l = v r (omega arith)
+
+-- a row says the same wherever its hash is the same
+proved-same : (layers : ℕ) (id starts states hashes hashes′ : List ℕ) (row : ℕ) → hashAt hashes (32 * row) ≡ hashAt hashes′ (32 * row)
+    → provedAt layers id starts states hashes row ≡ provedAt layers id starts states hashes′ row
+unfolding provedAt
+proved-same layers id starts states hashes hashes′ row e = rw e
+
+-- what is put in a row, as the code comes to it
+pub answer-told : (layers : ℕ) (ids starts states roots : List ℕ) (row : ℕ) (id : List ℕ) {p : Proved} {a : Answer} → id ≡ hashAt ids (32 * row) → p ≡ provedAt layers id starts states roots row → a ≡ answerOf p
+    → a ≡ answerOf (provedAt layers (hashAt ids (32 * row)) starts states roots row)
+answer-told layers ids starts states roots row id e f g = g ∙ ap answerOf (f ∙ ap (λ (x : List ℕ). provedAt layers x starts states roots row) e)
+
+pub later-all : (proved : List ℕ) → Later proved 0 proved
+unfolding Later
+later-all proved r l = refl
+
+pub later-on : (proved : List ℕ) (row : ℕ) {a : Answer} {roots numbers roots′ numbers′ : List ℕ} → Puts roots numbers row a roots′ numbers′ → Later proved row roots → Later proved (row + 1) roots′
+unfolding Later flatAt
+later-on proved row p later r l = ap (λ (x : Answer). x .root) (p .others r (λ z. omega arith)) ∙ later r (omega arith)
+
+module _ (ids : List ℕ) (layers : ℕ) (starts states proved : List ℕ) where
+  pub answered-none : (roots numbers : List ℕ) → Answered ids layers starts states proved 0 roots numbers
+  unfolding Answered
+  answered-none roots numbers r l = absurd (omega arith)
+
+  pub answered-all : (n row : ℕ) (roots numbers : List ℕ) → n ≤ row → Answered ids layers starts states proved row roots numbers → Answered ids layers starts states proved n roots numbers
+  unfolding Answered
+  answered-all n row roots numbers b v r l = v r (omega arith)
+
+  module _ (row : ℕ) (a : Answer) (roots numbers roots′ numbers′ : List ℕ) (p : Puts roots numbers row a roots′ numbers′) where
+    pub answered-on : a ≡ answerOf (provedAt layers (hashAt ids (32 * row)) starts states roots row) → Later proved row roots
+        → Answered ids layers starts states proved row roots numbers → Answered ids layers starts states proved (row + 1) roots′ numbers′
+    unfolding Answered Later
+    answered-on e later v =
+        below-more (λ r. flatAt roots′ numbers′ r ≡ uncarried (answerOf (provedAt layers (hashAt ids (32 * r)) starts states proved r))) row
+        (λ r l. p .others r (λ z. omega arith) ∙ v r l)
+        (p .here ∙ ap uncarried (e ∙ ap answerOf (proved-same layers (hashAt ids (32 * row)) starts states roots proved row (later row (omega arith)))))
 
 -- no climb's refusal carries anything
 end-carries : (σ : Siblings) (k n j : ℕ) (c : List ℕ) (why : Rejection) → endOf c (ascend σ k n j c) ≡ refused why → why .carried ≡ 0
@@ -182,27 +208,14 @@ asked-uncarried s ids path row =
 right-uncarried : (s ids : List ℕ) (path : Path) (row : ℕ) (a : Answer) → a ≡ asked s ids path row → uncarried a ≡ asked s ids path row
 right-uncarried s ids path row a e = ap uncarried e ∙ asked-uncarried s ids path row
 
-pub all-none : (s ids : List ℕ) (path : Path) (roots numbers : List ℕ) → AllRight s ids path 0 roots numbers
-unfolding AllRight
-all-none s ids path roots numbers r l = absurd (omega arith)
-
-pub all-on : (s ids : List ℕ) (path : Path) (row : ℕ) (four : Answers) (roots numbers roots′ numbers′ : List ℕ) → AllRight s ids path row roots numbers
-    → FourRight s ids path row four → PutsFour roots numbers row four roots′ numbers′ → AllRight s ids path (row + 4) roots′ numbers′
-unfolding AllRight
-all-on s ids path row four roots numbers roots′ numbers′ v f p =
-    let P : ℕ → Type 0 = λ r. Right s ids path r (flatAt roots′ numbers′ r) in
-    let n₀ : (r : ℕ) → r < row → P r = λ r l b. p .below r l ∙ v r l b in
-    let n₁ = below-more P row n₀ (λ b. p .first ∙ right-uncarried s ids path row _ (f .first b)) in
-    let n₂ = below-more P (row + 1) n₁ (λ b. p .second ∙ right-uncarried s ids path (row + 1) _ (f .second b)) in
-    let q₂ : (r : ℕ) → r < row + 2 → P r = λ r l. n₂ r (omega arith) in
-    let n₃ = below-more P (row + 2) q₂ (λ b. p .third ∙ right-uncarried s ids path (row + 2) _ (f .third b)) in
-    let q₃ : (r : ℕ) → r < row + 3 → P r = λ r l. n₃ r (omega arith) in
-    let n₄ = below-more P (row + 3) q₃ (λ b. p .fourth ∙ right-uncarried s ids path (row + 3) _ (f .fourth b)) in
-    λ r l. n₄ r (omega arith)
-
-pub all-done : (s ids : List ℕ) (path : Path) (n row : ℕ) (roots numbers : List ℕ) → n ≤ row → AllRight s ids path row roots numbers → AllRight s ids path n roots numbers
-unfolding AllRight
-all-done s ids path n row roots numbers b v r l = v r (omega arith)
+-- rows that were proved by a path are right
+pub all-proved : (s ids : List ℕ) (path : Path) (n : ℕ) (starts states proved roots numbers : List ℕ) → Answered ids (path .layers) starts states proved n roots numbers
+    → ((r : ℕ) → r < n → provedAt (path .layers) (hashAt ids (32 * r)) starts states proved r ≡ provedOf (prove (pathReading s path (hashAt ids (32 * r)))))
+    → AllRight s ids path n roots numbers
+unfolding AllRight Answered asked
+all-proved s ids path n starts states proved roots numbers v f r l b =
+    let turn : 32 * r ≡ r * 32 = omega arith in
+    v r l ∙ right-uncarried s ids path r _ (ap answerOf (f r l) ∙ ap (λ (at : ℕ). answerOf (provedOf (prove (pathReading s path (hashAt ids at))))) turn)
 
 -- ---- the page
 
@@ -217,6 +230,14 @@ module _ (s ids : List ℕ) (room : ℕ) where
     where
       go : (p : Parse Bump) → bumpFor s ids room ≡ p → openingOf s (length ids / 32) p .paged ≡ Paged.Answered k → length ids / 32 ≤ MAX-PAGE
       go (got b q) g h = page-few s ids room b q g
+      go (bad number place) g h = let z : _≡_ {A = ℕ} 0 1 = cc in absurd (omega arith)
+
+  pub opening-levelled : (o : Opening) (k : ℕ) → o ≡ openingOf s (length ids / 32) (bumpFor s ids room) → o .paged ≡ Paged.Answered k → Levelled (o .path)
+  unfolding openingOf unopened bumpPathOf
+  opening-levelled o k e f = go (bumpFor s ids room) (sym e) (ap (λ (p : Opening). p .paged) (sym e) ∙ f)
+    where
+      go : (p : Parse Bump) → openingOf s (length ids / 32) p ≡ o → openingOf s (length ids / 32) p .paged ≡ Paged.Answered k → Levelled (o .path)
+      go (got b q) g h = rw (← g) (record { bump = refl; few = omega arith })
       go (bad number place) g h = let z : _≡_ {A = ℕ} 0 1 = cc in absurd (omega arith)
 
   module _ (roots numbers : List ℕ) (long : NUMBERS-ROOM ≤ length numbers) where

@@ -1,7 +1,4 @@
 // A page of ids against one BUMP: the answers that asking for each id alone would give, from one reading (paper 02, Item 2).
-mod few;
-
-use few::prove_few;
 use format::BumpAnswer;
 use format::refusal::NO_ROOM;
 use format::refusal::OVER_LIMIT;
@@ -11,20 +8,14 @@ use path::Path;
 use spv::Outcome;
 use spv::Proved;
 use spv::Rejection;
-use spv::Rising;
-use spv::Risings;
-use spv::SLOTS;
-use spv::SLOTS_ROOM;
 ghost use mathlib.Core.Path.{_≡_};
 ghost use lib.ListN.{length};
 ghost use Prim.Native.Nat.{_+_, _/_, _≤_, _<_};
 ghost use Rattle.spv.specs.Rows.{rows};
-ghost use Rattle.spv.specs.Kept.{Keeps};
-ghost use Rattle.spv.specs.Together.{cameTo, provedBy};
 ghost use Rattle.format.specs.Bump.{bumpWhole};
 ghost use Rattle.page.specs.Page.{MAX-PAGE, blankAnswer, answerOf, bumpFor, page, pagedOf, rowOf};
 ghost use Rattle.page.specs.Opening.{unopened, openingOf, countOf};
-ghost use Rattle.page.specs.Flat.{ROOTS-ROOM, NUMBERS-ROOM, flatAnswer, Puts, PutsFour, startFor, FourRight, AllRight};
+ghost use Rattle.page.specs.Flat.{ROOTS-ROOM, NUMBERS-ROOM, flatAnswer, Puts, Copied, Answered, Levelled, AllRight};
 
 // The most ids that a page has.
 pub const MAX_PAGE: usize = 256;
@@ -45,14 +36,6 @@ pub struct Answer {
     pub position: u64,
     pub layers: u64,
     pub root: [u8; 32],
-}
-
-// The answers of four rows.
-struct Answers {
-    a: Answer,
-    b: Answer,
-    c: Answer,
-    d: Answer,
 }
 
 // What a page answers: for how many ids, or why for none.
@@ -155,51 +138,6 @@ fn open_page(s: &[u8], ids: &[u8], room: usize) -> Opening
     read_page(s, count)
 }
 
-// The climb of a row's id, or none past the ids.
-fn start_at(s: &[u8], ids: &[u8], path: Path, row: usize) -> Rising
-    ensures { λ r. ⌜ r ≡ startFor (now (s .entry)) (now (ids .entry)) path row ⌝ }
-{
-    if ids.len() / 32 <= row {
-        return spv::not_begun();
-    }
-    spv::begin(s, path, format::hash_at(ids, row * 32))
-}
-
-// What a climb from x to y answers.
-fn answer_by(layers: usize, x: Rising, y: Rising) -> Answer
-    ensures { λ r. ⌜ r ≡ answerOf (provedBy layers x (cameTo y)) ⌝ }
-{
-    answer_of(spv::proved_by(layers, x, y))
-}
-
-// The answers of four rows, with what earlier climbs worked out.
-fn answers_from(
-    s: &[u8],
-    ids: &[u8],
-    path: Path,
-    row: usize,
-    marks: &mut [u64],
-    hashes: &mut [u8],
-) -> Answers
-    requires { ⌜ row < MAX-PAGE ⌝ }
-    ensures { λ r. ⌜ (Keeps (now (s .entry)) path (now (marks .entry)) (now (hashes .entry)) → FourRight (now (s .entry)) (now (ids .entry)) path row r × Keeps (now (s .entry)) path (now (marks .exit)) (now (hashes .exit))) ⌝ }
-{
-    let x = Risings {
-        a: start_at(s, ids, path, row),
-        b: start_at(s, ids, path, row + 1),
-        c: start_at(s, ids, path, row + 2),
-        d: start_at(s, ids, path, row + 3),
-    };
-    let y = spv::climb_together(s, path, x, marks, hashes);
-    let h = path.layers;
-    Answers {
-        a: answer_by(h, x.a, y.a),
-        b: answer_by(h, x.b, y.b),
-        c: answer_by(h, x.c, y.c),
-        d: answer_by(h, x.d, y.d),
-    }
-}
-
 // A row's answer in flat form: five numbers, and its root. What it carries is left out, which is 0 for every id.
 fn put_answer(numbers: &mut [u64], roots: &mut [u8], row: usize, answer: Answer)
     requires { ⌜ row < MAX-PAGE ⌝ }
@@ -217,39 +155,86 @@ fn put_answer(numbers: &mut [u64], roots: &mut [u8], row: usize, answer: Answer)
     format::set_hash(roots, row, root);
 }
 
-// Four rows' answers in flat form.
-fn put_four(numbers: &mut [u64], roots: &mut [u8], row: usize, four: Answers)
-    requires { ⌜ row + 3 < MAX-PAGE ⌝ }
-    requires { ⌜ NUMBERS-ROOM ≤ length (now numbers) ⌝ }
+// The ids, where their roots are going to be.
+fn copy_ids(ids: &[u8], roots: &mut [u8])
+    requires { ⌜ length (now ids) / 32 ≤ MAX-PAGE ⌝ }
     requires { ⌜ ROOTS-ROOM ≤ length (now roots) ⌝ }
-    ensures { λ _. ⌜ PutsFour (now (roots .entry)) (now (numbers .entry)) row four (now (roots .exit)) (now (numbers .exit)) ⌝ }
+    ensures { λ _. ⌜ Copied (now (ids .entry)) (length (now (ids .entry)) / 32) (now (roots .exit)) ⌝ }
 {
-    let a = four.a;
-    let b = four.b;
-    let c = four.c;
-    let d = four.d;
-    put_answer(numbers, roots, row, a);
-    put_answer(numbers, roots, row + 1, b);
-    put_answer(numbers, roots, row + 2, c);
-    put_answer(numbers, roots, row + 3, d);
+    let count = ids.len() / 32;
+    let mut row = 0;
+    while row < count {
+        format::set_hash(roots, row, format::hash_at(ids, 32 * row));
+        row += 1;
+    }
 }
 
-// All ids' answers in flat form, four at a time.
+// The answers of the rows that were proved, in flat form; a row's root is there already, or none.
+fn answer_rows(
+    ids: &[u8],
+    layers: usize,
+    starts: &[u64],
+    states: &[u16],
+    numbers: &mut [u64],
+    roots: &mut [u8],
+)
+    requires { ⌜ length (now ids) / 32 ≤ MAX-PAGE ⌝ }
+    requires { ⌜ NUMBERS-ROOM ≤ length (now numbers) ⌝ }
+    requires { ⌜ ROOTS-ROOM ≤ length (now roots) ⌝ }
+    ensures { λ _. ⌜ Answered (now (ids .entry)) layers (now (starts .entry)) (now (states .entry)) (now (roots .entry)) (length (now (ids .entry)) / 32) (now (roots .exit)) (now (numbers .exit)) ⌝ }
+{
+    let count = ids.len() / 32;
+    let mut row = 0;
+    while row < count {
+        let id = format::hash_at(ids, 32 * row);
+        let proved = climbs::proved_at(layers, id, starts, states, roots, row);
+        put_answer(numbers, roots, row, answer_of(proved));
+        row += 1;
+    }
+}
+
+// All ids' answers in flat form, by climbs that are made together. There is a start for each id.
+fn answer_ids(
+    s: &[u8],
+    ids: &[u8],
+    path: Path,
+    starts: &mut [u64],
+    states: &mut [u16],
+    numbers: &mut [u64],
+    roots: &mut [u8],
+)
+    requires { ⌜ length (now ids) / 32 ≤ MAX-PAGE ⌝ }
+    requires { ⌜ NUMBERS-ROOM ≤ length (now numbers) ⌝ }
+    requires { ⌜ ROOTS-ROOM ≤ length (now roots) ⌝ }
+    requires { ⌜ Levelled path ⌝ }
+    requires { ⌜ length (now starts) ≡ length (now ids) / 32 ⌝ }
+    requires { ⌜ MAX-PAGE ≤ length (now states) ⌝ }
+    ensures { λ _. ⌜ AllRight (now (s .entry)) (now (ids .entry)) path (length (now (ids .entry)) / 32) (now (roots .exit)) (now (numbers .exit)) ⌝ }
+{
+    copy_ids(ids, roots);
+    climbs::prove_all(s, path, starts, states, roots);
+    answer_rows(ids, path.layers, starts, states, numbers, roots);
+}
+
 fn answer_all(s: &[u8], ids: &[u8], path: Path, numbers: &mut [u64], roots: &mut [u8])
     requires { ⌜ length (now ids) / 32 ≤ MAX-PAGE ⌝ }
     requires { ⌜ NUMBERS-ROOM ≤ length (now numbers) ⌝ }
     requires { ⌜ ROOTS-ROOM ≤ length (now roots) ⌝ }
+    requires { ⌜ Levelled path ⌝ }
     ensures { λ _. ⌜ AllRight (now (s .entry)) (now (ids .entry)) path (length (now (ids .entry)) / 32) (now (roots .exit)) (now (numbers .exit)) ⌝ }
 {
-    let mut marks = [0u64; SLOTS];
-    let mut hashes = [0u8; SLOTS_ROOM];
+    let mut starts = [0u64; MAX_PAGE];
+    let mut states = [0u16; MAX_PAGE];
     let count = ids.len() / 32;
-    let mut row = 0;
-    while row < count {
-        let four = answers_from(s, ids, path, row, &mut marks, &mut hashes);
-        put_four(numbers, roots, row, four);
-        row = row + 4;
-    }
+    answer_ids(
+        s,
+        ids,
+        path,
+        &mut starts[..count],
+        &mut states,
+        numbers,
+        roots,
+    );
 }
 
 // A page as it is asked for, with its answers in flat form. The caller lends room for them; the tests of it stand for a `requires`, which a walk by hand
@@ -317,8 +302,8 @@ fn fill(row: &mut [Answer], roots: &[u8], numbers: &[u64], count: usize)
     }
 }
 
-// A page by the flat form, which lets climbs be made four at a time.
-fn prove_many(s: &[u8], ids: &[u8], row: &mut [Answer]) -> Paged
+// Prove a page of lent ids, end to end, by a BUMP. The row gets an answer for each id, past the ids it is zero, and on a refusal it is zero throughout.
+pub fn prove_page(s: &[u8], ids: &[u8], row: &mut [Answer]) -> Paged
     ensures { λ r. ⌜ (r ≡ pagedOf (page (now (s .entry)) (now (ids .entry)) (length (now (row .entry))))) × (now (row .exit) ≡ rowOf (page (now (s .entry)) (now (ids .entry)) (length (now (row .entry)))) (length (now (row .entry)))) ⌝ }
 {
     let mut roots = [0u8; ROOTS_ROOM];
@@ -326,15 +311,4 @@ fn prove_many(s: &[u8], ids: &[u8], row: &mut [Answer]) -> Paged
     let paged = answer_flat(s, ids, row.len(), &mut roots, &mut numbers);
     fill(row, &roots, &numbers, count_of(paged));
     paged
-}
-
-// Prove a page of lent ids, end to end, by a BUMP. The row gets an answer for each id, past the ids it is zero, and on a refusal it is zero throughout.
-pub fn prove_page(s: &[u8], ids: &[u8], row: &mut [Answer]) -> Paged
-    ensures { λ r. ⌜ (r ≡ pagedOf (page (now (s .entry)) (now (ids .entry)) (length (now (row .entry))))) × (now (row .exit) ≡ rowOf (page (now (s .entry)) (now (ids .entry)) (length (now (row .entry)))) (length (now (row .entry)))) ⌝ }
-{
-    // One or two ids: the flat form would cost more than it saves.
-    if ids.len() < 96 {
-        return prove_few(s, ids, row);
-    }
-    prove_many(s, ids, row)
 }

@@ -7,23 +7,14 @@ use mathlib.Core.List.{List, [], _∷_, _++_}
 use native.Mathlib.Omega.{arith}
 use lib.ListN.{replicate}
 use Rattle.hash.specs.Sha256.{sha256d}
-use Rattle.format.specs.declared.level.Layout.{Layout}
-use Rattle.format.specs.declared.level.Leaf.{Leaf}
 use Rattle.format.specs.Bytes.{same}
-use Rattle.format.specs.Parse.{got, bad}
-use Rattle.format.specs.Refusals.{NOT-LISTED}
-use Rattle.path.specs.Loose.{looseLeaf}
-use Rattle.spv.specs.declared.rejection.Rejection.{Rejection}
-use Rattle.spv.specs.Result.{Result, accepted, refused, follow, carrying, atSibling}
+use Rattle.spv.specs.Result.{atSibling}
 use Rattle.spv.specs.Climb.{Siblings, Step, joins, fails, Ascent, step, odd, siblingPosition, ascend, endBy, endOf, preimagesOf}
 use Rattle.spv.specs.ClimbLaws.{turn-joins, turn-fails, turn-none}
-use Rattle.spv.specs.Compare.{Target, any, at, never, meet}
+use Rattle.spv.specs.Compare.{at, never, meet}
 use Rattle.spv.specs.CompareLaws.{meet-left, meet-right, meet-here, meet-above}
 use Rattle.spv.specs.Shapes.{climbedOf, joinedOf, isJoins}
 use Rattle.spv.specs.ShapesLaws.{is-joins, told-joins}
-use Rattle.spv.specs.Clients.{afterLeaf, closing}
-use Rattle.spv.specs.ClientsShapes.{clientsIn, refusedCheck, checkedOf}
-use Rattle.spv.specs.ClientsLaws.{follow-same, follow-twice, turn-leaf, turn-short, turn-last}
 use Rattle.spv.specs.declared.climb.Climbed.{Climbed}
 use Rattle.spv.specs.declared.climb.Joined.{Joined}
 use Rattle.spv.specs.declared.climb.End.the-variants.{Root, Stop}
@@ -110,36 +101,3 @@ module _ (σ τ : Siblings) (e h i : ℕ) (c₀ d₀ : List ℕ) where
 
         pub pairing-up : same (sha256d (both r)) (sha256d (both u)) ≡ false → (c′ d′ : List ℕ) → c′ ≡ sha256d (both r) → d′ ≡ sha256d (both u) → Pairing σ τ e h i c₀ d₀ (k + 1) (j / 2) c′ d′
         pairing-up t c′ d′ z w = record { done = omega arith; kept = rw (z, w) (sym (both-up ∙ meet-above _ _ _ _ t) ∙ v .kept) }
-
--- ---- a level's clients: with x wanted, what is left from here comes to what was asked at the start
-
-pub record Checking (σ : Siblings) (h : ℕ) (s : List ℕ) (n start m at : ℕ) (x : Result Target) : Type 0 where
-  pub done : m ≤ n
-  pub kept : follow x (λ w. clientsIn σ h s (n - m) at w) ≡ clientsIn σ h s n start any
-
-module _ (σ : Siblings) (h : ℕ) (s : List ℕ) (n start : ℕ) where
-  pub checking-start : (x : Result Target) → x ≡ accepted any → Checking σ h s n start 0 start x
-  checking-start x e = record { done = omega arith; kept = rw (sub-zero, e) }
-
-  module _ (m at : ℕ) (x : Result Target) (v : Checking σ h s n start m at x) where
-    pub checking-end : n ≤ m → follow x closing ≡ clientsIn σ h s n start any
-    checking-end b = follow-same x closing (λ w. clientsIn σ h s (n - m) at w) (λ w. sym (turn-last σ h s n m at w b)) ∙ v .kept
-
-    pub checking-halts : (f : Rejection) → x ≡ refused f → refusedCheck f ≡ checkedOf (clientsIn σ h s n start any)
-    unfolding checkedOf
-    checking-halts f e = ap checkedOf (sym (ap (λ (y : Result Target). follow y (λ w. clientsIn σ h s (n - m) at w)) e) ∙ v .kept)
-
-    module _ (b : m < n) where
-      pub checking-short : (number place : ℕ) → looseLeaf Layout.Bump s at ≡ bad number place → follow x (λ w. refused (carrying NOT-LISTED 0)) ≡ clientsIn σ h s n start any
-      checking-short number place e =
-          follow-same x (λ w. refused (carrying NOT-LISTED 0)) (λ w. clientsIn σ h s (n - m) at w) (λ w. sym (turn-short σ h s n m at w b number place e)) ∙ v .kept
-
-      pub checking-goes : (leaf : Leaf) (next : ℕ) → looseLeaf Layout.Bump s at ≡ got leaf next → (y : Result Target) → y ≡ follow x (λ w. afterLeaf σ h s w leaf) → Checking σ h s n start (m + 1) next y
-      checking-goes leaf next e y f =
-          record {
-            done = omega arith;
-            kept = ap (λ (z : Result Target). follow z (λ w. clientsIn σ h s (n - (m + 1)) next w)) f
-                ∙ follow-twice x (λ w. afterLeaf σ h s w leaf) (λ w. clientsIn σ h s (n - (m + 1)) next w)
-                ∙ follow-same x (λ w. follow (afterLeaf σ h s w leaf) (λ w′. clientsIn σ h s (n - (m + 1)) next w′)) (λ w. clientsIn σ h s (n - m) at w) (λ w. sym (turn-leaf σ h s n m at w b leaf next e))
-                ∙ v .kept;
-          }

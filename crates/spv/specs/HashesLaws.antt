@@ -3,13 +3,15 @@ use Prim.Native.Nat.{ℕ, zero, suc, _+_, _-_, _*_, _/_, _<_, _≤_}
 use mathlib.Core.Path.{_≡_, refl, sym, ap, _∙_}
 use mathlib.Core.Bool.{Bool, true, false}
 use mathlib.Core.List.{List, [], _∷_, _++_}
+use mathlib.Core.Logic.{_⊎_, inl, inr}
 use native.Mathlib.Omega.{arith}
 use lib.ListN.{length, take, drop, getD, length-append, length-take, length-drop}
 use lib.Seq.{ext-getD, getD-take, getD-drop, drop-drop, take-append-le, drop-append-le, take-all, length-take-le}
 use Rattle.format.specs.Basics.{one-less}
 use Rattle.format.specs.Bytes.{same}
-use Rattle.format.specs.BytesLaws.{eq-same, ne-same}
-use Rattle.spv.specs.Hashes.{hashes, hashesOf, among}
+use Rattle.format.specs.BytesLaws.{same-eq, eq-same, ne-same}
+use Rattle.spv.specs.Hashes.{hashes, hashesOf, among, Among}
+use Rattle.spv.specs.TestLaws.{clash, or-told, or-left, or-right}
 
 pub hashes-length : (n : ℕ) (l : List ℕ) → length (hashes n l) ≡ n
 unfolding hashes
@@ -97,3 +99,20 @@ taken-length n l h =
 pub hashes-empty : hashesOf [] ≡ []
 unfolding hashesOf hashes
 hashes-empty = refl
+
+-- ---- one of them
+
+pub among-told : (x : List ℕ) (l : List (List ℕ)) → among x l ≡ true → Among x l
+unfolding among
+among-told x [] e = clash false e refl
+among-told x (y ∷ l) e = go (or-told (same y x) (among x l) e) (among-told x l)
+  where
+    go : (same y x ≡ true) ⊎ (among x l ≡ true) → (among x l ≡ true → Among x l) → Among x (y ∷ l)
+    go (inl h) f = (0, omega arith, same-eq y x h)
+    go (inr h) f = let w = f h in (suc (w .0), omega (arith, w .1), w .2)
+
+pub told-among : (x : List ℕ) (l : List (List ℕ)) → Among x l → among x l ≡ true
+unfolding among
+told-among x [] (k, h, e) = absurd (omega (arith, h))
+told-among x (y ∷ l) (zero, h, e) = or-left (same y x) (among x l) (eq-same y x e)
+told-among x (y ∷ l) (suc k, h, e) = or-right (same y x) (among x l) (told-among x l (k, omega (arith, h), e))

@@ -51,7 +51,7 @@ unfolding countUnder
 count-two k q l [] b = omega arith
 count-two k q l (leaf ∷ leaves) b = omega (arith, leaf-two k q l leaf b, count-two k q l leaves b)
 
-below-two : (levels : List (List Leaf)) (k q n : ℕ) → n ≤ suc k → leavesBelow levels k (2 * q) n + leavesBelow levels k (2 * q + 1) n ≤ leavesBelow levels (suc k) q n
+pub below-two : (levels : List (List Leaf)) (k q n : ℕ) → n ≤ suc k → leavesBelow levels k (2 * q) n + leavesBelow levels k (2 * q + 1) n ≤ leavesBelow levels (suc k) q n
 unfolding leavesBelow
 below-two levels k q zero b = omega arith
 below-two levels k q (suc n) b = omega (arith, below-two levels k q n (omega arith), count-two k q n (getD levels n []) (omega arith))
@@ -84,13 +84,13 @@ unfolding countUnder
 count-all k q l [] = omega arith
 count-all k q l (leaf ∷ leaves) = omega (arith, one-most (liesUnder k q l leaf), count-all k q l leaves)
 
-below-all : (levels : List (List Leaf)) (k q n : ℕ) → leavesBelow levels k q n ≤ leavesIn levels n
+pub below-all : (levels : List (List Leaf)) (k q n : ℕ) → leavesBelow levels k q n ≤ leavesIn levels n
 unfolding leavesBelow leavesIn
 below-all levels k q zero = omega arith
 below-all levels k q (suc n) = omega (arith, below-all levels k q n, count-all k q n (getD levels n []))
 
 -- a leaf lies under its own node
-count-here : (k q : ℕ) (leaves : List Leaf) → (lookup q leaves ≡ Missing → ⊥) → 1 ≤ countUnder k q k leaves
+pub count-here : (k q : ℕ) (leaves : List Leaf) → (lookup q leaves ≡ Missing → ⊥) → 1 ≤ countUnder k q k leaves
 unfolding lookup countUnder one liesUnder
 count-here k q [] ne = absurd (ne refl)
 count-here k q (leaf ∷ leaves) ne = go (eqb (leaf .offset) q) refl ne (count-here k q leaves)
@@ -105,7 +105,7 @@ count-here k q (leaf ∷ leaves) ne = go (eqb (leaf .offset) q) refl ne (count-h
 
 -- ---- joins
 
-both-valued : (l r : Sibling) → hasValue (joinBoth l r) ≡ true → (hasValue l ≡ true) × (hasValue r ≡ true)
+pub both-valued : (l r : Sibling) → hasValue (joinBoth l r) ≡ true → (hasValue l ≡ true) × (hasValue r ≡ true)
 unfolding joinBoth hasValue
 both-valued (value l) (value r) e = (refl, refl)
 both-valued (value l) copied e = absurd (let z : _≡_ {A = ℕ} 0 1 = cc in omega arith)

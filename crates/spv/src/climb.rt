@@ -50,7 +50,7 @@ pub(crate) fn sibling_at(s: &[u8], path: Path, layer: usize, position: u64) -> N
     }
 }
 
-pub(crate) fn failed(number: u8) -> Joined
+pub fn failed(number: u8) -> Joined
     ensures { λ r. ⌜ r ≡ joinedOf (fails number) ⌝ }
 {
     Joined {
@@ -81,7 +81,7 @@ fn placed(odd: bool, c: [u8; 32], p: [u8; 32]) -> Joined
     }
 }
 
-pub(crate) fn fold(node: Node, odd: bool, c: [u8; 32]) -> Joined
+pub fn fold(node: Node, odd: bool, c: [u8; 32]) -> Joined
     ensures { λ r. ⌜ r ≡ joinedOf (step (siblingOf node) odd c) ⌝ }
 {
     let kind = node.kind;
@@ -151,7 +151,7 @@ pub(crate) fn climb_layers(s: &[u8], path: Path, h: usize, i: u64, id: [u8; 32])
 }
 
 // The climb from id at position i of a path.
-pub fn climb(s: &[u8], path: Path, i: u64, id: [u8; 32]) -> Climbed
+pub fn climb_from(s: &[u8], path: Path, i: u64, id: [u8; 32]) -> Climbed
     ensures { λ r. ⌜ r ≡ climbedOf (endOf id (ascend (pathSiblings (now (s .entry)) path) 0 (path .layers) i id)) ⌝ }
 {
     climb_layers(s, path, path.layers, i, id)

@@ -18,7 +18,7 @@ pub struct Node {
     pub hash: [u8; 32],
 }
 
-pub(crate) fn absent_node() -> Node
+pub fn absent_node() -> Node
     ensures { λ r. ⌜ r ≡ nodeOf absent ⌝ }
 {
     Node {
@@ -38,7 +38,7 @@ pub(crate) fn value_at(s: &[u8], place: usize) -> Node
 }
 
 // What a leaf or node gives, by its kind.
-pub(crate) fn written_node(s: &[u8], kind: Kind) -> Node
+pub fn written_node(s: &[u8], kind: Kind) -> Node
     ensures { λ r. ⌜ r ≡ nodeOf (written (now (s .entry)) kind) ⌝ }
 {
     match kind {

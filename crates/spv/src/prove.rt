@@ -1,6 +1,6 @@
 // Proving an id by one proof (01, "The climb").
 use super::climb::End;
-use super::climb::climb;
+use super::climb::climb_from;
 use super::rejection::Rejection;
 use super::rejection::reject;
 use super::rejection::reject_reading;
@@ -47,7 +47,7 @@ pub struct Proved {
     pub root: [u8; 32],
 }
 
-pub(crate) fn refused_proof(rejection: Rejection) -> Proved
+pub fn refused_proof(rejection: Rejection) -> Proved
     ensures { λ r. ⌜ r ≡ provedOf (refused rejection) ⌝ }
 {
     Proved {
@@ -57,7 +57,7 @@ pub(crate) fn refused_proof(rejection: Rejection) -> Proved
     }
 }
 
-pub(crate) fn hits_target(bound: bool, target: [u8; 32], root: [u8; 32]) -> bool
+pub fn hits_target(bound: bool, target: [u8; 32], root: [u8; 32]) -> bool
     ensures { λ r. ⌜ r ≡ hits (targetOf bound target) root ⌝ }
 {
     if bound {
@@ -66,7 +66,7 @@ pub(crate) fn hits_target(bound: bool, target: [u8; 32], root: [u8; 32]) -> bool
     true
 }
 
-pub(crate) fn accepted(position: u64, layers: usize, id: [u8; 32], root: [u8; 32]) -> Proved
+pub fn accepted(position: u64, layers: usize, id: [u8; 32], root: [u8; 32]) -> Proved
     ensures { λ r. ⌜ r ≡ acceptedOf position layers id root ⌝ }
 {
     Proved {
@@ -83,7 +83,7 @@ pub(crate) fn settle(s: &[u8], x: Claim) -> Proved
     let path = x.path;
     let id = x.id;
     let target = x.target;
-    let climbed = climb(s, path, x.position, id);
+    let climbed = climb_from(s, path, x.position, id);
     let end = climbed.end;
     let root = climbed.root;
     match end {

@@ -19,9 +19,9 @@ ghost use Rattle.spv.specs.Values.{hasValue, valueBy, joinBoth, joinOf, 
 ghost use Rattle.spv.specs.Siblings.{written, writtenBy, findAt, pathJoin};
 ghost use Rattle.spv.specs.Marks.{Marked};
 ghost use Rattle.spv.specs.Low.{Low};
-ghost use Rattle.spv.specs.Shapes.{siblingOf};
+ghost use Rattle.spv.specs.Shapes.{nodeOf, siblingOf};
 
-pub(crate) fn has_value(node: Node) -> bool
+pub fn has_value(node: Node) -> bool
     ensures { λ r. ⌜ r ≡ hasValue (siblingOf node) ⌝ }
 {
     let kind = node.kind;
@@ -33,8 +33,8 @@ pub(crate) fn has_value(node: Node) -> bool
 }
 
 // The join of two children that both have a value.
-fn join_both(l: Node, r: Node) -> Node
-    ensures { λ n. ⌜ siblingOf n ≡ joinBoth (siblingOf l) (siblingOf r) ⌝ }
+pub fn join_both(l: Node, r: Node) -> Node
+    ensures { λ n. ⌜ n ≡ nodeOf (joinBoth (siblingOf l) (siblingOf r)) ⌝ }
 {
     if !has_value(l) {
         return absent_node();

@@ -3,6 +3,7 @@ pub mod Rest
 pub mod RestLaws
 pub mod Run
 pub mod Leaps
+pub mod Outputs
 pub mod LentLaws
 pub mod Cutting
 pub mod Examples

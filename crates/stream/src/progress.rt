@@ -4,11 +4,12 @@ use format::refusal::EXTRA;
 use format::refusal::LONG_VARINT;
 use format::refusal::TOO_LONG;
 ghost use mathlib.Core.Path.{_≡_};
+ghost use mathlib.Core.Bool.{true};
 ghost use Prim.Native.Nat.{_+_, _-_, _≤_, _<_};
 ghost use lib.ListN.{length, drop};
 ghost use Rattle.stream.specs.Parts.{MAX-PARTS};
 ghost use Rattle.stream.specs.Progress as P;
-ghost use Rattle.stream.specs.Progress.{Leaps};
+ghost use Rattle.stream.specs.Progress.{Leaps, Sized, Outputs, Skips};
 
 // The most bytes of a transaction.
 pub const MAX_PARTS: u64 = 4_294_967_295;
@@ -69,6 +70,27 @@ fn is_number(s: Stage) -> bool
         Stage::OutputCount => true,
         Stage::Amount => false,
         Stage::OutputLength => true,
+        Stage::OutputScript => false,
+        Stage::LockTime => false,
+        Stage::End => false,
+    }
+}
+
+// Whether a field is an output's amount.
+fn is_amount(s: Stage) -> bool
+    ensures { λ r. ⌜ r ≡ P.isAmount s ⌝ }
+{
+    match s {
+        Stage::Version => false,
+        Stage::InputCount => false,
+        Stage::Parent => false,
+        Stage::OutputNumber => false,
+        Stage::InputLength => false,
+        Stage::InputScript => false,
+        Stage::Sequence => false,
+        Stage::OutputCount => false,
+        Stage::Amount => true,
+        Stage::OutputLength => false,
         Stage::OutputScript => false,
         Stage::LockTime => false,
         Stage::End => false,
@@ -418,6 +440,106 @@ fn wide(b: u8) -> u64
     b as u64
 }
 
+// Whether an output starts here, with nothing of it yet.
+fn at_start(f: Progress) -> bool
+    ensures { λ r. ⌜ (r ≡ true → (f ≡ P.atOutput f (f .left) (f .at)) × (f .at ≤ MAX-PARTS)) ⌝ }
+{
+    let stage = f.stage;
+    if !is_amount(stage) {
+        return false;
+    }
+    if f.need != 8 {
+        return false;
+    }
+    if f.start != f.at {
+        return false;
+    }
+    if f.width != 0 {
+        return false;
+    }
+    if f.value != 0 {
+        return false;
+    }
+    f.at <= MAX_PARTS
+}
+
+// The start of an output, with so many left and after so many bytes.
+fn at_output(f: Progress, left: u64, at: u64) -> Progress
+    ensures { λ r. ⌜ r ≡ P.atOutput f left at ⌝ }
+{
+    Progress {
+        stage: Stage::Amount,
+        start: at,
+        need: 8,
+        width: 0,
+        value: 0,
+        left: left,
+        inputs: f.inputs,
+        outputs: f.outputs,
+        at: at,
+    }
+}
+
+// The bytes of the output at a place, if it ends before another and its length is one byte; else 0.
+fn output_size(part: &[u8], place: usize, end: usize) -> usize
+    requires { ⌜ place ≤ end ⌝ }
+    requires { ⌜ end ≤ length (now part) ⌝ }
+    ensures { λ r. ⌜ (1 ≤ r → Sized (now (part .entry)) place end r) ⌝ }
+{
+    if end - place < 9 {
+        return 0;
+    }
+    let length = wide(part[place + 8]);
+    if 253 <= length {
+        return 0;
+    }
+    let size = 9 + length as usize;
+    if end - place < size {
+        return 0;
+    }
+    size
+}
+
+// What is passed of a list of outputs: up to a place, with so many left.
+struct Skipped {
+    place: usize,
+    left: u64,
+}
+
+// The outputs that lie whole between two places, but for the last of the list, at once: nothing of their fields has to be kept.
+fn whole_outputs(part: &[u8], from: usize, end: usize, count: u64) -> Skipped
+    requires { ⌜ from ≤ end ⌝ }
+    requires { ⌜ end ≤ length (now part) ⌝ }
+    ensures { λ r. ⌜ (from ≤ r .place) × (r .place ≤ end) × Outputs MAX-PARTS (now (part .entry)) end from count (r .place) (r .left) ⌝ }
+{
+    let mut place = from;
+    let mut left = count;
+    while 1 < left {
+        let size = output_size(part, place, end);
+        if size < 1 {
+            return Skipped { place, left };
+        }
+        place += size;
+        left -= 1;
+    }
+    Skipped { place, left }
+}
+
+// Whole outputs of a part from a place on, if one starts there.
+fn pass_outputs(f: Progress, part: &[u8], i: usize) -> Skipped
+    requires { ⌜ i ≤ length (now part) ⌝ }
+    ensures { λ r. ⌜ (r .place ≤ length (now (part .entry))) × (i < r .place → Skips MAX-PARTS f (now (part .entry)) i (r .place) (r .left)) ⌝ }
+{
+    if !at_start(f) {
+        return Skipped {
+            place: i,
+            left: f.left,
+        };
+    }
+    let room = smaller((part.len() - i) as u64, MAX_PARTS - f.at);
+    whole_outputs(part, i, i + room as usize, f.left)
+}
+
 // The bytes of a part one after the other.
 pub(crate) fn walk(f: Progress, part: &[u8]) -> Fed
     ensures { λ r. ⌜ r ≡ P.run MAX-PARTS (Fed.On f) (now (part .entry)) ⌝ }
@@ -425,6 +547,12 @@ pub(crate) fn walk(f: Progress, part: &[u8]) -> Fed
     let mut field = f;
     let mut i: usize = 0;
     while i < part.len() {
+        let passed = pass_outputs(field, part, i);
+        if i < passed.place {
+            field = at_output(field, passed.left, field.at + (passed.place - i) as u64);
+            i = passed.place;
+            continue;
+        }
         let k = chunk(field, (part.len() - i) as u64);
         let fed = taken(field, wide(part[i]), k);
         let Fed::On(next) = fed else {

@@ -16,6 +16,16 @@ pub fn heading_beside(name: &str, other: &str) {
     heading_of(name, &["reference", other]);
 }
 
+/// The heading of a table of calls beside the most joins that they may make.
+pub fn heading_most(name: &str) {
+    heading_of(name, &["joins alone"]);
+}
+
+/// Prints a row of it.
+pub fn most<T>(name: &str, joins: usize, library: impl FnMut() -> T) {
+    print(name, &[seconds_of(library), seconds_of(alone(joins))]);
+}
+
 /// The heading of a table of calls that do at once what single calls do one by one.
 pub fn heading_at_once(name: &str) {
     heading_of(name, &["single calls", "OpenSSL"]);

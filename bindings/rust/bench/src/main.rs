@@ -7,6 +7,7 @@
 mod convert;
 mod difference;
 mod hash;
+mod hostile;
 mod joins;
 mod judge;
 mod measure;
@@ -37,6 +38,7 @@ fn main() {
     page::run();
     judge::run();
     merged::run();
+    hostile::run();
     order::run();
     write::run();
     convert::run();

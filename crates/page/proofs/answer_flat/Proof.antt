@@ -1,5 +1,5 @@
 use native.Mathlib.Omega.{arith}
-use Rattle.page.specs.FlatLaws.{not-both, opening-few, flat-page}
+use Rattle.page.specs.FlatLaws.{not-both, opening-few, opening-levelled, flat-page}
 use borrow.Author.Needs.{needs}
 use Rattle.page.proofs.answer_flat.Statement.{statement}
 use Rattle.page.proofs.answer_flat.Tie as tie
@@ -35,7 +35,7 @@ answer-all-requires : tie.Need-answer-all-requires
 answer-all-requires c κs =
     let a = c .before .before .before .before .before .before .before .before .before .before .before .before .args in
     let o = c .before .before .before .before .before .open-page in
-    (opening-few (a .s .now) (a .ids .now) (a .room) (o .result) _ (o .ensures) (c .before .before .enum-told .given .1), (c .before .before .before .before .before .before .if2 .left, c .before .before .before .before .before .before .before .if1 .left))
+    (opening-few (a .s .now) (a .ids .now) (a .room) (o .result) _ (o .ensures) (c .before .before .enum-told .given .1), (c .before .before .before .before .before .before .if2 .left, (c .before .before .before .before .before .before .before .if1 .left, opening-levelled (a .s .now) (a .ids .now) (a .room) (o .result) _ (o .ensures) (c .before .before .enum-told .given .1))))
 
 same-length : tie.Need-same-length
 same-length c = search needs

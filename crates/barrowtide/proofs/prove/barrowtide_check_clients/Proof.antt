@@ -6,7 +6,7 @@ use Rattle.barrowtide.proofs.prove.barrowtide_check_clients.Statement.{
 use Rattle.barrowtide.proofs.prove.barrowtide_check_clients.Tie as tie
 use Rattle.barrowtide.proofs.prove.barrowtide_check_clients.Reads as reads
 use Rattle.barrowtide.proofs.prove.barrowtide_check_clients.Lts as lts
-use Rattle.spv.proofs.check_clients.Reads as check-clients-reads
+use Rattle.climbs.proofs.check_clients.Reads as check-clients-reads
 
 check-clients-requires : tie.Need-check-clients-requires
 check-clients-requires c κs = search needs

@@ -21,11 +21,14 @@ none-reached-requires c κs = search needs
 returns : tie.Need-returns
 returns c = let x = c .none-reached .ensures in reached-bad _ _ _ _ _ _ (answered entryAnswer (c .before .before .before .read-entry .ensures) (c .before .enum-told .given .1)) (x .0) (x .2)
 
+anchor-number-requires : tie.Need-anchor-number-requires
+anchor-number-requires c κs = search needs
+
 returns-2 : tie.Need-returns-2
 unfolding spanOf
-returns-2 c = reached-got _ _ _ (answered entryAnswer (c .before .before .before .before .read-entry .ensures) (c .before .before .field .given .1))
+returns-2 c = rw (c .anchor-number .ensures) (reached-got _ _ _ (answered entryAnswer (c .before .before .before .before .before .read-entry .ensures) (c .before .before .before .field .given .1)))
 
 pub reach-spec : {M : Type 1} → statement M
 reach-spec =
     tie.close
-    (tie.spec read-entry-requires enum-known-field enum-told none-reached-requires returns returns-2)
+    (tie.spec read-entry-requires enum-known-field enum-told none-reached-requires returns anchor-number-requires returns-2)

@@ -2,19 +2,20 @@ use Prim.Native.Nat.{_-_}
 use mathlib.Core.Path.{_≡_, refl, _∙_}
 use borrow.Author.Needs.{needs}
 use lib.ListN.{length}
-use Rattle.bundle.specs.Ahead.{Onward, IdsFrom}
-use Rattle.bundle.specs.AheadLaws.{onward-start, onward-four, ids-none, ids-four, ids-enough}
+use Rattle.bundle.specs.Ahead.{Onward, IdsFrom, AnchorsFrom}
+use Rattle.bundle.specs.AheadLaws.{onward-start, onward-four, ids-none, ids-four, ids-enough, anchors-none, anchors-four, anchors-enough}
 use Rattle.bundle.proofs.ids.write_ids.Statement.{statement}
 use Rattle.bundle.proofs.ids.write_ids.Tie as tie
 
 abbrev Inv-loop : tie.InvT-loop
-Inv-loop s count n ids₀ next₀ more₀ i₀ ids next more i = (length ids ≡ length ids₀) × Onward count s (next₀ .at) i (next .at) more × IdsFrom count s (next₀ .at) i ids
+Inv-loop s count n ids₀ anchors₀ next₀ more₀ i₀ ids anchors next more i =
+    (length ids ≡ length ids₀) × (length anchors ≡ length anchors₀) × Onward count s (next₀ .at) i (next .at) more × IdsFrom count s (next₀ .at) i ids × AnchorsFrom count s (next₀ .at) i anchors
 
 abbrev μ-loop : tie.MeasureT-loop
-μ-loop s count n ids₀ next₀ more₀ i₀ ids next more i = n - i
+μ-loop s count n ids₀ anchors₀ next₀ more₀ i₀ ids anchors next more i = n - i
 
 loop-holds : tie.Need-loop-holds Inv-loop μ-loop
-loop-holds c = (refl, onward-start _ _ _, ids-none _ _ _ _)
+loop-holds c = (refl, refl, onward-start _ _ _, ids-none _ _ _ _, anchors-none _ _ _ _)
 
 spans-from-requires : tie.Need-spans-from-requires Inv-loop μ-loop
 spans-from-requires c κs = search needs
@@ -25,6 +26,9 @@ ids-of-requires c κs = search needs
 set-four-requires : tie.Need-set-four-requires Inv-loop μ-loop
 set-four-requires c κs = search needs
 
+set-anchors-requires : tie.Need-set-anchors-requires Inv-loop μ-loop
+set-anchors-requires c κs = search needs
+
 add-i : tie.Need-add-i Inv-loop μ-loop
 add-i c = search needs
 
@@ -33,18 +37,23 @@ loop-less c = search needs
 
 loop-again : tie.Need-loop-again Inv-loop μ-loop
 loop-again c =
-    let l = c .before .before .before .before .before .before .before .before .loop in
-    let reaches = c .before .before .before .before .before .before .spans-from .ensures in (
-      c .before .before .before .set-four .kept .0 ∙ l .inv .0,
-      onward-four _ _ _ _ _ _ _ _ _ (l .inv .1) reaches,
-      rw (c .before .before .before .set-four .ensures) (ids-four _ _ _ _ _ _ _ _ _ _ _ (l .inv .2) (l .inv .1) reaches (c .before .before .before .before .before .ids-of .ensures)),
+    let l = c .before .before .before .before .before .before .before .before .before .before .before .before .before .loop in
+    let reaches = c .before .before .before .before .before .before .before .before .before .before .before .spans-from .ensures in (
+      c .before .before .before .before .before .before .before .set-four .kept .0 ∙ l .inv .0,
+      c .before .before .before .set-anchors .kept .0 ∙ l .inv .1,
+      onward-four _ _ _ _ _ _ _ _ _ (l .inv .2) reaches,
+      rw (c .before .before .before .before .before .before .before .set-four .ensures) (ids-four _ _ _ _ _ _ _ _ _ _ _ (l .inv .3) (l .inv .2) reaches (c .before .before .before .before .before .before .before .before .before .ids-of .ensures)),
+      rw (c .before .before .before .set-anchors .ensures) (anchors-four _ _ _ _ _ _ _ _ _ _ (l .inv .4) (l .inv .2) reaches),
     )
 
 same-length : tie.Need-same-length Inv-loop μ-loop
 same-length c = c .before .loop .inv .0
 
+same-length-2 : tie.Need-same-length-2 Inv-loop μ-loop
+same-length-2 c = c .before .loop .inv .1
+
 returns : tie.Need-returns Inv-loop μ-loop
-returns c = ids-enough _ _ _ _ (c .loop-test .left) (c .before .loop .inv .2)
+returns c = (ids-enough _ _ _ _ (c .loop-test .left) (c .before .loop .inv .3), anchors-enough _ _ _ _ (c .loop-test .left) (c .before .loop .inv .4))
 
 pub write-ids-spec : {M : Type 1} → statement M
 write-ids-spec =
@@ -56,8 +65,10 @@ write-ids-spec =
     spans-from-requires
     ids-of-requires
     set-four-requires
+    set-anchors-requires
     add-i
     loop-less
     loop-again
     same-length
+    same-length-2
     returns)

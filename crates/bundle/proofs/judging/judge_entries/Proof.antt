@@ -1,16 +1,20 @@
-use Prim.Native.Nat.{_-_, _*_, _/_, _<_}
+use Prim.Native.Nat.{_-_, _*_, _/_, _≤_, _<_}
 use mathlib.Core.Path.{_≡_, refl, sym, ap, _∙_}
 use mathlib.Core.Bool.{true}
+use mathlib.Core.List.{List}
+use Prim.Native.Nat.{ℕ}
 use native.Mathlib.Omega.{arith}
 use borrow.Author.Needs.{needs}
 use lib.ListN.{length}
 use lib.Seq.{length-take-le}
+use Rattle.format.specs.declared.bump.BumpHead.{BumpHead}
 use Rattle.format.specs.ParseLaws.{answered}
 use Rattle.format.specs.BeefAnswer.{entryAnswer}
 use Rattle.spv.specs.declared.rejection.Rejection.{Rejection}
-use Rattle.bundle.specs.BundleHeads.{IsKept}
 use Rattle.bundle.specs.Ahead.{Onward}
 use Rattle.bundle.specs.AheadLaws.{onward-start, onward-one, id-here}
+use Rattle.bundle.specs.Anchored.{EndsFrom}
+use Rattle.bundle.specs.AnchoredLaws.{mined-here}
 use Rattle.bundle.specs.BundleHeadLaws.{head-told}
 use Rattle.bundle.specs.declared.judging.Verdict.the-variants.{Refused}
 use Rattle.bundle.specs.BundleAnswer.{judgementOf}
@@ -19,17 +23,14 @@ use Rattle.bundle.proofs.judging.judge_entries.Statement.{statement}
 use Rattle.bundle.proofs.judging.judge_entries.Tie as tie
 
 abbrev Inv-loop : tie.InvT-loop
-Inv-loop s roots bumps count n order ids numbers₀ kept₀ next₀ i₀ numbers kept next i =
-    (length numbers ≡ length numbers₀) × IsKept s bumps kept × Judging s roots bumps count n (next₀ .at) ids numbers i (next .at) × Onward count s (next₀ .at) i (next .at) true
+Inv-loop s count n order ends ids numbers₀ next₀ i₀ numbers next i =
+    (length numbers ≡ length numbers₀) × (i ≤ n) × ((roots : List ℕ) (bumps : List BumpHead) → EndsFrom count s roots bumps (next₀ .at) n ends → Judging s roots bumps count n (next₀ .at) ids numbers i (next .at)) × Onward count s (next₀ .at) i (next .at) true
 
 abbrev μ-loop : tie.MeasureT-loop
-μ-loop s roots bumps count n order ids numbers₀ kept₀ next₀ i₀ numbers kept next i = n - i
-
-none-kept-requires : tie.Need-none-kept-requires Inv-loop μ-loop
-none-kept-requires c κs = search needs
+μ-loop s count n order ends ids numbers₀ next₀ i₀ numbers next i = n - i
 
 loop-holds : tie.Need-loop-holds Inv-loop μ-loop
-loop-holds c = (refl, (λ low. absurd (let e = c .none-kept .ensures in omega arith)), judging-start _ _ _ _ _ _ (search needs) (search needs), onward-start _ _ _)
+loop-holds c = let p = c .before .before .before .before .before .pre in (refl, omega arith, (λ roots bumps ends. judging-start _ _ _ _ _ _ (p .1 .0) (p .1 .1 .0)), onward-start _ _ _)
 
 read-entry-requires : tie.Need-read-entry-requires Inv-loop μ-loop
 read-entry-requires c κs = search needs
@@ -50,39 +51,39 @@ same-length : tie.Need-same-length Inv-loop μ-loop
 same-length c = c .before .before .before .before .before .before .loop .inv .0
 
 returns : tie.Need-returns Inv-loop μ-loop
-returns c = absurd (judging-reads _ _ _ _ _ _ (c .before .before .before .before .before .before .loop .inv .2) (c .before .before .before .before .before .before .before .before .before .before .before .before .before .pre .0) (c .before .before .before .before .before .loop-test .taken) (c .before .before .before .before .before .before .before .before .before .before .before .before .before .pre .1 .1 .1 .1) (answered entryAnswer (c .before .before .before .before .read-entry .ensures) (c .before .before .enum-told .given .1)))
-
-keep-path-requires : tie.Need-keep-path-requires Inv-loop μ-loop
-keep-path-requires c κs = search needs
+returns c = λ roots bumps ends.
+    absurd (judging-reads _ _ _ _ _ _ (c .before .before .before .before .before .before .loop .inv .2 roots bumps ends) (c .before .before .before .before .before .before .before .before .before .before .before .before .pre .0) (c .before .before .before .before .before .loop-test .taken) (c .before .before .before .before .before .before .before .before .before .before .before .before .pre .1 .1 .1 .1 .1) (answered entryAnswer (c .before .before .before .before .read-entry .ensures) (c .before .before .enum-told .given .1)))
 
 mul-hash-at : tie.Need-mul-hash-at Inv-loop μ-loop
 mul-hash-at c =
-    let l = c .before .before .before .before .before .before .before .loop in
-    let wide = l .inv .2 .wide in
-    let long = l .inv .2 .long in
-    let low = c .before .before .before .before .before .before .loop-test .taken in
-    let few = c .before .before .before .before .before .before .before .before .before .before .before .before .before .before .pre .0 in
+    let low = c .before .before .before .before .before .loop-test .taken in
+    let few = c .before .before .before .before .before .before .before .before .before .before .before .before .pre .0 in
     record { fits = omega arith }
 
 hash-at-requires : tie.Need-hash-at-requires Inv-loop μ-loop
 hash-at-requires c κs = search needs
 
+anchor-number-requires : tie.Need-anchor-number-requires Inv-loop μ-loop
+anchor-number-requires c κs = search needs
+
+end-at-requires : tie.Need-end-at-requires Inv-loop μ-loop
+end-at-requires c κs =
+    let low = c .before .before .before .before .before .before .before .loop-test .taken in
+    let few = c .before .before .before .before .before .before .before .before .before .before .before .before .before .before .pre .0 in
+    (omega arith, c .before .before .before .before .before .before .before .before .before .before .before .before .before .before .pre .1 .1 .1 .0)
+
 mul-judge-entry : tie.Need-mul-judge-entry Inv-loop μ-loop
 mul-judge-entry c =
-    let l = c .before .before .before .before .before .before .before .before .loop in
-    let wide = l .inv .2 .wide in
-    let long = l .inv .2 .long in
-    let low = c .before .before .before .before .before .before .before .loop-test .taken in
+    let low = c .before .before .before .before .before .before .before .before .loop-test .taken in
     let few = c .before .before .before .before .before .before .before .before .before .before .before .before .before .before .before .pre .0 in
     record { fits = omega arith }
 
 slice-aggregate-judge-entry : tie.Need-slice-aggregate-judge-entry Inv-loop μ-loop
 slice-aggregate-judge-entry c =
-    let l = c .before .before .before .before .before .before .before .before .before .loop in
-    let wide = l .inv .2 .wide in
-    let long = l .inv .2 .long in
-    let low = c .before .before .before .before .before .before .before .before .loop-test .taken in
+    let l = c .before .before .before .before .before .before .before .before .before .before .loop in
+    let low = c .before .before .before .before .before .before .before .before .before .loop-test .taken in
     let few = c .before .before .before .before .before .before .before .before .before .before .before .before .before .before .before .before .pre .0 in
+    let wide = c .before .before .before .before .before .before .before .before .before .before .before .before .before .before .before .before .pre .1 .0 in
     sym (length-take-le (32 * l .i) (c .before .before .before .before .before .before .before .before .before .before .before .before .before .before .before .before .args .ids .now) (omega arith))
 
 judge-entry-requires : tie.Need-judge-entry-requires Inv-loop μ-loop
@@ -95,22 +96,23 @@ blame-requires-2 : tie.Need-blame-requires-2 Inv-loop μ-loop
 blame-requires-2 c κs = search needs
 
 same-length-2 : tie.Need-same-length-2 Inv-loop μ-loop
-same-length-2 c = c .before .before .before .before .before .before .before .before .before .before .before .before .before .before .loop .inv .0
+same-length-2 c = c .before .before .before .before .before .before .before .before .before .before .before .before .before .before .before .loop .inv .0
 
 returns-2 : tie.Need-returns-2 Inv-loop μ-loop
-returns-2 c =
-    let l = c .before .before .before .before .before .before .before .before .before .before .before .before .before .before .loop in
-    let wide = l .inv .2 .wide in
-    let long = l .inv .2 .long in
-    let low = c .before .before .before .before .before .before .before .before .before .before .before .before .before .loop-test .taken in
-    let few = c .before .before .before .before .before .before .before .before .before .before .before .before .before .before .before .before .before .before .before .before .before .pre .0 in
-    let read = answered entryAnswer (c .before .before .before .before .before .before .before .before .before .before .before .before .read-entry .ensures) (c .before .before .before .before .before .before .before .before .before .before .field .given .1) in
+returns-2 c = λ roots bumps ends.
+    let l = c .before .before .before .before .before .before .before .before .before .before .before .before .before .before .before .loop in
+    let p = c .before .before .before .before .before .before .before .before .before .before .before .before .before .before .before .before .before .before .before .before .before .pre in
+    let j = l .inv .2 roots bumps ends in
+    let low = c .before .before .before .before .before .before .before .before .before .before .before .before .before .before .loop-test .taken in
+    let few = p .0 in
+    let wide = p .1 .0 in
+    let read = answered entryAnswer (c .before .before .before .before .before .before .before .before .before .before .before .before .before .read-entry .ensures) (c .before .before .before .before .before .before .before .before .before .before .before .field .given .1) in
     let room : l .i < length (c .before .before .before .before .before .before .before .before .before .before .before .before .before .before .before .before .before .before .before .before .before .args .ids .now) / 32 = omega arith in
-    let known = c .before .before .before .before .before .before .hash-at .ensures ∙ id-here _ _ _ _ _ (l .inv .3) read _ _ (c .before .before .before .before .before .before .before .before .before .before .before .before .before .before .before .before .before .before .before .before .before .pre .1 .1 .1 .0) low room in (
+    let known = c .before .before .before .before .before .before .before .before .hash-at .ensures ∙ id-here _ _ _ _ _ (l .inv .3) read _ _ (p .1 .1 .1 .1 .0) low room in
+    let mined = mined-here _ _ _ _ _ (l .inv .3) read roots bumps _ _ _ _ _ ends low known (c .before .before .before .before .before .before .before .anchor-number .ensures) (c .before .before .before .before .before .before .end-at .ensures) in (
       ap (λ (x : Rejection). judgementOf (Refused x) (c .before .before .before .before .before .before .before .before .before .before .before .before .before .before .before .before .before .before .before .before .before .args .ids .now) (l .numbers)) (c .blame2 .ensures)
-          ∙ judging-refused _ _ _ _ _ _ (l .inv .2) few low read
-          (head-told _ _ _ _ _ known (c .before .before .before .before .judge-entry .ensures _ (c .before .before .before .before .before .before .before .before .keep-path .ensures (l .inv .1) .1)) (c .before .before .standing .given .1)),
-      written-again _ _ _ _ (ap (λ (x : Rejection). x .carried) (c .blame2 .ensures)) (l .inv .2 .written),
+          ∙ judging-refused _ _ _ _ _ _ j few low read (head-told _ _ _ _ _ known (c .before .before .before .before .judge-entry .ensures roots bumps mined) (c .before .before .standing .given .1)),
+      written-again _ _ _ _ (ap (λ (x : Rejection). x .carried) (c .blame2 .ensures)) (j .written),
     )
 
 enum-known-standing-2 : tie.Need-enum-known-standing-2 Inv-loop μ-loop
@@ -124,48 +126,40 @@ numbers-of-requires c κs = search needs
 
 put-numbers-requires : tie.Need-put-numbers-requires Inv-loop μ-loop
 put-numbers-requires c κs =
-    let l = c .before .before .before .before .before .before .before .before .before .before .before .before .before .before .before .before .before .loop in
-    let wide = l .inv .2 .wide in
-    let long = l .inv .2 .long in
-    let low = c .before .before .before .before .before .before .before .before .before .before .before .before .before .before .before .before .loop-test .taken in
+    let same = c .before .before .before .before .before .before .before .before .before .before .before .before .before .before .before .before .before .before .loop .inv .0 in
+    let low = c .before .before .before .before .before .before .before .before .before .before .before .before .before .before .before .before .before .loop-test .taken in
     let few = c .before .before .before .before .before .before .before .before .before .before .before .before .before .before .before .before .before .before .before .before .before .before .before .before .pre .0 in
+    let long = c .before .before .before .before .before .before .before .before .before .before .before .before .before .before .before .before .before .before .before .before .before .before .before .before .pre .1 .1 .0 in
     (omega arith, omega arith)
 
 add-i : tie.Need-add-i Inv-loop μ-loop
 add-i c =
-    let l = c .before .before .before .before .before .before .before .before .before .before .before .before .before .before .before .before .before .before .before .before .loop in
-    let wide = l .inv .2 .wide in
-    let long = l .inv .2 .long in
-    let low = c .before .before .before .before .before .before .before .before .before .before .before .before .before .before .before .before .before .before .before .loop-test .taken in
+    let low = c .before .before .before .before .before .before .before .before .before .before .before .before .before .before .before .before .before .before .before .before .loop-test .taken in
     let few = c .before .before .before .before .before .before .before .before .before .before .before .before .before .before .before .before .before .before .before .before .before .before .before .before .before .before .before .pre .0 in
     record { fits = omega arith }
 
 loop-less : tie.Need-loop-less Inv-loop μ-loop
-loop-less c =
-    let l = c .before .before .before .before .before .before .before .before .before .before .before .before .before .before .before .before .before .before .before .before .loop in
-    let wide = l .inv .2 .wide in
-    let long = l .inv .2 .long in
-    let low = c .before .before .before .before .before .before .before .before .before .before .before .before .before .before .before .before .before .before .before .loop-test .taken in
-    let few = c .before .before .before .before .before .before .before .before .before .before .before .before .before .before .before .before .before .before .before .before .before .before .before .before .before .before .before .pre .0 in
-    omega arith
+loop-less c = let low = c .before .before .before .before .before .before .before .before .before .before .before .before .before .before .before .before .before .before .before .before .loop-test .taken in omega arith
 
 loop-again : tie.Need-loop-again Inv-loop μ-loop
 loop-again c =
-    let l = c .before .before .before .before .before .before .before .before .before .before .before .before .before .before .before .before .before .before .before .before .loop in
-    let wide = l .inv .2 .wide in
-    let long = l .inv .2 .long in
-    let low = c .before .before .before .before .before .before .before .before .before .before .before .before .before .before .before .before .before .before .before .loop-test .taken in
-    let few = c .before .before .before .before .before .before .before .before .before .before .before .before .before .before .before .before .before .before .before .before .before .before .before .before .before .before .before .pre .0 in
-    let read = answered entryAnswer (c .before .before .before .before .before .before .before .before .before .before .before .before .before .before .before .before .before .before .read-entry .ensures) (c .before .before .before .before .before .before .before .before .before .before .before .before .before .before .before .before .field .given .1) in
+    let l = c .before .before .before .before .before .before .before .before .before .before .before .before .before .before .before .before .before .before .before .before .before .loop in
+    let p = c .before .before .before .before .before .before .before .before .before .before .before .before .before .before .before .before .before .before .before .before .before .before .before .before .before .before .before .pre in
+    let low = c .before .before .before .before .before .before .before .before .before .before .before .before .before .before .before .before .before .before .before .before .loop-test .taken in
+    let few = p .0 in
+    let wide = p .1 .0 in
+    let read = answered entryAnswer (c .before .before .before .before .before .before .before .before .before .before .before .before .before .before .before .before .before .before .before .read-entry .ensures) (c .before .before .before .before .before .before .before .before .before .before .before .before .before .before .before .before .before .field .given .1) in
     let room : l .i < length (c .before .before .before .before .before .before .before .before .before .before .before .before .before .before .before .before .before .before .before .before .before .before .before .before .before .before .before .args .ids .now) / 32 = omega arith in
-    let known = c .before .before .before .before .before .before .before .before .before .before .before .before .hash-at .ensures ∙ id-here _ _ _ _ _ (l .inv .3) read _ _ (c .before .before .before .before .before .before .before .before .before .before .before .before .before .before .before .before .before .before .before .before .before .before .before .before .before .before .before .pre .1 .1 .1 .0) low room in (
+    let known = c .before .before .before .before .before .before .before .before .before .before .before .before .before .before .hash-at .ensures ∙ id-here _ _ _ _ _ (l .inv .3) read _ _ (p .1 .1 .1 .1 .0) low room in (
       c .before .before .put-numbers .kept .0 ∙ l .inv .0,
-      c .before .before .before .before .before .before .before .before .before .before .before .before .before .before .keep-path .ensures (l .inv .1) .0,
-      judging-passes _ _ _ _ _ _ (l .inv .2) few low read
-          (head-told _ _ _ _ _ known (c .before .before .before .before .before .before .before .before .before .before .judge-entry .ensures _ (c .before .before .before .before .before .before .before .before .before .before .before .before .before .before .keep-path .ensures (l .inv .1) .1)) (c .before .before .before .before .before .before .before .before .standing2 .given .1))
-          (sym (c .before .before .before .before .before .before .before .before .before .before .before .before .hash-at .ensures) ∙ known)
+      omega arith,
+      (λ roots bumps ends.
+          let mined = mined-here _ _ _ _ _ (l .inv .3) read roots bumps _ _ _ _ _ ends low known (c .before .before .before .before .before .before .before .before .before .before .before .before .before .anchor-number .ensures) (c .before .before .before .before .before .before .before .before .before .before .before .before .end-at .ensures) in
+          judging-passes _ _ _ _ _ _ (l .inv .2 roots bumps ends) few low read
+          (head-told _ _ _ _ _ known (c .before .before .before .before .before .before .before .before .before .before .judge-entry .ensures roots bumps mined) (c .before .before .before .before .before .before .before .before .standing2 .given .1))
+          (sym (c .before .before .before .before .before .before .before .before .before .before .before .before .before .before .hash-at .ensures) ∙ known)
           (c .before .before .before .before .numbers-of .ensures ∙ numbers-with _ _ _ _ (c .before .before .before .before .before .outputs-total .ensures))
-          (c .before .before .put-numbers .ensures),
+          (c .before .before .put-numbers .ensures)),
       onward-one _ _ _ _ _ (l .inv .3) read,
     )
 
@@ -173,7 +167,9 @@ same-length-3 : tie.Need-same-length-3 Inv-loop μ-loop
 same-length-3 c = c .before .loop .inv .0
 
 returns-3 : tie.Need-returns-3 Inv-loop μ-loop
-returns-3 c = (judging-end _ _ _ _ _ _ (c .before .loop .inv .2) (c .loop-test .left), c .before .loop .inv .2 .written)
+returns-3 c = λ roots bumps ends.
+    let j = c .before .loop .inv .2 roots bumps ends in
+    (judging-end _ _ _ _ _ _ j (c .loop-test .left), j .written)
 
 pub judge-entries-spec : {M : Type 1} → statement M
 judge-entries-spec =
@@ -181,7 +177,6 @@ judge-entries-spec =
     (tie.spec
     Inv-loop
     μ-loop
-    none-kept-requires
     loop-holds
     read-entry-requires
     enum-known-field
@@ -190,9 +185,10 @@ judge-entries-spec =
     blame-requires
     same-length
     returns
-    keep-path-requires
     mul-hash-at
     hash-at-requires
+    anchor-number-requires
+    end-at-requires
     mul-judge-entry
     slice-aggregate-judge-entry
     judge-entry-requires

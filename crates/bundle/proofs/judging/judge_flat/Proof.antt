@@ -3,8 +3,9 @@ use native.Mathlib.Omega.{arith}
 use borrow.Author.Needs.{needs}
 use Rattle.format.specs.ParseLaws.{answered}
 use Rattle.format.specs.BeefAnswer.{beefAnswer}
+use Rattle.bundle.specs.AnchoredLaws.{ends-from}
 use Rattle.bundle.specs.BundleAnswer.{judgementOf}
-use Rattle.bundle.specs.BundleRead.{judge-long, judge-roots, judge-refused, judge-read, read-few, read-every, answers-at}
+use Rattle.bundle.specs.BundleRead.{judge-long, judge-roots, judge-refused, judge-read, read-few, read-low, read-every, answers-at}
 use Rattle.bundle.proofs.judging.judge_flat.Statement.{statement}
 use Rattle.bundle.proofs.judging.judge_flat.Tie as tie
 
@@ -46,8 +47,24 @@ reject-reading-requires c κs = search needs
 enum-known-answer-2 : tie.Need-enum-known-answer-2
 enum-known-answer-2 c = search needs
 
+slice-aggregate-write-ids : tie.Need-slice-aggregate-write-ids
+slice-aggregate-write-ids c = search needs
+
 write-ids-requires : tie.Need-write-ids-requires
-write-ids-requires c κs = read-few _ _ _ _ (answered beefAnswer (c .before .before .before .before .before .before .read-bundle .ensures .0) (c .before .before .before .before .answer2 .given .1))
+write-ids-requires c κs = read-few _ _ _ _ (answered beefAnswer (c .before .before .before .before .before .before .before .read-bundle .ensures .0) (c .before .before .before .before .before .answer2 .given .1))
+
+slice-aggregate-climb-bumps : tie.Need-slice-aggregate-climb-bumps
+slice-aggregate-climb-bumps c = search needs
+
+slice-aggregate-climb-bumps-2 : tie.Need-slice-aggregate-climb-bumps-2
+slice-aggregate-climb-bumps-2 c = search needs
+
+climb-bumps-requires : tie.Need-climb-bumps-requires
+climb-bumps-requires c κs =
+    let read = answered beefAnswer (c .before .before .before .before .before .before .before .before .before .before .before .before .before .before .read-bundle .ensures .0) (c .before .before .before .before .before .before .before .before .before .before .before .before .answer2 .given .1) in
+    let few = read-few _ _ _ _ read in
+    let same = c .before .before .before .before .before .before .write-ids .kept .1 .1 .1 .1 .1 .0 in
+    (read-low _ _ _ _ read, (few, (omega arith, search needs)))
 
 in-order-requires : tie.Need-in-order-requires
 in-order-requires c κs = search needs
@@ -55,12 +72,16 @@ in-order-requires c κs = search needs
 slice-aggregate-judge-entries : tie.Need-slice-aggregate-judge-entries
 slice-aggregate-judge-entries c = search needs
 
+slice-aggregate-judge-entries-2 : tie.Need-slice-aggregate-judge-entries-2
+slice-aggregate-judge-entries-2 c = search needs
+
 judge-entries-requires : tie.Need-judge-entries-requires
 judge-entries-requires c κs =
-    let read = answered beefAnswer (c .before .before .before .before .before .before .before .before .before .before .before .before .before .before .read-bundle .ensures .0) (c .before .before .before .before .before .before .before .before .before .before .before .before .answer2 .given .1) in
-    let same = c .before .before .before .before .before .before .before .write-ids .kept .1 .1 .1 .1 .0 in
-    let wide = c .before .before .before .before .before .before .before .before .before .before .before .before .before .before .before .before .before .before .if1 .left in
-    (read-few _ _ _ _ read, (omega arith, (c .before .before .before .before .before .before .before .before .before .before .before .before .before .before .before .before .before .if2 .left, (c .before .before .before .before .before .before .before .write-ids .ensures, read-every _ _ _ _ read))))
+    let read = answered beefAnswer (c .before .before .before .before .before .before .before .before .before .before .before .before .before .before .before .before .before .before .before .before .before .before .read-bundle .ensures .0) (c .before .before .before .before .before .before .before .before .before .before .before .before .before .before .before .before .before .before .before .before .answer2 .given .1) in
+    let same = c .before .before .before .before .before .before .before .before .before .before .before .before .before .before .write-ids .kept .1 .1 .1 .1 .0 in
+    let wide = c .before .before .before .before .before .before .before .before .before .before .before .before .before .before .before .before .before .before .before .before .before .before .before .before .before .before .if1 .left in
+    let ends = c .before .before .before .before .before .before .before .climb-bumps .kept .1 .1 .1 .1 .1 .1 .1 .0 in
+    (read-few _ _ _ _ read, (omega arith, (c .before .before .before .before .before .before .before .before .before .before .before .before .before .before .before .before .before .before .before .before .before .before .before .before .before .if2 .left, (omega arith, (c .before .before .before .before .before .before .before .before .before .before .before .before .before .before .write-ids .ensures .0, read-every _ _ _ _ read)))))
 
 slice-aggregate-judge-amounts : tie.Need-slice-aggregate-judge-amounts
 slice-aggregate-judge-amounts c = search needs
@@ -79,16 +100,22 @@ unfolding judgementOf
 returns-5 c = λ wide long. rw (c .reject-reading .ensures) (judge-refused _ _ _ _ (c .before .before .before .before .before .before .if3 .left) (c .before .before .before .before .before .if4 .left) _ (answered beefAnswer (c .before .before .before .before .read-bundle .ensures .0) (c .before .before .answer .given .1)))
 
 same-length : tie.Need-same-length
-same-length c = search needs
+same-length c = c .before .before .before .before .before .before .before .before .before .before .before .before .before .before .before .before .before .before .before .before .before .before .before .write-ids .kept .1 .1 .1 .1 .0
 
 same-length-2 : tie.Need-same-length-2
 same-length-2 c = search needs
 
 returns-6 : tie.Need-returns-6
 returns-6 c = λ wide long.
-    let e = c .before .before .before .before .before .before .before .before .judge-entries .ensures in
+    let read = answered beefAnswer (c .before .before .before .before .before .before .before .before .before .before .before .before .before .before .before .before .before .before .before .before .before .before .before .before .before .before .before .before .before .before .before .read-bundle .ensures .0) (c .before .before .before .before .before .before .before .before .before .before .before .before .before .before .before .before .before .before .before .before .before .before .before .before .before .before .before .before .before .answer2 .given .1) in
+    let few = read-few _ _ _ _ read in
+    let w = c .before .before .before .before .before .before .before .before .before .before .before .before .before .before .before .before .before .before .before .before .before .before .before .write-ids in
+    let ids = w .kept .1 .1 .1 .1 .0 in
+    let anchors = w .kept .1 .1 .1 .1 .1 .0 in
+    let ends = ends-from _ _ _ _ _ _ _ _ _ (w .ensures .0) (w .ensures .1) (omega arith) (omega arith) (c .before .before .before .before .before .before .before .before .before .before .before .before .before .before .before .before .climb-bumps .ensures) in
+    let e = c .before .before .before .before .before .before .before .before .judge-entries .ensures _ _ ends in
     c .settle .ensures _ _
-    ∙ judge-read _ _ _ _ (c .before .before .before .before .before .before .before .before .before .before .before .before .before .before .before .before .before .before .before .before .before .before .before .before .before .if3 .left) (c .before .before .before .before .before .before .before .before .before .before .before .before .before .before .before .before .before .before .before .before .before .before .before .before .if4 .left) _ _ (answered beefAnswer (c .before .before .before .before .before .before .before .before .before .before .before .before .before .before .before .before .before .before .before .before .before .before .before .read-bundle .ensures .0) (c .before .before .before .before .before .before .before .before .before .before .before .before .before .before .before .before .before .before .before .before .before .answer2 .given .1)) (c .before .before .before .before .before .before .before .before .before .before .before .before .before .before .before .before .before .before .before .before .before .before .before .read-bundle .ensures .1) _ _ _ _ (e .0) (e .1) (answers-at _ _ _ _ _ (c .before .before .reached .ensures) (c .before .judge-amounts .ensures))
+    ∙ judge-read _ _ _ _ (c .before .before .before .before .before .before .before .before .before .before .before .before .before .before .before .before .before .before .before .before .before .before .before .before .before .before .before .before .before .before .before .before .before .if3 .left) (c .before .before .before .before .before .before .before .before .before .before .before .before .before .before .before .before .before .before .before .before .before .before .before .before .before .before .before .before .before .before .before .before .if4 .left) _ _ read (c .before .before .before .before .before .before .before .before .before .before .before .before .before .before .before .before .before .before .before .before .before .before .before .before .before .before .before .before .before .before .before .read-bundle .ensures .1) _ _ _ _ (e .0) (e .1) (answers-at _ _ _ _ _ (c .before .before .reached .ensures) (c .before .judge-amounts .ensures))
 
 pub judge-flat-spec : {M : Type 1} → statement M
 judge-flat-spec =
@@ -106,9 +133,14 @@ judge-flat-spec =
     enum-known-answer
     reject-reading-requires
     enum-known-answer-2
+    slice-aggregate-write-ids
     write-ids-requires
+    slice-aggregate-climb-bumps
+    slice-aggregate-climb-bumps-2
+    climb-bumps-requires
     in-order-requires
     slice-aggregate-judge-entries
+    slice-aggregate-judge-entries-2
     judge-entries-requires
     slice-aggregate-judge-amounts
     reached-requires

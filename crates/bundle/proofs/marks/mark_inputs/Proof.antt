@@ -5,8 +5,7 @@ use borrow.Author.Needs.{needs}
 use lib.ListN.{length}
 use Rattle.format.specs.ParseLaws.{answered}
 use Rattle.format.specs.TransactionAnswer.{inputAnswer}
-use Rattle.spv.specs.Hashes.{hashesOf}
-use Rattle.bundle.specs.FlatForm.{Distinct}
+use Rattle.spv.specs.Hashes.{hashesOf, Distinct}
 use Rattle.bundle.specs.FlatLaws.{Marking, marking-start, marking-end, marking-stops, marking-on}
 use Rattle.bundle.proofs.marks.mark_inputs.Statement.{statement}
 use Rattle.bundle.proofs.marks.mark_inputs.Tie as tie

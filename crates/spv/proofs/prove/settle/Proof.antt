@@ -8,8 +8,8 @@ use Rattle.spv.specs.ShapesLaws.{told-root, told-stop}
 use Rattle.spv.proofs.prove.settle.Statement.{statement}
 use Rattle.spv.proofs.prove.settle.Tie as tie
 
-climb-requires : tie.Need-climb-requires
-climb-requires c κs = search needs
+climb-from-requires : tie.Need-climb-from-requires
+climb-from-requires c κs = search needs
 
 enum-known-end : tie.Need-enum-known-end
 enum-known-end c = search needs
@@ -35,19 +35,19 @@ refused-proof-requires-2 c κs = search needs
 returns : tie.Need-returns
 unfolding opened
 returns c =
-    let r = c .before .before .before .before .before .climb in
+    let r = c .before .before .before .before .before .climb-from in
     c .refused-proof .ensures ∙ sym (ap provedOf (prove-stop _ _ _ _ _ _ (told-stop (r .result) _ _ (r .ensures) (c .before .before .end .given .1))))
 
 returns-2 : tie.Need-returns-2
 unfolding opened provedOf
 returns-2 c =
-    let r = c .before .before .before .before .before .before .climb in
+    let r = c .before .before .before .before .before .before .climb-from in
     c .accepted .ensures ∙ sym (ap provedOf (prove-root _ _ _ _ _ (r .result .root) (told-root (r .result) _ (r .ensures) (c .before .before .before .enum-told .given .1)) (sym (c .before .before .hits-target .ensures) ∙ c .before .if1 .taken)))
 
 returns-3 : tie.Need-returns-3
 unfolding opened
 returns-3 c =
-    let r = c .before .before .before .before .before .before .before .climb in
+    let r = c .before .before .before .before .before .before .before .climb-from in
     c .refused-proof2 .ensures ∙ ap (λ (x : Rejection). provedOf (refused x)) (c .before .reject .ensures)
     ∙ sym (ap provedOf (prove-differ _ _ _ _ _ (r .result .root) (told-root (r .result) _ (r .ensures) (c .before .before .before .before .enum-told .given .1)) (sym (c .before .before .before .hits-target .ensures) ∙ c .before .before .if1 .left)))
 
@@ -55,7 +55,7 @@ pub settle-spec : {M : Type 1} → statement M
 settle-spec =
     tie.close
     (tie.spec
-    climb-requires
+    climb-from-requires
     enum-known-end
     refused-proof-requires
     enum-told

@@ -250,7 +250,7 @@ join-of-returns-3 t c =
     let a = c .before .before .before .before .before .before .before .before .before .before .args in
     let w = writtenBy (a .s .now) (findAt (a .layout) (a .s .now) (a .places .now)) in
     let l = c .before .before .before .before .value-of .ensures ∙ ap (λ (x : Sibling). valueOf w x (a .layer - 1) (2 * a .position)) (node-says _ absent (c .before .before .before .before .before .absent-node2 .ensures)) in
-    c .join-both .ensures
+    node-says _ _ (c .join-both .ensures)
     ∙ ap₂ joinBoth l (c .before .value-of2 .ensures ∙ ap (λ (x : Sibling). valueOf w x (a .layer - 1) (2 * a .position + 1)) l)
     ∙ sym (join-two w (a .layer) (a .position) (c .before .before .before .before .before .before .if1 .left))
 

@@ -1,11 +1,13 @@
+use Prim.Native.Nat.{ℕ}
+use mathlib.Core.List.{List}
 use mathlib.Core.Path.{ap, ap₂, sym, _∙_}
 use borrow.Author.Needs.{needs}
 use borrow.Author.Tests.{not-true, not-false}
-use Rattle.spv.specs.Climb.{absent, value}
+use Rattle.spv.specs.Climb.{value}
 use Rattle.spv.specs.Values.{joinBoth}
 use Rattle.spv.specs.ValuesLaws.{both-left, both-right}
-use Rattle.spv.specs.Shapes.{siblingOf, siblingBy}
-use Rattle.spv.specs.ShapesLaws.{node-says, is-valued}
+use Rattle.spv.specs.Shapes.{nodeOf, siblingOf, siblingBy}
+use Rattle.spv.specs.ShapesLaws.{is-valued}
 use Rattle.spv.proofs.values.join_both.Statement.{statement}
 use Rattle.spv.proofs.values.join_both.Tie as tie
 
@@ -18,7 +20,7 @@ absent-node-requires c κs = search needs
 returns : tie.Need-returns
 returns c =
     let a = c .before .before .before .args in
-    node-says _ absent (c .absent-node .ensures) ∙ sym (both-left (siblingOf (a .l)) (siblingOf (a .r)) (sym (c .before .before .has-value .ensures) ∙ not-true _ (c .before .if1 .taken)))
+    c .absent-node .ensures ∙ ap nodeOf (sym (both-left (siblingOf (a .l)) (siblingOf (a .r)) (sym (c .before .before .has-value .ensures) ∙ not-true _ (c .before .if1 .taken))))
 
 has-value-requires-2 : tie.Need-has-value-requires-2
 has-value-requires-2 c κs = search needs
@@ -29,18 +31,18 @@ absent-node-requires-2 c κs = search needs
 returns-2 : tie.Need-returns-2
 returns-2 c =
     let a = c .before .before .before .before .before .args in
-    node-says _ absent (c .absent-node2 .ensures) ∙ sym (both-right (siblingOf (a .l)) (siblingOf (a .r)) (sym (c .before .before .has-value2 .ensures) ∙ not-true _ (c .before .if2 .taken)))
+    c .absent-node2 .ensures ∙ ap nodeOf (sym (both-right (siblingOf (a .l)) (siblingOf (a .r)) (sym (c .before .before .has-value2 .ensures) ∙ not-true _ (c .before .if2 .taken))))
 
 join-requires : tie.Need-join-requires
 join-requires c κs = search needs
 
 returns-3 : tie.Need-returns-3
-unfolding joinBoth siblingOf siblingBy
+unfolding joinBoth siblingOf siblingBy nodeOf
 returns-3 c =
     let a = c .before .before .before .before .before .before .before .args in
     let l = is-valued (a .l) (sym (c .before .before .before .before .before .before .has-value .ensures) ∙ not-false _ (c .before .before .before .before .before .if1 .left)) in
     let r = is-valued (a .r) (sym (c .before .before .before .before .has-value2 .ensures) ∙ not-false _ (c .before .before .before .if2 .left)) in
-    ap value (c .join .ensures) ∙ sym (ap₂ joinBoth l r)
+    ap (λ (h : List ℕ). nodeOf (value h)) (c .join .ensures) ∙ sym (ap nodeOf (ap₂ joinBoth l r))
 
 pub join-both-spec : {M : Type 1} → statement M
 join-both-spec =

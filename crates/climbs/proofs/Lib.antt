@@ -1,0 +1,11 @@
+pub mod RowLaws
+pub mod PassLaws
+pub mod Visits
+pub mod OrderLaws
+pub mod TogetherLaws
+pub mod RiseLaws
+pub mod ProofsLaws
+pub mod ClientsShapesLaws
+pub mod ClientsLaws
+pub mod WaitingLaws
+pub mod JoinsLaws

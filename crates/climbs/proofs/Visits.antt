@@ -1,0 +1,207 @@
+-- Laws of a visit: a node's children were visited, then each row under them took its step, and the node's own value is at hand.
+use Prim.Native.Nat.{ℕ, zero, suc, _+_, _-_, _*_, _/_, _%_, _^_, _≤_, _<_}
+use native.Mathlib.Nat.{le-trans, le-refl}
+use native.Mathlib.Omega.{arith}
+use mathlib.Core.Path.{_≡_, refl, sym, ap, ap₂, _∙_, subst}
+use mathlib.Core.Bool.{Bool, true, false, not, _&&_, _||_}
+use mathlib.Core.List.{List}
+use lib.ListN.{length, getD}
+use lib.Dec.{ltb}
+use borrow.Author.Tests.{ltb-true, ltb-false}
+use Rattle.spv.specs.Climb.{Sibling, absent, Siblings}
+use Rattle.spv.specs.Values.{hasValue, joinOf, workedOut}
+use Rattle.spv.specs.ValuesLaws.{join-zero}
+use Rattle.spv.specs.Shapes.{siblingOf}
+use Rattle.spv.specs.Low.{Low}
+use Rattle.spv.specs.LowLaws.{low-left, low-right}
+use Rattle.climbs.specs.declared.pass.Known.{Known}
+use Rattle.climbs.specs.Row.{startOf, stateOf, Rows, Sorted, Under, NotAt, Reached, Moved}
+use Rattle.climbs.proofs.RowLaws.{moved-none, moved-on, moved-up}
+use Rattle.climbs.specs.Pass.{joinChildren, isWritten, Seen, besideOf, firstKnown, Feeds, AllStepped, Setting, Spot, Visited}
+use Rattle.climbs.proofs.PassLaws.{children-join, children-none, worked-written, worked-join, nothing-written, beside-left, beside-right, first-yes, first-no, under-none, under-right, reached-none, reached-both, reached-grows}
+
+-- ---- tests
+
+-- a or b, and a not: b
+pub or-left : (a b c : Bool) → c ≡ a || b → c ≡ false → (a ≡ false) × (b ≡ false)
+or-left true b c e f = let z : _≡_ {A = ℕ} 0 1 = cc in absurd (omega arith)
+or-left false b c e f = (refl, sym e ∙ f)
+
+pub or-first : (a b c : Bool) → c ≡ a || b → a ≡ true → c ≡ true
+or-first true b c e f = e
+or-first false b c e f = let z : _≡_ {A = ℕ} 0 1 = cc in absurd (omega arith)
+
+pub or-second : (a b c : Bool) → c ≡ a || b → b ≡ true → c ≡ true
+or-second true b c e f = e
+or-second false b c e f = e ∙ f
+
+pub and-both : (a b c : Bool) → c ≡ a && b → c ≡ true → (a ≡ true) × (b ≡ true)
+and-both true b c e f = (refl, sym e ∙ f)
+and-both false b c e f = let z : _≡_ {A = ℕ} 0 1 = cc in absurd (omega arith)
+
+pub and-true : (a b c : Bool) → c ≡ a && b → a ≡ true → b ≡ true → c ≡ true
+and-true true b c e f g = e ∙ g
+and-true false b c e f g = let z : _≡_ {A = ℕ} 0 1 = cc in absurd (omega arith)
+
+-- ---- the value
+
+module _ (w : Siblings) (k q : ℕ) (want : Bool) (here : Known) (seen : Seen w k q want here) (need : Bool) (asked : need ≡ want && not (here .known)) where
+  -- what is written is the value
+  pub value-here : need ≡ false → want ≡ true → siblingOf (here .node) ≡ workedOut w k q
+  value-here f g = go (here .known) refl
+    where
+      go : (t : Bool) → here .known ≡ t → siblingOf (here .node) ≡ workedOut w k q
+      go true e = seen .node g ∙ sym (worked-written w k q (sym (seen .told g) ∙ e))
+      go false e =
+          let z = and-true want (not (here .known)) need asked g (ap not e) in
+          let y : _≡_ {A = ℕ} 0 1 = cc in absurd (omega arith)
+
+  -- at level 0 there is no other
+  pub value-bottom : k ≡ 0 → want ≡ true → siblingOf (here .node) ≡ workedOut w k q
+  value-bottom b g = go (isWritten (w k q)) refl
+    where
+      go : (t : Bool) → isWritten (w k q) ≡ t → siblingOf (here .node) ≡ workedOut w k q
+      go true e = seen .node g ∙ sym (worked-written w k q e)
+      go false e = seen .node g ∙ nothing-written w k q e ∙ sym (worked-join w k q e ∙ join-zero w k q b)
+
+  -- where nothing is written it is the join of the children
+  pub value-joined : (k ≡ 0 → ⊥) → need ≡ true → (l r : Sibling) → l ≡ workedOut w (k - 1) (2 * q) → (hasValue l ≡ true → r ≡ workedOut w (k - 1) (2 * q + 1)) → joinChildren l r ≡ workedOut w k q
+  value-joined ne f l r el er =
+      let a = and-both want (not (here .known)) need asked f in
+      join (hasValue l) refl ∙ children-join w k q ne ∙ sym (worked-join w k q (sym (seen .told (a .0)) ∙ off (here .known) (a .1)))
+    where
+      off : (t : Bool) → not t ≡ true → t ≡ false
+      off true e = sym e
+      off false e = refl
+
+      join : (t : Bool) → hasValue l ≡ t → joinChildren l r ≡ joinChildren (workedOut w (k - 1) (2 * q)) (workedOut w (k - 1) (2 * q + 1))
+      join true e = ap₂ joinChildren el (er e)
+      join false e = children-none l r (workedOut w (k - 1) (2 * q + 1)) e ∙ ap (λ (x : Sibling). joinChildren x (workedOut w (k - 1) (2 * q + 1))) el
+
+-- ---- where to visit
+
+pub setting-on : (places starts order states hashes states′ hashes′ : List ℕ) → length states′ ≡ length states → length hashes′ ≡ length hashes → Setting places starts order states hashes → Setting places starts order states′ hashes′
+setting-on places starts order states hashes states′ hashes′ e f s =
+    record { levels = s .levels; rows = s .rows; sorted = s .sorted; each = subst (λ (n : ℕ). length starts ≤ n) (sym e) (s .each); room = subst (λ (n : ℕ). 32 * length starts ≤ n) (sym f) (s .room) }
+
+module _ (starts order : List ℕ) (k q lo hi : ℕ) (want : Bool) (spot : Spot starts order k q lo hi want) (ne : k ≡ 0 → ⊥) where
+  pub spot-left : (m : ℕ) (w : Bool) → lo ≤ m → m ≤ hi → Under starts order (k - 1) (2 * q) lo m → Spot starts order (k - 1) (2 * q) lo m w
+  spot-left m w a b u =
+      let l = spot .layers in
+      let n = spot .within in
+      record { layers = omega arith; below = λ e. omega arith; low = low-left k q ne l (spot .low); span = a; within = omega arith; under = u }
+
+  pub spot-right : (m : ℕ) (w : Bool) → Sorted starts order → lo ≤ m → m ≤ hi → (m < hi → startOf starts order m / 2 ^ (k - 1) ≡ 2 * q → ⊥) → Spot starts order (k - 1) (2 * q + 1) m hi w
+  spot-right m w sorted a b n =
+      let l = spot .layers in
+      let e : k ≡ k - 1 + 1 = omega arith in
+      record {
+        layers = omega arith;
+        below = λ e. omega arith;
+        low = low-right k q ne l (spot .low);
+        span = b;
+        within = spot .within;
+        under = under-right starts order (k - 1) q lo m hi sorted (spot .within) a (subst (λ (n : ℕ). Under starts order n q lo hi) e (spot .under)) n;
+      }
+
+  pub spot-again : (m : ℕ) (w : Bool) → m ≤ hi → Spot starts order (k - 1) (2 * q) m m w
+  spot-again m w b =
+      let l = spot .layers in
+      let n = spot .within in
+      record { layers = omega arith; below = λ e. omega arith; low = low-left k q ne l (spot .low); span = le-refl m; within = omega arith; under = under-none starts order (k - 1) (2 * q) m }
+
+-- ---- the children were visited
+
+module _ (w : Siblings) (starts order : List ℕ) (k q lo m hi : ℕ) (ne : k ≡ 0 → ⊥) (s₀ h₀ s₁ h₁ s₂ h₂ s₃ h₃ s₄ h₄ : List ℕ) (wl wr wa xr vr va : Bool) (first r again l : Known)
+    (a : lo ≤ m) (ul : Under starts order (k - 1) (2 * q) lo m) (ur : Under starts order (k - 1) (2 * q + 1) m hi)
+    (v₁ : Visited w starts order s₀ h₀ s₁ h₁ (k - 1) (2 * q) lo m wl first)
+    (v₂ : Visited w starts order s₁ h₁ s₂ h₂ (k - 1) (2 * q + 1) m hi wr r)
+    (v₃ : Visited w starts order s₂ h₂ s₃ h₃ (k - 1) (2 * q) m m wa again)
+    (er : wr ≡ xr || vr) (nr : vr ≡ false → NotAt order s₁ (k - 1) lo m)
+    (ea : wa ≡ not wl && va) (na : va ≡ false → NotAt order s₂ (k - 1) m hi)
+    (el : l ≡ firstKnown first again)
+    (st : AllStepped starts order s₃ h₃ s₄ h₄ (k - 1) (2 * q) lo hi l r) where
+  -- a row that waits at a layer waited there before
+  waited : (b c : List ℕ) (i : ℕ) → k - 1 ≤ stateOf order b i → ((n : ℕ) → getD b n 0 ≤ getD c n 0) → stateOf order c i ≡ k - 1 → stateOf order b i ≡ k - 1
+  waited b c i f g e = let z = g (getD order i 0) in omega arith
+
+  l-first : wl ≡ true → l ≡ first
+  l-first e = el ∙ first-yes first again (v₁ .known ∙ e)
+
+  l-again : wl ≡ false → l ≡ again
+  l-again e = el ∙ first-no first again (v₁ .known ∙ e)
+
+  feeds : Feeds (workedOut w) (k - 1) (2 * q) l r
+  feeds =
+      record {
+        even = omega arith;
+        first = λ e. go wl refl e;
+        second = λ e. v₂ .value (sym (v₂ .known) ∙ e);
+      }
+    where
+      go : (t : Bool) → wl ≡ t → l .known ≡ true → siblingOf (l .node) ≡ workedOut w (k - 1) (2 * q)
+      go true e g = ap (λ (x : Known). siblingOf (x .node)) (l-first e) ∙ v₁ .value e
+      go false e g = ap (λ (x : Known). siblingOf (x .node)) (l-again e) ∙ v₃ .value (sym (v₃ .known) ∙ sym (ap (λ (x : Known). x .known) (l-again e)) ∙ g)
+
+  -- a row that waits knows its sibling
+  fed : (i : ℕ) → lo ≤ i → i < hi → stateOf order s₃ i ≡ k - 1 → besideOf (startOf starts order i / 2 ^ (k - 1)) (2 * q) l r .known ≡ true
+  unfolding Under NotAt Reached
+  fed i b u e = side (ltb i m) refl
+    where
+      right : (t : Bool) → vr ≡ t → i < m → r .known ≡ true
+      right true f c = v₂ .known ∙ or-second xr vr wr er f
+      right false f c =
+          let x = waited s₁ s₂ i (v₁ .reached i b c) (v₂ .moved .grows) (waited s₂ s₃ i (le-trans (v₁ .reached i b c) (v₂ .moved .grows (getD order i 0))) (v₃ .moved .grows) e) in
+          absurd (nr f i b c x)
+
+      left : (t : Bool) → wl ≡ t → (t′ : Bool) → va ≡ t′ → m ≤ i → l .known ≡ true
+      left true f t′ g c = ap (λ (x : Known). x .known) (l-first f) ∙ v₁ .known ∙ f
+      left false f true g c = ap (λ (x : Known). x .known) (l-again f) ∙ v₃ .known ∙ and-true (not wl) va wa ea (ap not f) g
+      left false f false g c = absurd (na g i c u (waited s₂ s₃ i (v₂ .reached i c u) (v₃ .moved .grows) e))
+
+      side : (t : Bool) → ltb i m ≡ t → besideOf (startOf starts order i / 2 ^ (k - 1)) (2 * q) l r .known ≡ true
+      side true f =
+          let c = ltb-true i m f in
+          ap (λ (x : Known). x .known) (beside-left (startOf starts order i / 2 ^ (k - 1)) (2 * q) l r (ul i b c)) ∙ right vr refl c
+      side false f =
+          let c = ltb-false i m f in
+          ap (λ (x : Known). x .known) (beside-right (startOf starts order i / 2 ^ (k - 1)) (2 * q) l r (ur i c u)) ∙ left wl refl va refl c
+
+  up : (b x c y : List ℕ) → Moved (workedOut w) (k - 1) starts b x c y → Moved (workedOut w) k starts b x c y
+  up b x c y v = moved-up (workedOut w) (k - 1) k starts b x c y (omega arith) v
+
+  pub pass-moved : Moved (workedOut w) k starts s₀ h₀ s₄ h₄
+  pass-moved =
+      let f : k - 1 + 1 ≤ k = omega arith in
+      moved-on (workedOut w) k starts s₀ h₀ s₁ h₁ s₄ h₄ (up s₀ h₀ s₁ h₁ (v₁ .moved))
+      (moved-on (workedOut w) k starts s₁ h₁ s₂ h₂ s₄ h₄ (up s₁ h₁ s₂ h₂ (v₂ .moved))
+      (moved-on (workedOut w) k starts s₂ h₂ s₃ h₃ s₄ h₄ (up s₂ h₂ s₃ h₃ (v₃ .moved)) (moved-up (workedOut w) (k - 1 + 1) k starts s₃ h₃ s₄ h₄ f (st .moved (workedOut w) feeds))))
+
+  pub pass-reached : Reached order s₄ k lo hi
+  pass-reached =
+      let e : k - 1 + 1 ≡ k = omega arith in
+      let g : (n : ℕ) → getD s₁ n 0 ≤ getD s₃ n 0 = (λ n. le-trans (v₂ .moved .grows n) (v₃ .moved .grows n)) in
+      let x = reached-both order s₃ (k - 1) lo m hi (reached-grows order s₁ s₃ (k - 1) lo m g (v₁ .reached)) (reached-grows order s₂ s₃ (k - 1) m hi (v₃ .moved .grows) (v₂ .reached)) in
+      subst (λ (n : ℕ). Reached order s₄ n lo hi) e (st .past fed x)
+
+-- ---- what a visit leaves
+
+pub setting-rows : (places starts order states hashes : List ℕ) → Setting places starts order states hashes → Rows order (length states)
+unfolding Rows
+setting-rows places starts order states hashes s i l = le-trans (s .rows i l) (s .each)
+
+module _ (w : Siblings) (k q : ℕ) (want : Bool) (here : Known) (seen : Seen w k q want here) (need : Bool) (asked : need ≡ want && not (here .known)) (starts order s₀ h₀ : List ℕ) (lo hi : ℕ) where
+  abbrev handed : Known
+  handed = record { known = want; node = here .node }
+
+  pub visited-bottom : k ≡ 0 → Visited w starts order s₀ h₀ s₀ h₀ k q lo hi want handed
+  unfolding Reached
+  visited-bottom b =
+      record { moved = moved-none (workedOut w) k starts s₀ h₀; reached = λ i c u. omega arith; known = refl; value = value-bottom w k q want here seen need asked b }
+
+  module _ (s₄ h₄ : List ℕ) (moved : Moved (workedOut w) k starts s₀ h₀ s₄ h₄) (reached : Reached order s₄ k lo hi) where
+    pub visited-passed : need ≡ false → Visited w starts order s₀ h₀ s₄ h₄ k q lo hi want handed
+    visited-passed f = record { moved = moved; reached = reached; known = refl; value = value-here w k q want here seen need asked f }
+
+    pub visited-joined : need ≡ true → (r : Known) → r .known ≡ true → siblingOf (r .node) ≡ workedOut w k q → Visited w starts order s₀ h₀ s₄ h₄ k q lo hi want r
+    visited-joined f r g e = record { moved = moved; reached = reached; known = g ∙ sym (and-both want (not (here .known)) need asked f .0); value = λ _. e }

@@ -1,0 +1,10 @@
+pub mod Row
+pub mod Pass
+pub mod Order
+pub mod Together
+pub mod Rise
+pub mod Begun
+pub mod Proofs
+pub mod ClientsShapes
+pub mod Waiting
+pub mod Joins

@@ -1,0 +1,21 @@
+-- Rows four at a time, as long as their siblings are written.
+use Prim.Native.Nat.{ℕ, _*_, _/_, _^_, _≤_}
+use mathlib.Core.Path.{_≡_}
+use mathlib.Core.Bool.{true}
+use mathlib.Core.List.{List}
+use lib.ListN.{length, getD}
+use Rattle.format.specs.Bytes.{hashAt}
+use Rattle.spv.specs.Climb.{Siblings, siblingPosition, odd, step}
+use Rattle.spv.specs.Shapes.{joinedOf}
+use Rattle.climbs.specs.declared.rise.Turn.{Turn}
+
+pub record Held (places starts states hashes : List ℕ) : Type 0 where
+  pub levels : length places ≡ 64
+  pub few : length starts ≤ 65536
+  pub each : length starts ≤ length states
+  pub room : 32 * length starts ≤ length hashes
+
+-- a row that moves stands at the layer, and hashes what its climb hashes there
+unfoldable pub TurnRight : Siblings → List ℕ → List ℕ → List ℕ → ℕ → ℕ → Turn → Type 0
+TurnRight σ starts states hashes row k t =
+    t .moves ≡ true → (getD states row 0 ≡ k) × (t .joined ≡ joinedOf (step (σ k (siblingPosition (getD starts row 0 / 2 ^ k))) (odd (getD starts row 0 / 2 ^ k)) (hashAt hashes (32 * row))))

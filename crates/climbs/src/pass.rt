@@ -1,0 +1,318 @@
+// One pass over the tree: a node's children first, then each climb under them takes one step, then the node's own value.
+use super::row::above;
+use super::row::advance;
+use super::row::turn;
+use format::Cursor;
+use format::Layout;
+use path::Found;
+use spv::Node;
+use spv::NodeKind;
+use spv::absent_node;
+use spv::has_value;
+use spv::join_both;
+use spv::written_node;
+ghost use mathlib.Core.Path.{_≡_};
+ghost use mathlib.Core.Bool.{true, false, _&&_, _||_};
+ghost use Prim.Native.Nat.{ℕ, _+_, _*_, _/_, _≤_, _<_, _^_};
+ghost use lib.ListN.{length, getD};
+ghost use Rattle.spv.specs.Siblings.{writtenBy, findAt};
+ghost use Rattle.spv.specs.Values.{workedOut};
+ghost use Rattle.spv.specs.Low.{Low};
+ghost use Rattle.spv.specs.Shapes.{siblingOf};
+ghost use Rattle.climbs.specs.Row.{Rows, NotAt, Reached, Under};
+ghost use Rattle.climbs.specs.Pass.{joinChildren, unknownNode, besideOf, firstKnown, Seen, Stepped, AllStepped, Setting, Spot, Visited};
+
+// A node's value, if it was asked for.
+pub struct Known {
+    pub known: bool,
+    pub node: Node,
+}
+
+fn unknown() -> Known
+    ensures { λ r. ⌜ r ≡ unknownNode ⌝ }
+{
+    Known {
+        known: false,
+        node: absent_node(),
+    }
+}
+
+fn both(a: bool, b: bool) -> bool
+    ensures { λ r. ⌜ r ≡ a && b ⌝ }
+{
+    if a { b } else { false }
+}
+
+pub(crate) fn either(a: bool, b: bool) -> bool
+    ensures { λ r. ⌜ r ≡ a || b ⌝ }
+{
+    if a { true } else { b }
+}
+
+// What is written at a layer and position, if it is asked for; known only if something is.
+pub(crate) fn written_at(
+    s: &[u8],
+    places: &[usize],
+    layout: Layout,
+    layer: usize,
+    position: u64,
+    want: bool,
+) -> Known
+    requires { ⌜ (want ≡ true → layer < length (now places)) ⌝ }
+    ensures { λ r. ⌜ Seen (writtenBy (now (s .entry)) (findAt layout (now (s .entry)) (now (places .entry)))) layer position want r ⌝ }
+{
+    if !want {
+        return unknown();
+    }
+    let at = places[layer];
+    let found = path::find_in_level(s, Cursor { at }, layout, position);
+    match found {
+        Found::Here(kind) => Known {
+            known: true,
+            node: written_node(s, kind),
+        },
+        Found::Missing => unknown(),
+    }
+}
+
+// The join of two children as the climb takes them: a copy on the right has the value of the left one.
+fn join_children(l: Node, r: Node) -> Node
+    ensures { λ n. ⌜ siblingOf n ≡ joinChildren (siblingOf l) (siblingOf r) ⌝ }
+{
+    let kind = r.kind;
+    match kind {
+        NodeKind::Value => join_both(l, r),
+        NodeKind::Copied => join_both(l, l),
+        NodeKind::Absent => absent_node(),
+    }
+}
+
+// The first of the rows from lo to hi in order that is not under a position at a layer.
+pub(crate) fn split(
+    starts: &[u64],
+    order: &[u16],
+    layer: usize,
+    position: u64,
+    lo: usize,
+    hi: usize,
+) -> usize
+    requires { ⌜ (layer ≤ 64) × (lo ≤ hi) × (hi ≤ length (now order)) × Rows (now order) (length (now starts)) ⌝ }
+    ensures { λ r. ⌜ (lo ≤ r) × (r ≤ hi) × (Under (now (starts .entry)) (now (order .entry)) layer position lo r) × (r < hi → getD (now (starts .entry)) (getD (now (order .entry)) r 0) 0 / 2 ^ layer ≡ position → ⊥) ⌝ }
+{
+    let mut m = lo;
+    while m < hi {
+        let row = order[m] as usize;
+        if above(starts[row], layer) != position {
+            return m;
+        }
+        m += 1;
+    }
+    m
+}
+
+// Whether one of the rows from lo to hi in order stands at a layer.
+fn waiting(order: &[u16], states: &[u16], layer: usize, lo: usize, hi: usize) -> bool
+    requires { ⌜ (hi ≤ length (now order)) × Rows (now order) (length (now states)) ⌝ }
+    ensures { λ r. ⌜ (r ≡ false → NotAt (now (order .entry)) (now (states .entry)) layer lo hi) ⌝ }
+{
+    let mut i = lo;
+    while i < hi {
+        let row = order[i] as usize;
+        let state = states[row] as usize;
+        if state == layer {
+            return true;
+        }
+        i += 1;
+    }
+    false
+}
+
+// Whether one of them has not come up to a layer.
+fn behind(order: &[u16], states: &[u16], layer: usize, lo: usize, hi: usize) -> bool
+    requires { ⌜ (hi ≤ length (now order)) × Rows (now order) (length (now states)) ⌝ }
+    ensures { λ r. ⌜ (r ≡ false → Reached (now (order .entry)) (now (states .entry)) layer lo hi) ⌝ }
+{
+    let mut i = lo;
+    while i < hi {
+        let row = order[i] as usize;
+        let state = states[row] as usize;
+        if state < layer {
+            return true;
+        }
+        i += 1;
+    }
+    false
+}
+
+// What stands beside position j, of two children, the first at an even position.
+fn beside(j: u64, left: u64, l: Known, r: Known) -> Known
+    ensures { λ x. ⌜ x ≡ besideOf j left l r ⌝ }
+{
+    if j == left {
+        return r;
+    }
+    if j == 0 {
+        return unknown();
+    }
+    if j - 1 == left {
+        return l;
+    }
+    unknown()
+}
+
+// A row takes one step at a layer, if it stands there, beside one of the two children.
+fn step_row(
+    starts: &[u64],
+    states: &mut [u16],
+    hashes: &mut [u8],
+    row: usize,
+    layer: usize,
+    left: u64,
+    l: Known,
+    r: Known,
+)
+    requires { ⌜ (row < length (now starts)) × (length (now starts) ≤ length (now states)) × (32 * length (now starts) ≤ length (now hashes)) × (layer < 64) ⌝ }
+    ensures { λ _. ⌜ Stepped (now (starts .entry)) (now (states .entry)) (now (hashes .entry)) (now (states .exit)) (now (hashes .exit)) row layer left l r ⌝ }
+{
+    let state = states[row] as usize;
+    if state != layer {
+        return;
+    }
+    let j = above(starts[row], layer);
+    let x = beside(j, left, l, r);
+    if !x.known {
+        return;
+    }
+    let node = x.node;
+    let o = j % 2 == 1;
+    let t = turn(hashes, row, o, node);
+    let a = t.left;
+    let b = t.right;
+    let parent = hash::join(a, b);
+    advance(states, hashes, row, layer, t, parent);
+}
+
+// The rows from lo to hi in order take one step at a layer.
+fn step_rows(
+    starts: &[u64],
+    order: &[u16],
+    states: &mut [u16],
+    hashes: &mut [u8],
+    layer: usize,
+    left: u64,
+    lo: usize,
+    hi: usize,
+    l: Known,
+    r: Known,
+)
+    requires { ⌜ (lo ≤ hi) × (hi ≤ length (now order)) × Rows (now order) (length (now starts)) × (length (now starts) ≤ length (now states)) × (32 * length (now starts) ≤ length (now hashes)) × (layer < 64) ⌝ }
+    ensures { λ _. ⌜ AllStepped (now (starts .entry)) (now (order .entry)) (now (states .entry)) (now (hashes .entry)) (now (states .exit)) (now (hashes .exit)) layer left lo hi l r ⌝ }
+{
+    let mut i = lo;
+    while i < hi {
+        let row = order[i] as usize;
+        step_row(starts, states, hashes, row, layer, left, l, r);
+        i += 1;
+    }
+}
+
+fn first_known(a: Known, b: Known) -> Known
+    ensures { λ r. ⌜ r ≡ firstKnown a b ⌝ }
+{
+    if a.known {
+        return a;
+    }
+    b
+}
+
+// The climbs of the rows from lo to hi in order, which lie under a layer and position, up to that layer; and the value there, if it is wanted.
+pub(crate) fn visit(
+    s: &[u8],
+    places: &[usize],
+    starts: &[u64],
+    order: &[u16],
+    states: &mut [u16],
+    hashes: &mut [u8],
+    layout: Layout,
+    layer: usize,
+    position: u64,
+    lo: usize,
+    hi: usize,
+    want: bool,
+) -> Known
+    requires { ⌜ Setting (now places) (now starts) (now order) (now states) (now hashes) ⌝ }
+    requires { ⌜ Spot (now starts) (now order) layer position lo hi want ⌝ }
+    ensures { λ r. ⌜ Visited (writtenBy (now (s .entry)) (findAt layout (now (s .entry)) (now (places .entry)))) (now (starts .entry)) (now (order .entry)) (now (states .entry)) (now (hashes .entry)) (now (states .exit)) (now (hashes .exit)) layer position lo hi want r ⌝ }
+{
+    let here = written_at(s, places, layout, layer, position, want);
+    let need = both(want, !here.known);
+    let node = here.node;
+    if layer == 0 {
+        return Known { known: want, node };
+    }
+    if either(need, behind(order, states, layer, lo, hi)) {
+        let below = layer - 1;
+        let left = 2 * position;
+        let m = split(starts, order, below, left, lo, hi);
+        let want_l = either(need, both(lo < m, m < hi));
+        let first = visit(
+            s,
+            places,
+            starts,
+            order,
+            states,
+            hashes,
+            layout,
+            below,
+            left,
+            lo,
+            m,
+            want_l,
+        );
+        let l_node = first.node;
+        let want_r = either(
+            both(need, has_value(l_node)),
+            waiting(order, states, below, lo, m),
+        );
+        let r = visit(
+            s,
+            places,
+            starts,
+            order,
+            states,
+            hashes,
+            layout,
+            below,
+            left + 1,
+            m,
+            hi,
+            want_r,
+        );
+        let want_again = both(!want_l, waiting(order, states, below, m, hi));
+        let again = visit(
+            s,
+            places,
+            starts,
+            order,
+            states,
+            hashes,
+            layout,
+            below,
+            left,
+            m,
+            m,
+            want_again,
+        );
+        let l = first_known(first, again);
+        step_rows(starts, order, states, hashes, below, left, lo, m, l, r);
+        step_rows(starts, order, states, hashes, below, left, m, hi, l, r);
+        if need {
+            let r_node = r.node;
+            return Known {
+                known: true,
+                node: join_children(l_node, r_node),
+            };
+        }
+    }
+    Known { known: want, node }
+}
