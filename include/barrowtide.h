@@ -49,8 +49,9 @@
  * they were, and so does the room past what is written.
  *
  * Stack. As built by the kit a call needs at most
- *   - 144 KiB barrowtide_judge_beef
- *   - 64 KiB  barrowtide_prove_page, barrowtide_check_clients
+ *   - 128 KiB barrowtide_judge_beef
+ *   - 72 KiB  barrowtide_prove_page
+ *   - 64 KiB  barrowtide_check_clients
  *   - 48 KiB  barrowtide_write_bump
  *   - 40 KiB  barrowtide_prove_bump, barrowtide_prove_cmp, barrowtide_compare,
  *             barrowtide_compare_depths, barrowtide_shorter, barrowtide_bump_to_tsc
@@ -68,25 +69,20 @@
  * joins than its path has layers and leaves: fewer than 64 + n / 2 by a path of n bytes, and fewer
  * than 57,406 by any. Each node that is asked for is searched for among the leaves of its level;
  * where offsets rise this takes about as long as the joins, and else up to seven times as long.
- * A page climbs once for each id, all clients once for each client leaf, both four climbs at a
- * time, and a bundle once for each transaction that names a BUMP. A page and all clients keep, from
- * climb to climb, the sibling worked out last in each layer at an even and at an odd position, so
- * ids and clients in the order of their offsets work out each once, but for one that can't be
- * worked out, which is not kept; a bundle keeps none. Turning a proof into the other form climbs
+ * A page climbs once for each id, all clients once for each client leaf, and a bundle once for each
+ * transaction that names a BUMP. Climbs by one path are made together, up to 256 at a time, and each
+ * node's value is made once for all of them: whatever the bytes, that takes at most two joins for
+ * each climb and layer and one for each leaf of the path. Turning a proof into the other form climbs
  * once, and takes hardly longer than proving by it. The worst inputs known, offsets in no order, on
  * a machine where a join takes half a microsecond:
  *   - one climb, by a BUMP of 480 KB that is mostly copies: 54,188 joins, 0.2 s;
- *   - a bundle of 522 KB with 256 transactions in such a BUMP: 14 million joins, 47.7 s;
- *   - a page of 256 ids whose climbs all fail at the top sibling, each after trying to work it out:
- *     49.8 s;
- *   - all clients of a BUMP that has them in nested parts of the tree, so that no sibling is kept
- *     long enough: 142 s;
- *   - all clients of a BUMP of 36 KB that has 1,024 clients and nothing else: 0.5 s in no order,
- *     and 18 ms where offsets rise;
- *   - a bundle of 16 MB whose last transaction spends 331,500 outputs of 255 others: 0.1 s in their
- *     order, and 0.2 s in any other;
+ *   - a page of 256 ids by such a BUMP, or a bundle with 256 transactions in it: 0.2 s;
+ *   - all clients of such a BUMP that has 512 of them, in two parts of the tree: 0.4 s;
+ *   - all clients of a BUMP of 36 KB that has 1,024 clients and nothing else: 12 ms;
+ *   - a bundle of 16 MB whose last transaction spends 331,500 outputs of 255 others, in any order:
+ *     0.1 s;
  *   - a set of 256 transactions with 400,000 inputs in all, put in order: 0.1 s.
- * A caller who has less time bounds the bytes that it takes, or the transactions that name a BUMP.
+ * A caller who has less time bounds the bytes that it takes.
  */
 #ifndef BARROWTIDE_H
 #define BARROWTIDE_H

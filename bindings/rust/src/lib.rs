@@ -38,14 +38,12 @@
 //! Siblings that are not written are worked out from the nodes below them. One climb makes fewer
 //! joins than its path has layers and leaves: fewer than 64 + n / 2 by a path of n bytes, and fewer
 //! than 57,406 by any. Each node that is asked for is searched for among the leaves of its level,
-//! which takes longer than the joins where offsets do not rise. A page climbs once for each id and
-//! [`check_clients`] once for each client leaf, both four climbs at a time, and a bundle once for
-//! each transaction that names a BUMP. A page and [`check_clients`] keep, from climb to climb, the
-//! sibling worked out last in each layer at an even and at an odd position, so ids and clients in
-//! the order of their offsets work out each once, but for one that can't be worked out, which is
-//! not kept; a bundle keeps none. Where a join takes half a microsecond, the worst inputs known take
-//! 0.2 s for one climb, 47.7 s for a bundle, 49.8 s for a page and 142 s for all clients. A caller
-//! who has less time bounds the bytes that it takes, or the transactions that name a BUMP.
+//! which takes longer than the joins where offsets do not rise. A page climbs once for each id,
+//! [`check_clients`] once for each client leaf, and a bundle once for each transaction that names a
+//! BUMP. Climbs by one path are made together, up to 256 at a time, and each node's value is made
+//! once for all of them: whatever the bytes, that takes at most two joins for each climb and layer
+//! and one for each leaf of the path. Where a join takes half a microsecond, the worst inputs known
+//! take 0.2 s for one climb, a page or a bundle, and 0.4 s for all clients.
 //!
 //! # Byte order
 //!

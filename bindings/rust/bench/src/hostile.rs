@@ -58,7 +58,7 @@ pub fn run() {
 /// them up to the top; there the sibling of each half's is worked out, over copies and as many
 /// leaves as a level may have, and then the other half, with its clients. Without its last leaf
 /// the right half has no value.
-fn two_parts(random: &mut Random, ids: &[Hash], missing: bool) -> Plan {
+pub fn two_parts(random: &mut Random, ids: &[Hash], missing: bool) -> Plan {
     let half = ids.len() / 2;
     let copy = |offset| Leaf { offset, flags: 1, hash: [0; 32] };
     let mut levels = vec![Vec::new(); HEIGHT];

@@ -6,6 +6,7 @@ use reference::generate::random::Random;
 use reference::generate::tree::Tree;
 use reference::generate::{bundle, transaction, tsc};
 
+use crate::hostile::two_parts;
 use crate::merged::copied;
 use crate::stored::prove_bump;
 
@@ -49,6 +50,9 @@ pub fn run() {
     };
     let set: Vec<u8> = (0..=255).flat_map(|parent| one(parent).draft().bytes).collect();
 
+    let clients: Vec<_> = (0..8).map(|_| random.hash()).collect();
+    let many = two_parts(&mut random, &clients, false).bump().bytes;
+
     println!("\nStack of a call, in bytes");
     row(c"sha256d", &raw.bytes, &[]);
     row(c"join", &id, &id);
@@ -64,7 +68,7 @@ pub fn run() {
     row(c"prove_bump", &bump, &id);
     row(c"prove_cmp", &cmp, &id);
     row(c"prove_tsc", &proof, &[]);
-    row(c"check_clients", &bump, &[]);
+    row(c"check_clients", &many, &[]);
     row(c"prove_page", &bump, &[id; 256].concat());
     row(c"compare", &bump, &id);
     row(c"compare_depths", &bump, &id);
