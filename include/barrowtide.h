@@ -16,7 +16,9 @@
  * sibling, by its layer and its position there, both counted from 0. A fault in reading a set of
  * transactions carries its place, and the number of the transaction that was being read goes to
  * *transaction beside it. A part of a transaction may also return BARROWTIDE_MORE, with nothing
- * written but the state: no answer yet.
+ * written but the state: no answer yet. Judging says how much hashing it took in *work, whether it
+ * accepts or refuses. One call refuses nothing and returns 1 or 0, found or not:
+ * barrowtide_search_leaves.
  *
  * Order. Of several refusals the first in this order is given:
  *   - for a page 5, then 22; for a set of transactions 5;
@@ -34,6 +36,8 @@
  *   - in comparing the first proof's refusal, the second's, 23, 24; of proofs of different numbers
  *     of layers the first's, the second's, the transaction's, 23;
  *   - of two BUMPs side by side the first one's, the second's, then 22 or 23;
+ *   - of a BUMP whose leaves are listed its own, then 22; of two that are merged the first one's in
+ *     reading and in the check of all its clients, the second's, then 23, 5, 16, 22;
  *   - of a set of transactions, once it is read, 19, then 22 and 29, or of a proposed order 30;
  *   - in writing 5, 13, 6, 19, 15, 22;
  *   - in turning a TSC proof into a BUMP those of reading and proving, then 4, then 22; in turning
@@ -43,20 +47,21 @@
  * followed. All other pointers must be to memory of the size said, not null. What is lent by a
  * pointer to const is only read; what is lent by another must not overlap with anything else lent
  * to the same call. On a refusal all three numbers of *blame are written and everything else stays
- * as it was, but for *transaction, which is written with it, for a lent table or row, which is
- * zeroed, for what barrowtide_shorter hands back, which is an empty part, and for the state of a
- * transaction in parts. On acceptance the values are written, and *blame and *transaction stay as
- * they were, and so does the room past what is written.
+ * as it was, but for *transaction and *work, which are written with it, for a lent table or row,
+ * which is zeroed, for what barrowtide_shorter hands back, which is an empty part, and for the
+ * state of a transaction in parts. On acceptance the values are written, *work among them, and
+ * *blame and *transaction stay as they were, and so does the room past what is written.
  *
  * Stack. As built by the kit a call needs at most
  *   - 128 KiB barrowtide_judge_beef
- *   - 72 KiB  barrowtide_prove_page
- *   - 64 KiB  barrowtide_check_clients
+ *   - 104 KiB barrowtide_merge
+ *   - 88 KiB  barrowtide_prove_page
+ *   - 80 KiB  barrowtide_check_clients
  *   - 48 KiB  barrowtide_write_bump
  *   - 40 KiB  barrowtide_prove_bump, barrowtide_prove_cmp, barrowtide_compare,
  *             barrowtide_compare_depths, barrowtide_shorter, barrowtide_bump_to_tsc
- *   - 32 KiB  barrowtide_order, barrowtide_check_order
- *   - 24 KiB  barrowtide_differences
+ *   - 32 KiB  barrowtide_order, barrowtide_check_order, barrowtide_differences,
+ *             barrowtide_list_leaves
  *   - 16 KiB  barrowtide_read_bump, barrowtide_read_cmp, barrowtide_read_beef
  *   -  8 KiB  barrowtide_prove_tsc, barrowtide_tsc_to_bump
  *   -  1 KiB  barrowtide_sha256d, barrowtide_join, barrowtide_parts_start, barrowtide_parts_part,
@@ -72,17 +77,24 @@
  * A page climbs once for each id, all clients once for each client leaf, and a bundle once for each
  * transaction that names a BUMP. Climbs by one path are made together, up to 256 at a time, and each
  * node's value is made once for all of them: whatever the bytes, that takes at most two joins for
- * each climb and layer and one for each leaf of the path. Turning a proof into the other form climbs
- * once, and takes hardly longer than proving by it. The worst inputs known, offsets in no order, on
- * a machine where a join takes half a microsecond:
+ * each climb and layer, one for each layer and one for each leaf of the path. Turning a proof into
+ * the other form climbs once, and takes hardly longer than proving by it. The worst inputs known,
+ * offsets in no order, on a machine where a join takes half a microsecond:
  *   - one climb, by a BUMP of 480 KB that is mostly copies: 54,188 joins, 0.2 s;
  *   - a page of 256 ids by such a BUMP, or a bundle with 256 transactions in it: 0.2 s;
  *   - all clients of such a BUMP that has 512 of them, in two parts of the tree: 0.4 s;
  *   - all clients of a BUMP of 36 KB that has 1,024 clients and nothing else: 12 ms;
  *   - a bundle of 16 MB whose last transaction spends 331,500 outputs of 255 others, in any order:
  *     0.1 s;
- *   - a set of 256 transactions with 400,000 inputs in all, put in order: 0.1 s.
- * A caller who has less time bounds the bytes that it takes.
+ *   - a set of 256 transactions with 400,000 inputs in all, put in order: 0.1 s;
+ *   - two BUMPs of 1,024 clients each and nothing else, merged: 60 ms;
+ *   - two BUMPs of 64 full levels, 2 MB each, merged: 32 ms;
+ *   - the BUMP of 480 KB with 512 clients, merged with itself: 3 s, of which checking it twice is
+ *     one.
+ * A caller who has less time bounds the bytes that it takes. Of a bundle that was judged, *work
+ * says in SHA-256 compressions what judging costs by the rules, one climb after the other. The
+ * library itself makes fewer where climbs share siblings. As it hashes four climbs at a time, it
+ * may make one join more for each climb and layer, where one of the four waits for a sibling.
  */
 #ifndef BARROWTIDE_H
 #define BARROWTIDE_H
@@ -91,7 +103,7 @@
 #include <stdint.h>
 
 #define BARROWTIDE_VERSION_MAJOR 0
-#define BARROWTIDE_VERSION_MINOR 6
+#define BARROWTIDE_VERSION_MINOR 8
 #define BARROWTIDE_VERSION_PATCH 0
 #define BARROWTIDE_VERSION_NUMBER                                                                  \
     (BARROWTIDE_VERSION_MAJOR * 65536U + BARROWTIDE_VERSION_MINOR * 256U + BARROWTIDE_VERSION_PATCH)
@@ -111,6 +123,9 @@
 #define BARROWTIDE_TSC_TO_BUMP_ROOM 2626       /* bytes that are enough for any TSC proof's BUMP */
 #define BARROWTIDE_BUMP_TO_TSC_ROOM 2187       /* bytes that are enough for any TSC proof made */
 #define BARROWTIDE_MAX_DIFFERENCES 112640      /* differences that two BUMPs have at most */
+#define BARROWTIDE_MAX_LISTED 57342            /* leaves of a BUMP, all its levels together */
+#define BARROWTIDE_MERGE_EXTRA 64              /* bytes more than two BUMPs take together that are
+                                                  enough for the merged one */
 #define BARROWTIDE_MAX_PARTS 4294967295u       /* bytes of a transaction that is read in parts */
 
 #ifdef __cplusplus
@@ -130,7 +145,8 @@ enum barrowtide_refusal {
                                      nodes | field start */
     BARROWTIDE_OVER_LIMIT = 5,    /* a count or a block height is over its limit | field start
                                      a list or page has too few ids, too many or a part of one,
-                                     or a set too many transactions | 0 */
+                                     a set too many transactions, or a level of a merged BUMP too
+                                     many leaves | 0 */
     BARROWTIDE_BAD_OFFSET = 6,    /* an offset or a TSC index is outside the layer | field start
                                      a chosen position is outside the list | 0 */
     BARROWTIDE_BAD_FLAG = 7,      /* flags, a node type or a BEEF byte are not allowed | that byte's
@@ -150,18 +166,20 @@ enum barrowtide_refusal {
                                      sibling that the climb needs, even if the gap is lower down */
     BARROWTIDE_TWIN = 15,         /* a sibling equals the working hash at an odd position | tx, and
                                      that sibling */
-    BARROWTIDE_ROOTS_DIFFER = 16, /* roots of clients differ, or a TSC target is another | 0 */
+    BARROWTIDE_ROOTS_DIFFER = 16, /* roots of clients differ, a TSC target is another, or two BUMPs
+                                     to be merged contradict each other | 0 */
     BARROWTIDE_UNTRUSTED = 17,    /* the root is not in the list | tx */
     BARROWTIDE_BAD_INDEX = 18,    /* a BUMP number is not below the count | field start */
     BARROWTIDE_SAME_TX = 19,      /* an id equals an earlier one | tx */
     BARROWTIDE_NO_PARENT = 20,    /* an input has no earlier parent | tx */
     BARROWTIDE_BAD_ROOTS = 21,    /* the list of roots is not a multiple of 32 bytes | 0 */
     BARROWTIDE_NO_ROOM = 22,      /* the table has fewer records than transactions | count field
-                                     the bytes to write, the ids, the differences or the
-                                     transactions of a set are more than the room | 0 */
+                                     the bytes to write, the ids, the differences, the leaves or
+                                     the transactions of a set are more than the room | 0 */
     BARROWTIDE_UNLIKE = 23,       /* two proofs differ in root, position or layers; of two BUMPs
-                                     side by side only in root; of proofs of different numbers of
-                                     layers see barrowtide_compare_depths | 0 */
+                                     side by side only in root; of two to be merged in block height,
+                                     tree height or root; of proofs of different numbers of layers
+                                     see barrowtide_compare_depths | 0 */
     BARROWTIDE_SAME_ID = 24,      /* two proofs agree and prove one id | 0 */
     BARROWTIDE_BAD_AMOUNT = 25,   /* an amount in a BEEF is above 2,100,000,000,000,000, or takes
                                      the total of its transaction's outputs above that | field
@@ -396,8 +414,8 @@ enum barrowtide_difference {
    for list_len / 3 entries; 3 * BARROWTIDE_MAX_DIFFERENCES are always enough. On acceptance
    *entries is the number of entries, which stand at the front of the list; the numbers past them
    stay as they were, and all of the list on a refusal.
-   Levels whose offsets rise take one pass, others up to the square of their leaves: two BUMPs of 64
-   levels of 1,024 falling leaves take 0.2 s.
+   Levels whose offsets rise take one pass, others are put in order first: two BUMPs of 64 levels of
+   1,024 leaves in any order take 25 ms.
    Refused: as barrowtide_read_bump for the first, then for the second; 22 if there are more
    differences than room. */
 uint32_t barrowtide_differences(const uint8_t *first, size_t first_len, const uint8_t *second,
@@ -412,6 +430,55 @@ uint32_t barrowtide_differences(const uint8_t *first, size_t first_len, const ui
 uint32_t barrowtide_shorter(const uint8_t *first, size_t first_len, const uint8_t *second,
                             size_t second_len, const uint8_t id[32], barrowtide_blame *blame,
                             uint64_t *which, uint64_t *length);
+
+/* ---- A list of leaves beside a BUMP, and two BUMPs merged ---- */
+
+/* Lists the leaves of a BUMP, to be kept beside it where it is searched often. A leaf is three
+   numbers: its level, its offset, and the place of its first byte in the BUMP, which is the first
+   of its offset; the flags stand after the offset, and the hash, if there is one, after them. Every
+   leaf stands in the list once, rising by level and then by offset, whatever the order in which
+   they are written. The list has list_len numbers, room for list_len / 3 leaves; 3 *
+   BARROWTIDE_MAX_LISTED are always enough. On acceptance *leaves is the number of leaves, which
+   stand at the front of the list; the numbers past them stay as they were, and all of the list on a
+   refusal. Nothing is proved: whether the leaves lead to a root is not asked.
+   Refused: as barrowtide_read_bump; 22 if there are more leaves than room. */
+uint32_t barrowtide_list_leaves(const uint8_t *data, size_t len, uint64_t *list, size_t list_len,
+                                barrowtide_blame *blame, uint64_t *leaves);
+
+/* Searches such a list, and no other bytes, for the leaf at a level and offset. Returns 1 and
+   writes *place, the place of the leaf's first byte in the BUMP, if the BUMP has one there, and
+   else returns 0 and leaves *place as it was; a level that the BUMP doesn't have holds none.
+   list_len is the number of numbers that were written, 3 * *leaves, not the room that was lent for
+   them. The search takes at most 16 steps.
+   The list must be one that barrowtide_list_leaves or barrowtide_merge wrote, unchanged, and the
+   place is one of the bytes that it was written for. Over any other list the call ends and reads
+   nothing but the list; what it returns then, and writes to *place, is not said. */
+uint32_t barrowtide_search_leaves(const uint64_t *list, size_t list_len, uint64_t level,
+                                  uint64_t offset, uint64_t *place);
+
+/* Merges two BUMPs of one block into one that proves what either proves, and lists its leaves. The
+   two must have one block height, one tree height and one root, which is the one that
+   barrowtide_check_clients gives of each. The merged BUMP has every leaf of either once and no
+   other, offsets rising, and that root. Where both have a leaf at a place,
+   - of two equal hashes one is kept, as a client's (flags 02) if either is;
+   - of two copies (flags 01) one is kept;
+   - of a hash and a copy the hash is kept, with its flags, if the node on its left is written with
+     that hash in either BUMP;
+   and else they contradict each other. They do so, too, if clients of the merged BUMP don't all
+   lead to the root, as a leaf that no climb of one BUMP asks for may be asked for in the other.
+   The merged BUMP goes to bytes, which has room for bytes_len of them; first_len + second_len +
+   BARROWTIDE_MERGE_EXTRA are always enough. Its list goes to list, as with barrowtide_list_leaves
+   of the merged bytes. On acceptance *written is the number of bytes and *leaves that of leaves;
+   the room past them stays as it was, and all of both on a refusal. Neither input may overlap with
+   the room: to keep the merged BUMP in place of the first, copy it there.
+   Refused: as barrowtide_check_clients for the first, then for the second; 23 for two block
+   heights, tree heights or roots; 5 if a level of the merged BUMP would have more than
+   BARROWTIDE_MAX_LEAVES leaves; 16 if the two contradict each other; 22 if the bytes or the leaves
+   are more than the room. */
+uint32_t barrowtide_merge(const uint8_t *first, size_t first_len, const uint8_t *second,
+                          size_t second_len, uint8_t *bytes, size_t bytes_len, uint64_t *list,
+                          size_t list_len, barrowtide_blame *blame, uint64_t *written,
+                          uint64_t *leaves);
 
 /* ---- Judging ---- */
 
@@ -477,6 +544,19 @@ BARROWTIDE_AT(barrowtide_record, total, 72);
    The table has room for table_len records;
    BARROWTIDE_MAX_TRANSACTIONS are always enough. On acceptance *transactions is their number n, the
    first n records are filled and the others are zeroed; a refusal zeroes the whole table.
+   *work is the number of SHA-256 compressions (of 64 bytes each) that judging takes, for those who
+   plan a terminal's battery by it; it is written on every answer, and below 2^32. It is counted by
+   these rules, whatever the library saves by making a hash once for several uses:
+   - (n + 72) / 64, rounded down, plus 1 for the id of a transaction of n bytes; each id once, all
+     of them before the first transaction is judged;
+   - 3 for each join of two nodes, one for each layer of the climb of a transaction with a BUMP;
+   - a sibling that has to be worked out counts its own join and those of its children, in each
+     climb that asks for it; one that is written, a copy, or one that can't be had counts nothing;
+   - a refused climb counts the layers below its fault and, for 15, what the sibling there took; the
+     climbs of later transactions count nothing;
+   - 1, 21 and refusals in reading (2 to 12, 18, 22, 25) count 0.
+   Where all siblings are written, an accepted bundle thus counts its transactions and 3 for each
+   layer of each BUMP, as often as a transaction names it, and a refusal in judging no more.
    What acceptance does not say:
    - Scripts and signatures are not run.
    - What mined transactions spend is not looked at: a payment may spend it again.
@@ -487,7 +567,8 @@ BARROWTIDE_AT(barrowtide_record, total, 72);
    19, and 13, 14 or 15, 17 if it names a BUMP, or else 20, 26, 27, 28. */
 uint32_t barrowtide_judge_beef(const uint8_t *data, size_t len, const uint8_t *roots,
                                size_t roots_len, uint64_t fee, barrowtide_record *table,
-                               size_t table_len, barrowtide_blame *blame, uint64_t *transactions);
+                               size_t table_len, barrowtide_blame *blame, uint64_t *transactions,
+                               uint64_t *work);
 
 /* ---- Putting transactions in order, as a BEEF needs them ---- */
 

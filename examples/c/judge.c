@@ -1,5 +1,6 @@
 /*
- * Judges a BEEF bundle against one trusted root and prints the verdict and the table.
+ * Judges a BEEF bundle against one trusted root and prints the verdict, the table, and how much
+ * hashing it took.
  *
  *   judge BUNDLE ROOT [FEE]
  *
@@ -111,18 +112,18 @@ static int judge(FILE *file, const uint8_t root[32], uint64_t fee)
         return 2;
     }
     barrowtide_blame blame;
-    uint64_t transactions = 0;
+    uint64_t transactions = 0, work;
     uint32_t refusal =
         barrowtide_judge_beef(bundle, len, root, 32, fee, table, BARROWTIDE_MAX_TRANSACTIONS,
-                              &blame, &transactions);
-    if (refusal != BARROWTIDE_ACCEPTED) {
+                              &blame, &transactions, &work);
+    if (refusal != BARROWTIDE_ACCEPTED)
         print_refusal(refusal, &blame);
-        return 1;
-    }
-    printf("accepted, transactions: %llu\n", (unsigned long long)transactions);
+    else
+        printf("accepted, transactions: %llu\n", (unsigned long long)transactions);
     for (uint64_t i = 0; i < transactions; i++)
         print_record(i, &table[i]);
-    return 0;
+    printf("SHA-256 compressions: %llu\n", (unsigned long long)work);
+    return refusal != BARROWTIDE_ACCEPTED;
 }
 
 int main(int argc, char **argv)

@@ -8,7 +8,8 @@ enum { ROOM = 1 << 20, PAINT = 0xa5 };
 
 static uint8_t stack[ROOM];
 
-/* What a call is lent: the input, and beside it an id, a node, a page or the trusted roots. */
+/* What a call is lent: the input, and beside it an id, a node, a page, another BUMP or the trusted
+   roots. */
 static const uint8_t *data, *more;
 static size_t len, more_len;
 static barrowtide_record table[BARROWTIDE_MAX_TRANSACTIONS];
@@ -18,7 +19,8 @@ static barrowtide_blame blame;
 static uint64_t a, b, c;
 static uint8_t id[32], root[32], first[64], second[64];
 static uint64_t positions[BARROWTIDE_MAX_IDS];
-static uint8_t out[BARROWTIDE_WRITE_ROOM];
+static uint8_t out[1 << 22];
+static uint64_t list[3 * BARROWTIDE_MAX_LISTED];
 
 /* What a call returns is kept, so that the call is not the last thing done and has a frame above. */
 static volatile uint32_t refusal;
@@ -75,6 +77,19 @@ static void differences(void)
     refusal = barrowtide_differences(data, len, data, len, positions,
                                      sizeof positions / sizeof positions[0], &blame, &a);
 }
+static void list_leaves(void)
+{
+    refusal = barrowtide_list_leaves(data, len, list, sizeof list / sizeof list[0], &blame, &a);
+}
+static void search_leaves(void)
+{
+    refusal = barrowtide_search_leaves(list, 3 * a, 0, 1, &b);
+}
+static void merge(void)
+{
+    refusal = barrowtide_merge(data, len, more, more_len, out, sizeof out, list,
+                               sizeof list / sizeof list[0], &blame, &a, &b);
+}
 static void shorter(void)
 {
     refusal = barrowtide_shorter(data, len, data, len, more, &blame, &a, &b);
@@ -82,7 +97,7 @@ static void shorter(void)
 static void judge_beef(void)
 {
     refusal = barrowtide_judge_beef(data, len, more, more_len, 0, table,
-                                    BARROWTIDE_MAX_TRANSACTIONS, &blame, &a);
+                                    BARROWTIDE_MAX_TRANSACTIONS, &blame, &a, &b);
 }
 static void order(void)
 {
@@ -122,7 +137,8 @@ static const struct {
     CALL(prove_page),    CALL(compare),          CALL(judge_beef),  CALL(write_bump),
     CALL(tsc_to_bump),   CALL(bump_to_tsc),      CALL(compare_depths),
     CALL(differences),   CALL(shorter),          CALL(order),       CALL(check_order),
-    CALL(parts_start),   CALL(parts_part),       CALL(parts_end),
+    CALL(parts_start),   CALL(parts_part),       CALL(parts_end),   CALL(list_leaves),
+    CALL(merge),         CALL(search_leaves),
 };
 
 /* Runs a function, and says how many bytes of the painted stack have changed, from its top. */
@@ -149,6 +165,8 @@ size_t stack_of(const char *name, const uint8_t *d, size_t d_len, const uint8_t 
     barrowtide_parts_start(&state);
     if (strcmp(name, "parts_end") == 0)
         parts_part();
+    if (strcmp(name, "search_leaves") == 0)
+        list_leaves();
     for (size_t i = 0; i < sizeof calls / sizeof calls[0]; i++)
         if (strcmp(name, calls[i].name) == 0)
             return depth(calls[i].run) - depth(none);

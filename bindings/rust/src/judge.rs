@@ -43,19 +43,27 @@ impl Record {
     }
 }
 
+/// What [`judge_beef`] says of an accepted bundle beside the table.
+#[derive(Debug, Clone, Copy, PartialEq, Eq)]
+pub struct Judged {
+    /// How many transactions it has.
+    pub transactions: u64,
+    /// How many SHA-256 compressions judging it took, as [`Verdict::work`] counts them.
+    pub work: u64,
+}
+
 /// Judges a bundle against a list of trusted roots and a fee, and fills a lent table.
 ///
 /// The roots stand end to end in stored order, 32 bytes each. The fee is as for [`judge`]. The table
-/// has room for the bundle's transactions or
-/// more ([`MAX_TRANSACTIONS`] always do). The answer is their number n: the first n records are
-/// filled, the others are zero. A refusal zeroes the whole table.
+/// has room for the bundle's transactions or more ([`MAX_TRANSACTIONS`] always do). Of n transactions
+/// the first n records are filled, the others are zero. A refusal zeroes the whole table.
 ///
 /// ```
 /// use barrowtide::{judge_beef, Reason, Record};
 /// let mut table = [Record { length: 7, ..Record::default() }];
 /// let bundle = [0x01, 0x00, 0xbe, 0xef, 0x00, 0x00];
 /// let refusal = judge_beef(&bundle, &[], 0, &mut table).unwrap_err();
-/// assert_eq!((refusal.reason, refusal.carried), (Reason::Empty, 5));
+/// assert_eq!((refusal.reason, refusal.carried, refusal.work), (Reason::Empty, 5, Some(0)));
 /// assert_eq!(table, [Record::default()]);
 /// ```
 pub fn judge_beef(
@@ -63,10 +71,11 @@ pub fn judge_beef(
     roots: &[u8],
     fee: u64,
     table: &mut [Record],
-) -> Result<u64, Refusal> {
-    let (mut blame, mut transactions) = (Blame::default(), 0);
-    let number = ffi::judge_beef(data, roots, fee, table, &mut blame, &mut transactions);
-    answer(number, blame, transactions).map_err(Refusal::in_judging)
+) -> Result<Judged, Refusal> {
+    let (mut blame, mut transactions, mut work) = (Blame::default(), 0, 0);
+    let number = ffi::judge_beef(data, roots, fee, table, &mut blame, &mut transactions, &mut work);
+    let judged = Judged { transactions, work };
+    answer(number, blame, judged).map_err(|refusal| refusal.in_judging(work))
 }
 
 /// A bundle that was accepted.
@@ -75,6 +84,17 @@ pub struct Verdict {
     /// A record for each transaction, in the bundle's order. A sender puts the payment last, and
     /// nothing checks that it does.
     pub records: Vec<Record>,
+    /// How many SHA-256 compressions, of 64 bytes each, judging it took: what a terminal's battery
+    /// is planned by.
+    ///
+    /// They are counted by a rule, so that every machine comes to the same number: (n + 72) / 64 + 1
+    /// for the id of a transaction of n bytes, each once, and 3 for each join of two nodes. Each
+    /// climb of a transaction that names a BUMP makes one join a layer, and those of the siblings
+    /// that have to be worked out; a sibling that several climbs ask for counts in each, though the
+    /// library makes it once. A refusal has its own count ([`Refusal::work`]): 0 if the bundle was
+    /// not read to its end, else that of all ids and of the climbs up to the fault; a sibling that
+    /// can't be had counts nothing.
+    pub work: u64,
 }
 
 /// Judges a bundle against trusted roots and a fee, with a table of its own.
@@ -111,11 +131,14 @@ pub struct Verdict {
 /// assert!(judge(&bundle, &[root], 1).is_ok());
 /// let refusal = judge(&bundle, &[root], 2).unwrap_err();
 /// assert_eq!((refusal.reason, refusal.carried), (Reason::TooLittle, 1));
+///
+/// // Two ids of 5 compressions and a climb of 7 layers: 10 + 3 * 7, refused or not.
+/// assert_eq!((verdict.work, refusal.work), (31, Some(31)));
 /// # Ok::<(), std::io::Error>(())
 /// ```
 pub fn judge(data: &[u8], roots: &[Hash], fee: u64) -> Result<Verdict, Refusal> {
     let mut records = vec![Record::default(); MAX_TRANSACTIONS];
-    let count = judge_beef(data, &Hash::end_to_end(roots), fee, &mut records)?;
-    records.truncate(count as usize);
-    Ok(Verdict { records })
+    let judged = judge_beef(data, &Hash::end_to_end(roots), fee, &mut records)?;
+    records.truncate(judged.transactions as usize);
+    Ok(Verdict { records, work: judged.work })
 }

@@ -13,10 +13,12 @@
 //! - [`compare_depths`]: so do two of different numbers of layers, one of which proves a payment
 //!   where the other has a node of the tree
 //! - [`judge`], [`judge_beef`]: does every transaction of a BEEF bundle rest on a trusted root, and
-//!   spend what is there?
+//!   spend what is there? And how much hashing does it take to say so?
 //! - [`order`], [`order_into`], [`check_order`]: transactions in an order with parents
 //!   first, as a BEEF needs them
 //! - [`differences`], [`differences_into`], [`shorter`]: two BUMPs side by side
+//! - [`LeafList`], and over lent room [`list_leaves_into`], [`search_leaves`], [`merge_into`]: a list
+//!   of leaves beside a busy BUMP, by which it is searched, and two BUMPs of one block merged
 //! - [`write_bump`], [`write_bump_into`]: the BUMP that proves some of a block's ids
 //! - [`tsc_to_bump`], [`bump_to_tsc`], and into lent room [`tsc_to_bump_into`],
 //!   [`bump_to_tsc_into`]: a TSC proof as a BUMP, and an id's climb in a BUMP as a TSC proof
@@ -41,9 +43,9 @@
 //! which takes longer than the joins where offsets do not rise. A page climbs once for each id,
 //! [`check_clients`] once for each client leaf, and a bundle once for each transaction that names a
 //! BUMP. Climbs by one path are made together, up to 256 at a time, and each node's value is made
-//! once for all of them: whatever the bytes, that takes at most two joins for each climb and layer
-//! and one for each leaf of the path. Where a join takes half a microsecond, the worst inputs known
-//! take 0.2 s for one climb, a page or a bundle, and 0.4 s for all clients.
+//! once for all of them: whatever the bytes, that takes at most two joins for each climb and layer,
+//! one for each layer and one for each leaf of the path. Where a join takes half a microsecond, the
+//! worst inputs known take 0.2 s for one climb, a page or a bundle, and 0.4 s for all clients.
 //!
 //! # Byte order
 //!
@@ -63,6 +65,7 @@ pub mod ffi;
 mod hash;
 pub mod hex;
 mod judge;
+mod leaves;
 mod order;
 mod page;
 mod parts;
@@ -84,7 +87,11 @@ pub use convert::{
 };
 pub use difference::{differences, differences_into, shorter, Difference, Side, MAX_DIFFERENCES};
 pub use hash::{join, sha256d, Hash, ParseHashError, MAX_INPUT};
-pub use judge::{judge, judge_beef, Record, Verdict, MAX_TOTAL, MAX_TRANSACTIONS};
+pub use judge::{judge, judge_beef, Judged, Record, Verdict, MAX_TOTAL, MAX_TRANSACTIONS};
+pub use leaves::{
+    list_leaves_into, merge_into, search_leaves, LeafList, ListedLeaf, Merged, MergedBump,
+    MAX_LEAVES, MAX_LISTED, MERGE_EXTRA,
+};
 pub use order::{check_order, order, order_into};
 pub use page::{prove_page, prove_page_into, Answer, MAX_PAGE};
 pub use parts::{Received, TransactionReader, MAX_PARTS};

@@ -18,7 +18,8 @@ pub enum Reason {
     LongVarint = 3,
     /// A tree height is outside its range, or a TSC proof without nodes is to become a BUMP.
     BadHeight = 4,
-    /// A count or a block height is over its limit; a list is outside its sizes or not whole.
+    /// A count or a block height is over its limit; a list is outside its sizes or not whole; a level
+    /// of a merged BUMP is over its limit.
     OverLimit = 5,
     /// An offset, a TSC index or a chosen position is outside its layer.
     BadOffset = 6,
@@ -41,7 +42,8 @@ pub enum Reason {
     Missing = 14,
     /// A sibling equals the working hash at an odd position.
     Twin = 15,
-    /// Roots of clients differ, or a TSC target is another root.
+    /// Roots of clients differ, a TSC target is another root, or two BUMPs to be merged contradict
+    /// each other.
     RootsDiffer = 16,
     /// The root is not in the list of trusted ones.
     Untrusted = 17,
@@ -56,7 +58,8 @@ pub enum Reason {
     /// The lent table has fewer records than the bundle has transactions, or lent room is short.
     NoRoom = 22,
     /// Two proofs differ in root, position or layers; of two with different numbers of layers, see
-    /// [`compare_depths`](crate::compare_depths).
+    /// [`compare_depths`](crate::compare_depths). Two BUMPs to be merged differ in block height, tree
+    /// height or root.
     Unlike = 23,
     /// Two proofs agree and prove one id.
     SameId = 24,
@@ -192,6 +195,9 @@ pub struct Refusal {
     /// is blamed lies, counted from 0; of [`Reason::Extra`] the count. `None` from all other calls,
     /// and where no place is blamed.
     pub in_transaction: Option<u64>,
+    /// Where a bundle is judged, how many SHA-256 compressions that took, as
+    /// [`Verdict::work`](crate::Verdict::work) counts them; `None` from all other calls.
+    pub work: Option<u64>,
     /// The layer of the sibling that is missing or a twin, counted from 0 at the ids; 0 unless the
     /// reason is [`Reason::Missing`] or [`Reason::Twin`].
     pub layer: u64,
@@ -216,15 +222,15 @@ impl Refusal {
         }
     }
 
-    /// The same refusal, where a bundle is judged: some carry the number of a transaction, and 22
-    /// the place of the count.
-    pub(crate) fn in_judging(self) -> Self {
+    /// The same refusal, where a bundle is judged with so much work: some carry the number of a
+    /// transaction, and 22 the place of the count.
+    pub(crate) fn in_judging(self, work: u64) -> Self {
         let blames = match self.reason {
             Reason::NoRoom => Blames::Place,
             reason if reason.blames_transaction() => Blames::Transaction,
             _ => self.blames,
         };
-        Self { blames, ..self }
+        Self { blames, work: Some(work), ..self }
     }
 
     /// The same refusal, where a set of transactions is put in order: of a fault in reading with
@@ -258,7 +264,8 @@ pub(crate) fn answer<T>(number: u32, blame: Blame, value: T) -> Result<T, Refusa
             let Blame { carried, layer, sibling } = blame;
             let place = reason.blames_place() && reason != Reason::NoRoom;
             let blames = if place { Blames::Place } else { Blames::Nothing };
-            Err(Refusal { reason, carried, blames, in_transaction: None, layer, sibling })
+            let in_transaction = None;
+            Err(Refusal { reason, carried, blames, in_transaction, work: None, layer, sibling })
         }
         None => panic!("libbarrowtide.a gave the unknown refusal {number}"),
     }
@@ -333,20 +340,20 @@ mod tests {
         let text = "refused 14: sibling 20 of layer 0 is missing (MISSING)";
         assert_eq!(missing.to_string(), text);
         let text = "refused 14 at transaction 0: sibling 20 of layer 0 is missing (MISSING)";
-        assert_eq!(missing.in_judging().to_string(), text);
-        let twin = refused(Reason::Twin, 1, 1, 4).in_judging();
+        assert_eq!(missing.in_judging(9).to_string(), text);
+        let twin = refused(Reason::Twin, 1, 1, 4).in_judging(9);
         let text =
             "refused 15 at transaction 1: sibling 4 of layer 1 equals the working hash (TWIN)";
         assert_eq!(twin.to_string(), text);
         let short = refused(Reason::Short, 5, 0, 0);
         assert_eq!(short.to_string(), "refused 2 at 5: bytes end inside a field (SHORT)");
-        assert_eq!(short.in_judging(), short);
+        assert_eq!(short.in_judging(0), Refusal { work: Some(0), ..short });
         let over = refused(Reason::OverLimit, 0, 0, 0).of_caller().to_string();
         assert!(over.starts_with("refused 5: "), "{over}");
         let room = refused(Reason::NoRoom, 0, 0, 0);
         let text = "lent table or room too small (NO_ROOM)";
         assert_eq!(room.to_string(), format!("refused 22: {text}"));
-        assert_eq!(room.in_judging().to_string(), format!("refused 22 at 0: {text}"));
+        assert_eq!(room.in_judging(0).to_string(), format!("refused 22 at 0: {text}"));
         let text = "refused 2 at 5 in transaction 3: bytes end inside a field (SHORT)";
         assert_eq!(short.in_set(3).to_string(), text);
         let extra = refused(Reason::Extra, 60, 0, 0).in_set(1);

@@ -10,9 +10,10 @@ use std::process::Command;
 
 use barrowtide::ffi::{Blame, Parts, MORE};
 use barrowtide::{Answer, Reason, Record, Version, VERSION};
-use barrowtide::{BUMP_TO_TSC_ROOM, TSC_TO_BUMP_ROOM, WRITE_ROOM};
+use barrowtide::{BUMP_TO_TSC_ROOM, MERGE_EXTRA, TSC_TO_BUMP_ROOM, WRITE_ROOM};
 use barrowtide::{
-    MAX_DIFFERENCES, MAX_IDS, MAX_INPUT, MAX_PAGE, MAX_PARTS, MAX_TOTAL, MAX_TRANSACTIONS,
+    MAX_DIFFERENCES, MAX_IDS, MAX_INPUT, MAX_LEAVES, MAX_LISTED, MAX_PAGE, MAX_PARTS, MAX_TOTAL,
+    MAX_TRANSACTIONS,
 };
 use published::without_sibling;
 use reference::hex::encode;
@@ -64,11 +65,16 @@ fn header() {
     expected += &format!("TSC to BUMP room {TSC_TO_BUMP_ROOM}\n");
     expected += &format!("BUMP to TSC room {BUMP_TO_TSC_ROOM}\n");
     expected += &format!("differences {MAX_DIFFERENCES}\n");
+    expected += &format!("leaves {MAX_LEAVES}, listed {MAX_LISTED}\n");
+    expected += &format!("more bytes to merge {MERGE_EXTRA}\n");
     expected += &format!("record {}\nanswer {}\n", size_of::<Record>(), size_of::<Answer>());
     expected += &format!("blame {}\n", size_of::<Blame>());
     expected += &format!("parts {MAX_PARTS}, state {}, more {MORE}\n", size_of::<Parts>());
-    expected += "hash of nothing 0, blame 7 8 9\nno bundle 2, blame 0 0 0\n";
+    expected += "hash of nothing 0, blame 7 8 9\nno bundle 2, blame 0 0 0\nwork 0\n";
     expected += "no path 2, blame 0 0 0\nno paths 2, blame 0 0 0\nno list 5, blame 0 0 0\n";
+    expected += "no leaves 2, blame 0 0 0\nno room 22, blame 0 0 0\na leaf 0, blame 7 8 9\n";
+    expected += "leaves 1: 0 1 3 7\nfound 0, at 7\nfound 1, at 3\n";
+    expected += "nothing to merge 2, blame 0 0 0\nno client 13, blame 0 0 0\n";
     expected += "no set 0, blame 7 8 9\nno proposal 0, blame 7 8 9\nnot that 30, blame 0 0 0\n";
     expected += "too many 5, blame 0 0 0\nno second 2, blame 60 0 0\ntransaction 1\n";
     expected += "no proof to turn 2, blame 0 0 0\nno BUMP to turn 2, blame 0 0 0\n";
@@ -96,8 +102,9 @@ fn example() {
     assert!(text.starts_with("accepted, transactions: 2\n"), "{text}");
     assert!(text.contains("anchored by BUMP 0 at position 21"), "{text}");
     assert!(text.contains("outputs 1  total 26174"), "{text}");
+    assert!(text.ends_with("\nSHA-256 compressions: 31\n"), "{text}");
     assert_eq!(judge(&bundle, &["1"]), (Some(0), text));
-    let refused = "refused 28 TOO_LITTLE at 1\n";
+    let refused = "refused 28 TOO_LITTLE at 1\nSHA-256 compressions: 31\n";
     for fee in ["2", "18446744073709551615"] {
         assert_eq!(judge(&bundle, &[fee]), (Some(1), refused.to_string()));
     }
@@ -107,7 +114,7 @@ fn example() {
 
     let other = PathBuf::from(env!("CARGO_TARGET_TMPDIR")).join("missing.hex");
     fs::write(&other, encode(&without_sibling())).expect("a file for the test");
-    let refused = "refused 14 MISSING at 0, sibling 20 of layer 0\n";
+    let refused = "refused 14 MISSING at 0, sibling 20 of layer 0\nSHA-256 compressions: 10\n";
     assert_eq!(judge(&other, &[]), (Some(1), refused.to_string()));
 }
 

@@ -1,9 +1,11 @@
-//! Judging bundles: the library against the reference, the table included.
+//! Judging bundles: the library against the reference, the table and the hash work included.
 
 mod common;
+#[path = "common/judging.rs"]
+mod judging;
 
-use barrowtide::{ffi, Record, MAX_INPUT, MAX_TRANSACTIONS};
-use common::{expected, plain, FILL, GUARDED};
+use barrowtide::{Record, MAX_INPUT, MAX_TRANSACTIONS};
+use judging::{bytes, judged, FILLED};
 use reference::beef::MAX_TOTAL;
 use reference::generate::bundle::Plan;
 use reference::generate::damage::{field_edits, random_edit, truncations};
@@ -12,63 +14,19 @@ use reference::generate::tally::Tally;
 use reference::generate::transaction::Outpoint;
 use reference::generate::tree::Tree;
 use reference::generate::{path, transaction};
-use reference::hex::{decode, expand, show};
-use reference::judge;
+use reference::hex::{decode, expand};
 use reference::refusal::Refusal;
 use reference::sha256::{join, sha256d};
 use reference::Hash;
 
-/// What every byte of a lent table holds before the call.
-const PRESET: u8 = 0xa5;
-
-const FILLED: Record = Record {
-    start: FILL,
-    length: FILL,
-    id: barrowtide::Hash::from_stored([PRESET; 32]),
-    bump: 0xa5a5_a5a5,
-    anchored: 0xa5a5_a5a5,
-    position: FILL,
-    outputs: FILL,
-    total: FILL,
-};
-
-/// The bytes of a table, as a C caller sees them.
-fn bytes(table: &[Record]) -> &[u8] {
-    // SAFETY: a record has no padding, so every byte of the table is initialised.
-    unsafe { std::slice::from_raw_parts(table.as_ptr().cast(), size_of_val(table)) }
-}
-
-/// Compares the verdict, the count and every record of a table of `room` records, with a fee of 0.
+/// Compares what judging comes to with a table of `room` records and a fee of 0.
 fn check(data: &[u8], roots: &[u8], room: usize) -> Result<Vec<Record>, Refusal> {
     check_fee(data, roots, 0, room)
 }
 
 /// The same with a fee.
 fn check_fee(data: &[u8], roots: &[u8], fee: u64, room: usize) -> Result<Vec<Record>, Refusal> {
-    let (told, left) = judge::judge(data, roots, fee, room);
-    let left: Vec<Record> = left.into_iter().map(record).collect();
-    let describe = || format!("{}; roots {}; fee {fee}; room {room}", show(data), show(roots));
-
-    let (mut guarded, mut transactions) = (GUARDED, FILL);
-    let mut table = vec![FILLED; room];
-    let number =
-        ffi::judge_beef(data, roots, fee, &mut table, &mut guarded.blame, &mut transactions);
-    assert_eq!((number, guarded, transactions), expected(told, FILL), "{}", describe());
-    assert_eq!(table, left, "{}", describe());
-    assert_eq!(bytes(&table), bytes(&left), "{}", describe());
-
-    table.fill(FILLED);
-    let safe = barrowtide::judge_beef(data, roots, fee, &mut table).map_err(plain);
-    assert_eq!(safe, told, "{}", describe());
-    assert_eq!(table, left, "{}", describe());
-    told.map(|count| left[..count as usize].to_vec())
-}
-
-fn record(told: judge::Record) -> Record {
-    let judge::Record { start, length, id, anchored, bump, position, outputs, total } = told;
-    let bump = bump.try_into().expect("at most 64 BUMPs");
-    let id = barrowtide::Hash::from_stored(id);
-    Record { start, length, id, bump, anchored: anchored.into(), position, outputs, total }
+    judged(data, roots, fee, room).0
 }
 
 /// Judges a plan with room enough.
@@ -626,6 +584,7 @@ fn longer_table() {
     assert!(barrowtide::judge_beef(&[], &[0], 0, &mut table).is_err());
     assert!(bytes(&table).iter().all(|&byte| byte == 0));
     table.fill(FILLED);
-    assert_eq!(barrowtide::judge_beef(&bundle, &root, 0, &mut table), Ok(2));
+    let judged = barrowtide::judge_beef(&bundle, &root, 0, &mut table);
+    assert_eq!(judged.map(|judged| judged.transactions), Ok(2));
     assert!(bytes(&table[2..]).iter().all(|&byte| byte == 0));
 }

@@ -18,9 +18,9 @@ const PROGRAM: &str = env!("CARGO_BIN_EXE_barrowtide");
 const DATA: &str = concat!(env!("CARGO_MANIFEST_DIR"), "/tests/data");
 const ID: &str = "3ecead27a44d013ad1aae40038acbb1883ac9242406808bb4667c15b4f164eac";
 const ROOT: &str = "bb6f640cc4ee56bf38eb5a1969ac0c16caa2d3d202b22bf3735d10eec0ca6e00";
-const COMMANDS: [&str; 12] = [
-    "judge", "prove", "clients", "list", "compare", "write", "page", "convert", "order", "diff",
-    "shorter", "draw",
+const COMMANDS: [&str; 14] = [
+    "judge", "prove", "clients", "list", "index", "compare", "write", "page", "convert", "order",
+    "diff", "shorter", "merge", "draw",
 ];
 
 /// Exit status, standard output and standard error.
@@ -199,6 +199,40 @@ fn judge_amounts() {
     cannot_use(&judge(&["--fee", "much"]), "not a fee: much");
     cannot_use(&judge(&["--fee", "-1"]), "no option -1");
     cannot_use(&["list", "--fee", "1"], "no option --fee");
+}
+
+#[test]
+fn judge_with_cost() {
+    let judge = |words: &[&'static str]| {
+        [&["judge", "004-bundle.hex", "004-roots.txt"][..], words].concat()
+    };
+    let counted = format!("{JUDGED}SHA-256 compressions: 31\n");
+    accepts(&judge(&["--cost"]), &counted);
+    accepts(&["judge", "--cost", "004-bundle.hex", "--fee", "1", "004-roots.txt"], &counted);
+    let (status, text, _) = run(&judge(&["--cost", "--fee", "2"]));
+    assert!(text.starts_with("refused 28 TOO_LITTLE at transaction 1: "), "{text}");
+    assert!(text.ends_with("smaller fee.\nSHA-256 compressions: 31\n"), "{text}");
+    assert_eq!(status, Some(1));
+    // The climb stops at layer 0, so only the ids count; nothing counts in reading.
+    let gap = file("gap-cost.beef", without_sibling());
+    let missing = "refused 14 MISSING at transaction 0: the sender must add the node at layer 0, \
+         position 20.\nSHA-256 compressions: 10";
+    refuses(&["judge", "--cost", &gap, "004-roots.txt"], missing);
+    let short = file("short-cost.hex", "0100beef");
+    assert!(run(&["judge", &short, "004-roots.txt", "--cost"])
+        .1
+        .ends_with("\nSHA-256 compressions: 0\n"));
+
+    let (_, plain, _) = run(&judge(&["--json"]));
+    let (_, text, _) = run(&judge(&["--json", "--cost"]));
+    let plain = plain.strip_suffix("}\n").expect("an object");
+    assert_eq!(text, format!("{plain},\"compressions\":31}}\n"));
+    let (status, text, _) = run(&["judge", "--json", &gap, "004-roots.txt", "--cost"]);
+    assert!(text.starts_with("{\"accepted\":false,\"refusal\":{\"number\":14,"), "{text}");
+    assert!(text.ends_with("},\"compressions\":10}\n"), "{text}");
+    assert_eq!(status, Some(1));
+    cannot_use(&judge(&["--fee", "--cost"]), "not a fee: --cost");
+    cannot_use(&["prove", "--cost", "tsc", "000-proof.hex"], "no option --cost");
 }
 
 #[test]
@@ -807,6 +841,137 @@ fn shorter() {
     assert_eq!((status, text.as_str()), (Some(1), ""));
     assert!(error.starts_with("refused 23 UNLIKE: the two lead to different roots"), "{error}");
     cannot_use(&["shorter", "004-bump.hex", "004-bump.hex"], "usage: barrowtide shorter");
+}
+
+#[test]
+fn index() {
+    // Block height, tree height and a count stand before the first leaf.
+    let places: [(u64, u64, u64); 8] = [
+        (0, 20, 7),
+        (0, 21, 41),
+        (1, 11, 76),
+        (2, 4, 111),
+        (3, 3, 146),
+        (4, 0, 181),
+        (5, 1, 216),
+        (6, 1, 251),
+    ];
+    let mut text = "accepted: a BUMP; each leaf with the place of its first byte, by level and \
+         offset; 8 leaves\n level                offset     place\n"
+        .to_string();
+    for (level, offset, place) in places {
+        text += &format!("{level:6}  {offset:20}  {place:8}\n");
+    }
+    accepts(&["index", "004-bump.hex"], &text);
+    let (_, json, _) = run_on(&[7, 1, 2, 1, 1, 0, 0], &["index", "-", "--json"]);
+    assert!(json.starts_with("{\"accepted\":false,\"refusal\":{\"number\":2,"), "{json}");
+    let bump = [&[7, 1, 2, 1, 1, 0, 0][..], &[0xaa; 32]].concat();
+    let (status, json, _) = run_on(&bump, &["index", "-", "--json"]);
+    let leaves = "[{\"level\":0,\"offset\":0,\"place\":5},{\"level\":0,\"offset\":1,\"place\":3}]";
+    assert_eq!(json, format!("{{\"accepted\":true,\"leaves\":{leaves}}}\n"));
+    assert_eq!(status, Some(0));
+    refuses(
+        &["index", &file("low.bump", [0, 0])],
+        "refused 4 BAD_HEIGHT at byte 1: a tree of the height written here is not allowed. The \
+         software that wrote the BUMP is at fault.",
+    );
+    cannot_use(&["index"], "usage: barrowtide index BUMP");
+    cannot_use(&["index", "no such file"], "no such file: ");
+}
+
+#[test]
+fn merge() {
+    let write = |positions: &[&'static str]| {
+        let (status, text, _) = run(&[&["write", "814435", "ids.txt"][..], positions].concat());
+        assert_eq!(status, Some(0));
+        text
+    };
+    assert_eq!(write(&["4"]), fs::read_to_string(format!("{DATA}/ids-bump.hex")).expect("data"));
+    let first = write(&["1"]);
+    let (status, merged, error) = run_on(first.as_bytes(), &["merge", "-", "ids-bump.hex"]);
+    assert_eq!((status, error.as_str()), (Some(0), ""));
+    let root = |bump: &str| run_on(bump.as_bytes(), &["clients", "-"]).1;
+    assert!(root(&merged).starts_with("accepted: all clients lead to this root; 2 clients\n"));
+    assert_eq!(root(&merged).lines().nth(1), root(&first).lines().nth(1));
+    // The other way round, in binary and for scripts it is the same.
+    assert_eq!(run_on(first.as_bytes(), &["merge", "ids-bump.hex", "-"]).1, merged);
+    let path = file("first-to-merge.hex", &first);
+    let binary = command(&["merge", &path, "ids-bump.hex", "--binary"]).output();
+    assert_eq!(encode(&binary.expect("the program starts").stdout) + "\n", merged);
+    let (_, json, _) = run(&["merge", &path, "ids-bump.hex", "--json"]);
+    let (length, hex) = (merged.trim_end().len() / 2, merged.trim_end());
+    assert_eq!(json, format!("{{\"accepted\":true,\"bytes\":{length},\"hex\":\"{hex}\"}}\n"));
+    accepts(&["merge", "004-bump.hex", "004-bump.hex"], &(encode(&data("004-bump.hex")) + "\n"));
+
+    let gap =
+        "refused 14 MISSING in the second: the sender must add the node at layer 0, position \
+         20.";
+    refuses_beside(&["merge", "004-bump.hex", "004-bump-gap.hex"], gap);
+    let (_, json, _) = run(&["merge", "004-bump-gap.hex", "004-bump.hex", "--json"]);
+    assert!(json.contains("\"name\":\"MISSING\",\"input\":\"first\""), "{json}");
+    refuses_beside(
+        &["merge", &file("no-client.bump", [7, 1, 0]), "004-bump.hex"],
+        "refused 13 NOT_LISTED in the first: no leaf is marked as a client's, so there is no root \
+         to merge by. Ask the sender for a BUMP with its clients marked.",
+    );
+    refuses_beside(
+        &["merge", "004-bump.hex", "ids-bump.hex"],
+        "refused 23 UNLIKE: the two differ in block height, tree height or root, so they are not of \
+         one block, or one of them is wrong. Compare both roots with the block's header.",
+    );
+    // A leaf that no climb asks for, with another hash in each.
+    let surplus = |byte: u8| {
+        let leaf = |offset: u8, flags: u8, byte: u8| [&[offset, flags][..], &[byte; 32]].concat();
+        let leaves = [leaf(0, 2, 0xaa), leaf(1, 0, 0xab), leaf(2, 0, byte)].concat();
+        [&[7, 2, 3][..], &leaves, &[1], &leaf(1, 0, 0xac)].concat()
+    };
+    let (one, other) = (file("one.bump", surplus(1)), file("another.bump", surplus(2)));
+    refuses_beside(
+        &["merge", &one, &other],
+        "refused 16 ROOTS_DIFFER: the two contradict each other: at one place they have different \
+         leaves, or a leaf of one is wrong that only the other's clients need. diff shows where \
+         they differ; keep both, and ask the sender of the wrong one for one without it.",
+    );
+    cannot_use(&["merge", "004-bump.hex"], "usage: barrowtide merge BUMP BUMP");
+    cannot_use(&["merge", "-", "-"], "standard input can be read once");
+}
+
+/// More leaves in a level than the library takes.
+#[test]
+fn merge_too_many() {
+    let ids: Vec<String> = (0..1_024).map(|at| format!("{:064x}", at + 1)).collect();
+    let list = file("block.txt", ids.join("\n"));
+    let written = |from: usize, to: usize| {
+        let positions: Vec<String> = (from..to).map(|at| at.to_string()).collect();
+        let mut words = vec!["write", "900000", &list];
+        words.extend(positions.iter().map(String::as_str));
+        run(&words).1
+    };
+    // With a root of its own above, so that level 0 has room for more than it may hold.
+    let (first, second) =
+        (file("half.hex", written(0, 512)), file("other-half.hex", written(512, 1_024)));
+    assert_eq!(run(&["merge", &first, &second]).0, Some(0));
+    let higher = |text: &str, offset: usize, name: &str| {
+        let tree = decode(text);
+        // Block height in five bytes, then the tree height: one level more, whose other node is new.
+        let mut bump = tree.clone();
+        bump[5] += 1;
+        bump.extend([&[1, offset as u8, 0][..], &[0xcc; 32]].concat());
+        file(name, bump)
+    };
+    let (first, second) = (written(0, 1_024), written(0, 512));
+    let (first, second) = (higher(&first, 1, "full.bump"), higher(&second, 1, "half.bump"));
+    assert_eq!(run(&["merge", &first, &second]).0, Some(0));
+    let mut more = fs::read(&second).expect("the file");
+    // A leaf at offset 1,500 of level 0, whose count takes three bytes.
+    assert_eq!(more[6..9], [0xfd, 0x00, 0x02]);
+    more[7] += 1;
+    more.splice(9..9, [&[0xfd, 0xdc, 0x05, 0][..], &[7; 32]].concat());
+    refuses_beside(
+        &["merge", &first, &file("more.bump", more)],
+        "refused 5 OVER_LIMIT: a level of the merged BUMP would have more than 1024 leaves. Keep \
+         both, or ask for BUMPs of fewer transactions.",
+    );
 }
 
 /// A picture of the documents.

@@ -1,3 +1,4 @@
 mod PartsLaws
 mod OrderingLaws
 mod DepthsLaws
+mod LeavesLaws

@@ -11,7 +11,7 @@ use Rattle.spv.specs.Result.{Result, accepted, refused, carrying}
 
 -- The version in one number: major, minor, patch.
 abbrev pub VERSION : ℕ
-VERSION = 0 * 65536 + 6 * 256 + 0
+VERSION = 0 * 65536 + 8 * 256 + 0
 
 -- The number that is returned: 0 on acceptance.
 unfoldable pub refusal : {A : Type 0} → Result A → ℕ

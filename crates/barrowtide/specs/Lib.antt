@@ -7,4 +7,5 @@ pub mod AnswersLaws
 pub mod Choices
 pub mod ChoicesLaws
 pub mod Depths
+pub mod Leaves
 pub mod Parts

@@ -4,6 +4,7 @@ mod blame;
 pub mod convert;
 pub mod differences;
 pub mod judge;
+pub mod leaves;
 pub mod ordering;
 pub mod pages;
 pub mod parts;
@@ -22,7 +23,7 @@ ghost use Rattle.barrowtide.specs.Answers.{ofHashed};
 pub extern "C" fn barrowtide_version() -> u32
     ensures { λ r. ⌜ r ≡ I.VERSION ⌝ }
 {
-    0 * 65536 + 6 * 256 + 0
+    0 * 65536 + 8 * 256 + 0
 }
 
 #[no_mangle]

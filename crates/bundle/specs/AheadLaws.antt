@@ -1,16 +1,15 @@
 -- Laws of the ids ahead of a place.
-use Prim.Native.Nat.{ℕ, zero, suc, _+_, _-_, _*_, _/_, _<_, _≤_}
+use Prim.Native.Nat.{ℕ, zero, suc, _+_, _*_, _/_, _<_, _≤_}
 use mathlib.Core.Path.{_≡_, refl, sym, ap, _∙_}
 use mathlib.Core.Bool.{Bool, true, false}
 use mathlib.Core.List.{List}
 use native.Mathlib.Nat.{zero-add}
 use native.Mathlib.Omega.{arith}
 use lib.Dec.{ltb}
-use lib.ListN.{length, take, drop, getD, set, length-set}
+use lib.ListN.{length, getD, set, length-set}
 use lib.Seq.{paste, length-paste, getD-set-same, getD-set-other}
 use borrow.Author.Count.{below-more}
 use borrow.Author.Tests.{ltb-true, ltb-false}
-use Rattle.hash.specs.Sha256.{hashed}
 use Rattle.format.specs.declared.beef.EntryHead.{EntryHead}
 use Rattle.format.specs.declared.beef.Anchor.{Anchor}
 use Rattle.format.specs.declared.beef.Anchor.the-variants.{Unanchored, Bump as InBump}
@@ -22,15 +21,15 @@ use Rattle.format.specs.Refusals.{MAX-BUMPS}
 use Rattle.format.specs.Parse.{Parse, got, bad}
 use Rattle.format.specs.Bytes.{setHash, hashAt}
 use Rattle.format.specs.BytesLaws.{set-inside, set-outside}
-use Rattle.format.specs.Id.{spanHash}
-use Rattle.format.specs.IdLaws.{span-inside, span-length}
+use Rattle.format.specs.IdLaws.{span-length}
+use Rattle.spv.specs.Spans.{spanId as hashOf, setFour}
 use Rattle.spv.specs.Stored.{stored-here, stored-other}
 use Rattle.lanes.specs.Lanes as L
 use Rattle.lanes.specs.declared.Nodes.{Nodes}
-use Rattle.bundle.specs.declared.ids.Span.{Span}
+use Rattle.bundle.specs.declared.ids.NamedSpan.{NamedSpan}
 use Rattle.bundle.specs.declared.ids.Spans.{Spans}
 use Rattle.bundle.specs.BundleHeads.{headId}
-use Rattle.bundle.specs.Ahead.{noSpan, anchorOf, spanOf, span, entryAt, spanAt, spanFrom, spanId, Reaches, ReachesFour, Onward, Inside, setFour, setAnchors, IdsFrom, AnchorsFrom}
+use Rattle.bundle.specs.Ahead.{noSpan, anchorOf, plainSpan, spanOf, span, entryAt, spanAt, spanFrom, spanId, Reaches, ReachesFour, Onward, setAnchors, IdsFrom, AnchorsFrom}
 
 module _ (count : ℕ) (s : List ℕ) (at : ℕ) where
   pub from-more : (m : ℕ) → spanFrom count s at true m ≡ spanAt count s at m
@@ -54,14 +53,14 @@ module _ (count : ℕ) (s : List ℕ) (at : ℕ) where
 
 -- what is reached from a place
 module _ (count : ℕ) (s : List ℕ) (at : ℕ) where
-  pub reached-none : (more : Bool) (x : Span) (next : ℕ) (onward : Bool) → more ≡ false → x ≡ noSpan → onward ≡ false → Reaches count s at more x next onward
+  pub reached-none : (more : Bool) (x : NamedSpan) (next : ℕ) (onward : Bool) → more ≡ false → x ≡ noSpan → onward ≡ false → Reaches count s at more x next onward
   unfolding spanFrom
   reached-none more x next onward e f g = rw (e, f, g) (refl, λ m. refl)
 
-  pub reached-more : (more : Bool) (x : Span) (next : ℕ) (onward : Bool) → more ≡ true → Reaches count s at true x next onward → Reaches count s at more x next onward
+  pub reached-more : (more : Bool) (x : NamedSpan) (next : ℕ) (onward : Bool) → more ≡ true → Reaches count s at true x next onward → Reaches count s at more x next onward
   reached-more more x next onward e r = rw e r
 
-  pub reached-bad : (x : Span) (next : ℕ) (onward : Bool) {k q : ℕ} → entryAt count s at ≡ bad k q → x ≡ noSpan → onward ≡ false → Reaches count s at true x next onward
+  pub reached-bad : (x : NamedSpan) (next : ℕ) (onward : Bool) {k q : ℕ} → entryAt count s at ≡ bad k q → x ≡ noSpan → onward ≡ false → Reaches count s at true x next onward
   unfolding spanFrom
   reached-bad x next onward e f g = rw (f, g) (sym (none-at count s at e 0), λ m. sym (none-at count s at e (suc m)))
 
@@ -70,7 +69,7 @@ module _ (count : ℕ) (s : List ℕ) (at : ℕ) where
   reached-got g = (sym (first-at count s at g), λ m. sym (later-at count s at g m))
 
 -- four places, each from where the one before was read
-pub spans-made : (count : ℕ) (s : List ℕ) (at : ℕ) (more : Bool) (a b c d : Span) → a ≡ spanFrom count s at more 0 → b ≡ spanFrom count s at more 1 → c ≡ spanFrom count s at more 2 → d ≡ spanFrom count s at more 3
+pub spans-made : (count : ℕ) (s : List ℕ) (at : ℕ) (more : Bool) (a b c d : NamedSpan) → a ≡ spanFrom count s at more 0 → b ≡ spanFrom count s at more 1 → c ≡ spanFrom count s at more 2 → d ≡ spanFrom count s at more 3
     → (l : ℕ) → l < 4 → span l (record { a = a; b = b; c = c; d = d }) ≡ spanFrom count s at more l
 unfolding span L.inLane
 spans-made count s at more a b c d ea eb ec ed zero h = ea
@@ -79,26 +78,14 @@ spans-made count s at more a b c d ea eb ec ed (suc (suc zero)) h = ec
 spans-made count s at more a b c d ea eb ec ed (suc (suc (suc zero))) h = ed
 spans-made count s at more a b c d ea eb ec ed (suc (suc (suc (suc l)))) h = absurd (omega arith)
 
--- ids made at these places one by one
-pub ids-made : (s : List ℕ) (x : Spans) (a b c d : List ℕ) → a ≡ spanHash s (x .a .start) (x .a .end) → b ≡ spanHash s (x .b .start) (x .b .end) → c ≡ spanHash s (x .c .start) (x .c .end) → d ≡ spanHash s (x .d .start) (x .d .end)
-    → (l : ℕ) → L.node l (record { a = a; b = b; c = c; d = d }) ≡ spanId s (span l x)
-unfolding L.node L.inLane span spanId
-ids-made s x a b c d ea eb ec ed zero = ea
-ids-made s x a b c d ea eb ec ed (suc zero) = eb
-ids-made s x a b c d ea eb ec ed (suc (suc zero)) = ec
-ids-made s x a b c d ea eb ec ed (suc (suc (suc l))) = ed
-
--- and four at once, which all lie in the input
-abbrev pub part : List ℕ → Span → List ℕ
-part s x = take (x .end - x .start) (drop (x .start) s)
-
-pub four-made : (s : List ℕ) (x : Spans) (four : Nodes) → Inside s (x .a) → Inside s (x .b) → Inside s (x .c) → Inside s (x .d)
-    → ((l : ℕ) → L.node l four ≡ hashed (L.inLane l (part s (x .a)) (part s (x .b)) (part s (x .c)) (part s (x .d))) .digest) → (l : ℕ) → L.node l four ≡ spanId s (span l x)
-unfolding L.inLane span spanId
-four-made s x four a b c d e zero = e 0 ∙ sym (span-inside s (x .a .start) (x .a .end) (a .0) (a .1))
-four-made s x four a b c d e (suc zero) = e 1 ∙ sym (span-inside s (x .b .start) (x .b .end) (b .0) (b .1))
-four-made s x four a b c d e (suc (suc zero)) = e 2 ∙ sym (span-inside s (x .c .start) (x .c .end) (c .0) (c .1))
-four-made s x four a b c d e (suc (suc (suc l))) = e (suc (suc (suc l))) ∙ sym (span-inside s (x .d .start) (x .d .end) (d .0) (d .1))
+-- ids made at these places, by the hashes of parts of the input
+pub ids-made : (s : List ℕ) (x : Spans) (four : Nodes) → ((l : ℕ) → L.node l four ≡ hashOf s (L.inLane l (plainSpan (x .a)) (plainSpan (x .b)) (plainSpan (x .c)) (plainSpan (x .d))))
+    → (l : ℕ) → L.node l four ≡ spanId s (span l x)
+unfolding L.inLane span spanId hashOf plainSpan
+ids-made s x four e zero = e 0
+ids-made s x four e (suc zero) = e 1
+ids-made s x four e (suc (suc zero)) = e 2
+ids-made s x four e (suc (suc (suc l))) = e (suc (suc (suc l)))
 
 -- ---- the ids end to end
 
@@ -194,7 +181,7 @@ module _ (count : ℕ) (s : List ℕ) (at : ℕ) where
       → AnchorsFrom count s at (i + 4) (setAnchors anchors i x)
   unfolding setAnchors span L.inLane Onward
   anchors-four anchors i p q more onward x made o r =
-      let is : (l : ℕ) → l < 4 → span l x .anchor ≡ spanAt count s at (i + l) .anchor = λ l h. ap (λ (y : Span). y .anchor) (r .0 l h ∙ o l) in
+      let is : (l : ℕ) → l < 4 → span l x .anchor ≡ spanAt count s at (i + l) .anchor = λ l h. ap (λ (y : NamedSpan). y .anchor) (r .0 l h ∙ o l) in
       let one : List ℕ = set anchors i (x .a .anchor) in
       let two : List ℕ = set one (i + 1) (x .b .anchor) in
       let three : List ℕ = set two (i + 2) (x .c .anchor) in

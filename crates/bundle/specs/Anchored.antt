@@ -1,5 +1,5 @@
--- The transactions that name a BUMP, and what each comes to by it, kept in three numbers a transaction: the number of its refusal, the layer and the
--- sibling, or 0, 0 and its position.
+-- The transactions that name a BUMP, and what each comes to by it, kept in four numbers a transaction: the number of its refusal, the layer and the
+-- sibling, or 0, 0 and its position; then the joins of its climb.
 use Prim.Native.Nat.{ℕ, _+_, _*_, _%_, _≤_, _<_}
 use mathlib.Core.Path.{_≡_}
 use mathlib.Core.List.{List}
@@ -17,7 +17,7 @@ use Rattle.path.specs.Path.{bumpPathOf}
 use Rattle.spv.specs.Compare.{prove}
 use Rattle.spv.specs.Readings.{pathReading}
 use Rattle.spv.specs.Shapes.{provedOf}
-use Rattle.climbs.specs.Proofs.{provedAt}
+use Rattle.climbs.specs.Proofs.{joinsIn, provedAt}
 use Rattle.bundle.specs.declared.judging.Standing.{Standing}
 use Rattle.bundle.specs.declared.judging.Standing.the-variants.{Refuses, Passes}
 use Rattle.bundle.specs.Bundle.{trusted}
@@ -25,9 +25,9 @@ use Rattle.bundle.specs.BundleHeads.{headProving}
 use Rattle.bundle.specs.Ahead.{spanAt, spanId}
 
 abbrev pub ENDS-ROOM : ℕ
-ENDS-ROOM = 768
+ENDS-ROOM = 1024
 
--- ---- three numbers of a standing
+-- ---- four numbers of a transaction
 
 unfoldable pub endNumber : Standing → ℕ
 endNumber (Refuses why) = why .number
@@ -41,19 +41,22 @@ unfoldable pub endPlace : Standing → ℕ
 endPlace (Refuses why) = why .sibling
 endPlace (Passes a n p) = p
 
-unfoldable pub putThree : List ℕ → ℕ → ℕ → ℕ → ℕ → List ℕ
-putThree ends i number layer place = set (set (set ends (3 * i) number) (3 * i + 1) layer) (3 * i + 2) place
+unfoldable pub putFour : List ℕ → ℕ → ℕ → ℕ → ℕ → ℕ → List ℕ
+putFour ends i number layer place joins = set (set (set (set ends (4 * i) number) (4 * i + 1) layer) (4 * i + 2) place) (4 * i + 3) joins
 
-abbrev pub putEnd : List ℕ → ℕ → Standing → List ℕ
-putEnd ends i t = putThree ends i (endNumber t) (endLayer t) (endPlace t)
+abbrev pub putEnd : List ℕ → ℕ → Standing → ℕ → List ℕ
+putEnd ends i t joins = putFour ends i (endNumber t) (endLayer t) (endPlace t) joins
 
--- the standing by the BUMP with a number, of the three
+-- the standing by the BUMP with a number, of the first three
 unfoldable pub standingBy : ℕ → ℕ → ℕ → ℕ → Standing
 standingBy bump number layer place =
     pick (eqb (number % 256) 0) (Passes 1 bump place) (Refuses (record { number = number % 256; carried = 0; layer = layer; sibling = place }))
 
 unfoldable pub standingAt : List ℕ → ℕ → ℕ → Standing
-standingAt ends bump i = standingBy bump (getD ends (3 * i) 0) (getD ends (3 * i + 1) 0) (getD ends (3 * i + 2) 0)
+standingAt ends bump i = standingBy bump (getD ends (4 * i) 0) (getD ends (4 * i + 1) 0) (getD ends (4 * i + 2) 0)
+
+unfoldable pub joinsAt : List ℕ → ℕ → ℕ
+joinsAt ends i = getD ends (4 * i + 3) 0
 
 -- ---- what they must be
 
@@ -61,15 +64,18 @@ standingAt ends bump i = standingBy bump (getD ends (3 * i) 0) (getD ends (3 * i
 unfoldable pub minedBy : List ℕ → List ℕ → List BumpHead → ℕ → List ℕ → Standing
 minedBy s roots bumps bump id = trusted roots bump (headProving s (getD bumps bump noBump) id)
 
+-- the joins of its climb
+unfoldable pub minedJoins : List ℕ → List BumpHead → ℕ → List ℕ → ℕ
+minedJoins s bumps bump id = joinsIn s (bumpPathOf s (getD bumps bump noBump)) id
+
 -- what is kept of the i-th transaction is what it comes to by the BUMP that it names
 unfoldable pub Right : List ℕ → List ℕ → List BumpHead → List ℕ → List ℕ → List ℕ → ℕ → Type 0
-Right s roots bumps anchors ids ends i = standingAt ends (getD anchors i 0) i ≡ minedBy s roots bumps (getD anchors i 0) (hashAt ids (32 * i))
+Right s roots bumps anchors ids ends i =
+    (standingAt ends (getD anchors i 0) i ≡ minedBy s roots bumps (getD anchors i 0) (hashAt ids (32 * i))) × (joinsAt ends i ≡ minedJoins s bumps (getD anchors i 0) (hashAt ids (32 * i)))
 
--- the first from a place on, of n, that names a BUMP; n if none does
-pub record FirstNamed (anchors : List ℕ) (bump n from r : ℕ) : Type 0 where
-  pub most : r ≤ n
-  pub none : (k : ℕ) → from ≤ k → k < r → getD anchors k 0 ≡ bump → ⊥
-  pub named : r < n → (from ≤ r) × (getD anchors r 0 ≡ bump)
+-- none of n names a BUMP
+unfoldable pub Unnamed : List ℕ → ℕ → ℕ → Type 0
+Unnamed anchors bump n = (k : ℕ) → k < n → getD anchors k 0 ≡ bump → ⊥
 
 -- so many rows hold the ids of the transactions in their slots
 unfoldable pub HoldIds : List ℕ → List ℕ → List ℕ → ℕ → Type 0
@@ -90,10 +96,11 @@ Settled s roots path bump ids slots ends ends′ count =
     → ((i : ℕ) → Right s roots bumps anchors ids ends i → Right s roots bumps anchors ids ends′ i) × ((r : ℕ) → r < count → Right s roots bumps anchors ids ends′ (getD slots r 0))
 
 -- the same by what the rows say, as far as they say what proving the ids comes to
-unfoldable pub SettlesRows : List ℕ → ℕ → ℕ → List ℕ → List ℕ → List ℕ → List ℕ → List ℕ → List ℕ → List ℕ → ℕ → Type 0
-SettlesRows roots layers bump ids slots starts states hashes ends ends′ count =
+unfoldable pub SettlesRows : List ℕ → ℕ → ℕ → List ℕ → List ℕ → List ℕ → List ℕ → List ℕ → List ℕ → List ℕ → List ℕ → ℕ → Type 0
+SettlesRows roots layers bump ids slots starts states hashes costs ends ends′ count =
     (s : List ℕ) (path : Path)
     → ((r : ℕ) → r < count → provedAt layers (hashAt ids (32 * getD slots r 0)) starts states hashes r ≡ provedOf (prove (pathReading s path (hashAt ids (32 * getD slots r 0)))))
+    → ((r : ℕ) → r < count → getD costs r 0 ≡ joinsIn s path (hashAt ids (32 * getD slots r 0)))
     → Settled s roots path bump ids slots ends ends′ count
 
 -- the same for all that name a BUMP
@@ -106,6 +113,11 @@ Risen s roots head bump n anchors ids ends ends′ =
 unfoldable pub EndsFrom : ℕ → List ℕ → List ℕ → List BumpHead → ℕ → ℕ → List ℕ → Type 0
 EndsFrom count s roots bumps at n ends =
     (k : ℕ) → k < n → spanAt count s at k .anchor < MAX-BUMPS → standingAt ends (spanAt count s at k .anchor) k ≡ minedBy s roots bumps (spanAt count s at k .anchor) (spanId s (spanAt count s at k))
+
+-- and the joins of their climbs
+unfoldable pub JoinsFrom : ℕ → List ℕ → List BumpHead → ℕ → ℕ → List ℕ → Type 0
+JoinsFrom count s bumps at n ends =
+    (k : ℕ) → k < n → spanAt count s at k .anchor < MAX-BUMPS → joinsAt ends k ≡ minedJoins s bumps (spanAt count s at k .anchor) (spanId s (spanAt count s at k))
 
 -- what an anchored transaction comes to
 abbrev pub Mined : List ℕ → List ℕ → List BumpHead → List ℕ → Anchor → Standing → Type 0

@@ -4,11 +4,11 @@ use mathlib.Core.Path.{_≡_, refl, sym, ap, _∙_}
 use mathlib.Core.Bool.{Bool, true, false}
 use mathlib.Core.List.{List, _++_}
 use native.Mathlib.Omega.{arith}
-use lib.Dec.{eqb, ltb}
-use lib.ListN.{length, getD, set, length-set}
+use lib.Dec.{eqb}
+use lib.ListN.{length, getD, set, drop, length-set, List·getD-append}
 use lib.Seq.{paste, getD-set-same, getD-set-other}
 use borrow.Author.Count.{below-more}
-use borrow.Author.Tests.{eqb-true, eqb-false, eq-eqb, ne-eqb, le-leb, ltb-true, ltb-false}
+use borrow.Author.Tests.{eqb-true, eqb-false, eq-eqb, ne-eqb, le-leb}
 use Rattle.hash.specs.Sha256.{sha256d}
 use Rattle.format.specs.declared.bump.BumpHead.{BumpHead}
 use Rattle.format.specs.declared.beef.EntryHead.{EntryHead}
@@ -30,8 +30,10 @@ use Rattle.spv.specs.Siblings.{pathSiblings}
 use Rattle.spv.specs.Readings.{starting, pathReading}
 use Rattle.spv.specs.Hashes.{hashesOf, among}
 use Rattle.spv.specs.Shapes.{provedOf}
+use Rattle.spv.specs.Rows.{rows}
+use Rattle.spv.specs.RowsLaws.{rows-length, rows-at}
 use Rattle.spv.specs.declared.prove.Proved.{Proved}
-use Rattle.climbs.specs.Proofs.{hasRoom, fits, startsOf, statesOf, rootsOf, provedAt}
+use Rattle.climbs.specs.Proofs.{hasRoom, fits, idAt, joinsIn, startsOf, statesOf, rootsOf, costsOf, provedAt}
 use Rattle.climbs.proofs.RowLaws.{fails-number}
 use Rattle.climbs.proofs.ProofsLaws.{rows-proved}
 use Rattle.spv.specs.Stored.{stored-here, stored-other}
@@ -42,62 +44,87 @@ use Rattle.bundle.specs.BundleHeads.{headId, headProving}
 use Rattle.bundle.specs.BundleHeadLaws.{head-proving}
 use Rattle.bundle.specs.Ahead.{anchorOf, entryAt, spanId, spanOf, Onward, IdsFrom, AnchorsFrom}
 use Rattle.bundle.specs.AheadLaws.{onward-here, span-low}
-use Rattle.bundle.specs.Anchored.{endNumber, endLayer, endPlace, putThree, putEnd, standingBy, standingAt, minedBy, Right, FirstNamed, HoldIds, Gathered, Settled, SettlesRows, Risen, EndsFrom, Mined}
+use Rattle.bundle.specs.Anchored.{endNumber, endLayer, endPlace, putFour, putEnd, standingBy, standingAt, joinsAt, minedBy, minedJoins, Right, Unnamed, HoldIds, Gathered, Settled, SettlesRows, Risen, EndsFrom, JoinsFrom, Mined}
 
 -- ---- what is kept
 
--- three numbers that are put
-module _ (ends : List ℕ) (i number layer place : ℕ) where
-  pub put-here : (bump : ℕ) → 3 * i + 2 < length ends → standingAt (putThree ends i number layer place) bump i ≡ standingBy bump number layer place
-  unfolding putThree standingAt
-  put-here bump room =
-      let one : List ℕ = set ends (3 * i) number in
-      let two : List ℕ = set one (3 * i + 1) layer in
-      let l1 = length-set ends (3 * i) number in
-      let l2 = length-set one (3 * i + 1) layer in
-      rw (
-        getD-set-other two (3 * i + 2) (3 * i) place 0 (λ z. omega arith),
-        getD-set-other one (3 * i + 1) (3 * i) layer 0 (λ z. omega arith),
-        getD-set-same ends (3 * i) number 0 (omega arith),
-        getD-set-other two (3 * i + 2) (3 * i + 1) place 0 (λ z. omega arith),
-        getD-set-same one (3 * i + 1) layer 0 (omega arith),
-        getD-set-same two (3 * i + 2) place 0 (omega arith),
-      )
+-- four numbers that are put
+module _ (ends : List ℕ) (i number layer place joins : ℕ) where
+  abbrev one : List ℕ
+  one = set ends (4 * i) number
 
-  past : (j : ℕ) → (j ≡ 3 * i → ⊥) → (j ≡ 3 * i + 1 → ⊥) → (j ≡ 3 * i + 2 → ⊥) → getD (putThree ends i number layer place) j 0 ≡ getD ends j 0
-  unfolding putThree
-  past j a b d =
-      getD-set-other (set (set ends (3 * i) number) (3 * i + 1) layer) (3 * i + 2) j place 0 d
-      ∙ getD-set-other (set ends (3 * i) number) (3 * i + 1) j layer 0 b
-      ∙ getD-set-other ends (3 * i) j number 0 a
+  abbrev two : List ℕ
+  two = set one (4 * i + 1) layer
 
-  pub put-other : (bump k : ℕ) → (k ≡ i → ⊥) → standingAt (putThree ends i number layer place) bump k ≡ standingAt ends bump k
-  unfolding standingAt
-  put-other bump k d =
-      rw (
-        past (3 * k) (λ z. d (omega arith)) (λ z. omega arith) (λ z. omega arith),
-        past (3 * k + 1) (λ z. omega arith) (λ z. d (omega arith)) (λ z. omega arith),
-        past (3 * k + 2) (λ z. omega arith) (λ z. omega arith) (λ z. d (omega arith)),
-      )
+  abbrev three : List ℕ
+  three = set two (4 * i + 2) place
+
+  module _ (room : 4 * i + 3 < length ends) where
+    first-is : getD (putFour ends i number layer place joins) (4 * i) 0 ≡ number
+    unfolding putFour
+    first-is =
+        getD-set-other three (4 * i + 3) (4 * i) joins 0 (λ z. omega arith) ∙ getD-set-other two (4 * i + 2) (4 * i) place 0 (λ z. omega arith)
+        ∙ getD-set-other one (4 * i + 1) (4 * i) layer 0 (λ z. omega arith) ∙ getD-set-same ends (4 * i) number 0 (omega arith)
+
+    second-is : getD (putFour ends i number layer place joins) (4 * i + 1) 0 ≡ layer
+    unfolding putFour
+    second-is =
+        getD-set-other three (4 * i + 3) (4 * i + 1) joins 0 (λ z. omega arith) ∙ getD-set-other two (4 * i + 2) (4 * i + 1) place 0 (λ z. omega arith)
+        ∙ getD-set-same one (4 * i + 1) layer 0 (let l = length-set ends (4 * i) number in omega arith)
+
+    third-is : getD (putFour ends i number layer place joins) (4 * i + 2) 0 ≡ place
+    unfolding putFour
+    third-is =
+        getD-set-other three (4 * i + 3) (4 * i + 2) joins 0 (λ z. omega arith)
+        ∙ getD-set-same two (4 * i + 2) place 0 (let l = length-set ends (4 * i) number in let m = length-set one (4 * i + 1) layer in omega arith)
+
+    pub put-here : (bump : ℕ) → standingAt (putFour ends i number layer place joins) bump i ≡ standingBy bump number layer place
+    unfolding standingAt
+    put-here bump = rw (first-is, second-is, third-is)
+
+    pub joins-here : joinsAt (putFour ends i number layer place joins) i ≡ joins
+    unfolding joinsAt putFour
+    joins-here =
+        getD-set-same three (4 * i + 3) joins 0
+        (let l = length-set ends (4 * i) number in let m = length-set one (4 * i + 1) layer in let n = length-set two (4 * i + 2) place in omega arith)
+
+  past : (j : ℕ) → (j ≡ 4 * i → ⊥) → (j ≡ 4 * i + 1 → ⊥) → (j ≡ 4 * i + 2 → ⊥) → (j ≡ 4 * i + 3 → ⊥) → getD (putFour ends i number layer place joins) j 0 ≡ getD ends j 0
+  unfolding putFour
+  past j a b d e =
+      getD-set-other three (4 * i + 3) j joins 0 e ∙ getD-set-other two (4 * i + 2) j place 0 d ∙ getD-set-other one (4 * i + 1) j layer 0 b ∙ getD-set-other ends (4 * i) j number 0 a
+
+  module _ (k : ℕ) (other : k ≡ i → ⊥) where
+    pub put-other : (bump : ℕ) → standingAt (putFour ends i number layer place joins) bump k ≡ standingAt ends bump k
+    unfolding standingAt
+    put-other bump =
+        rw (
+          past (4 * k) (λ z. other (omega arith)) (λ z. omega arith) (λ z. omega arith) (λ z. omega arith),
+          past (4 * k + 1) (λ z. omega arith) (λ z. other (omega arith)) (λ z. omega arith) (λ z. omega arith),
+          past (4 * k + 2) (λ z. omega arith) (λ z. omega arith) (λ z. other (omega arith)) (λ z. omega arith),
+        )
+
+    pub joins-other : joinsAt (putFour ends i number layer place joins) k ≡ joinsAt ends k
+    unfolding joinsAt
+    joins-other = past (4 * k + 3) (λ z. omega arith) (λ z. omega arith) (λ z. omega arith) (λ z. other (omega arith))
 
 -- a standing that is put, and one that is read again
 module _ (ends : List ℕ) (i : ℕ) where
-  pub put-refuses : {t : Standing} {why : Rejection} → t ≡ Refuses why → putThree ends i (why .number) (why .layer) (why .sibling) ≡ putEnd ends i t
+  pub put-refuses : {t : Standing} {why : Rejection} (m : ℕ) → t ≡ Refuses why → putFour ends i (why .number) (why .layer) (why .sibling) m ≡ putEnd ends i t m
   unfolding endNumber endLayer endPlace
-  put-refuses e = rw e
+  put-refuses m e = rw e
 
-  pub put-passes : {t : Standing} {a n p : ℕ} → t ≡ Passes a n p → putThree ends i 0 0 p ≡ putEnd ends i t
+  pub put-passes : {t : Standing} {a n p : ℕ} (m : ℕ) → t ≡ Passes a n p → putFour ends i 0 0 p m ≡ putEnd ends i t m
   unfolding endNumber endLayer endPlace
-  put-passes e = rw e
+  put-passes m e = rw e
 
-  pub at-passes : (bump : ℕ) → getD ends (3 * i) 0 % 256 ≡ 0 → Passes 1 bump (getD ends (3 * i + 2) 0) ≡ standingAt ends bump i
+  pub at-passes : (bump : ℕ) → getD ends (4 * i) 0 % 256 ≡ 0 → Passes 1 bump (getD ends (4 * i + 2) 0) ≡ standingAt ends bump i
   unfolding standingAt standingBy
-  at-passes bump e = rw (eq-eqb (getD ends (3 * i) 0 % 256) 0 e)
+  at-passes bump e = rw (eq-eqb (getD ends (4 * i) 0 % 256) 0 e)
 
-  pub at-refuses : (bump : ℕ) → (getD ends (3 * i) 0 % 256 ≡ 0 → ⊥)
-      → Refuses (record { number = getD ends (3 * i) 0 % 256; carried = 0; layer = getD ends (3 * i + 1) 0; sibling = getD ends (3 * i + 2) 0 }) ≡ standingAt ends bump i
+  pub at-refuses : (bump : ℕ) → (getD ends (4 * i) 0 % 256 ≡ 0 → ⊥)
+      → Refuses (record { number = getD ends (4 * i) 0 % 256; carried = 0; layer = getD ends (4 * i + 1) 0; sibling = getD ends (4 * i + 2) 0 }) ≡ standingAt ends bump i
   unfolding standingAt standingBy
-  at-refuses bump e = rw (ne-eqb (getD ends (3 * i) 0 % 256) 0 e)
+  at-refuses bump e = rw (ne-eqb (getD ends (4 * i) 0 % 256) 0 e)
 
 -- what proving by a path comes to is told by the three
 abbrev pub Told : ℕ → Standing → Type 0
@@ -145,52 +172,64 @@ mined-told s roots bumps bump id =
 
 -- ---- rows that are settled
 
-module _ (s roots : List ℕ) (bumps : List BumpHead) (anchors ids ends : List ℕ) (bump j : ℕ) (t : Standing) (named : getD anchors j 0 ≡ bump) (is : t ≡ minedBy s roots bumps bump (hashAt ids (32 * j))) (room : 3 * j + 2 < length ends) where
-  pub right-here : Right s roots bumps anchors ids (putEnd ends j t) j
+-- of another transaction it says what it said
+right-other : (s roots : List ℕ) (bumps : List BumpHead) (anchors ids ends : List ℕ) (j number layer place m i : ℕ) → (i ≡ j → ⊥) → Right s roots bumps anchors ids ends i → Right s roots bumps anchors ids (putFour ends j number layer place m) i
+unfolding Right
+right-other s roots bumps anchors ids ends j number layer place m i d r =
+    (put-other ends j number layer place m i d (getD anchors i 0) ∙ r .0, joins-other ends j number layer place m i d ∙ r .1)
+
+module _ (s roots : List ℕ) (bumps : List BumpHead) (anchors ids ends : List ℕ) (bump j : ℕ) (t : Standing) (m : ℕ) (named : getD anchors j 0 ≡ bump) (is : t ≡ minedBy s roots bumps bump (hashAt ids (32 * j)))
+    (made : m ≡ minedJoins s bumps bump (hashAt ids (32 * j))) (room : 4 * j + 3 < length ends) where
+  pub right-here : Right s roots bumps anchors ids (putEnd ends j t m) j
   unfolding Right
   right-here =
-      rw named (put-here ends j (endNumber t) (endLayer t) (endPlace t) bump room ∙ ap (λ (x : Standing). standingBy bump (endNumber x) (endLayer x) (endPlace x)) is ∙ mined-told s roots bumps bump (hashAt ids (32 * j)))
+      rw named
+      (put-here ends j (endNumber t) (endLayer t) (endPlace t) m room bump ∙ ap (λ (x : Standing). standingBy bump (endNumber x) (endLayer x) (endPlace x)) is ∙ mined-told s roots bumps bump (hashAt ids (32 * j)), joins-here ends j (endNumber t) (endLayer t) (endPlace t) m room ∙ made)
 
   -- what is right stays right
-  pub right-kept : (i : ℕ) → Right s roots bumps anchors ids ends i → Right s roots bumps anchors ids (putEnd ends j t) i
-  unfolding Right
+  pub right-kept : (i : ℕ) → Right s roots bumps anchors ids ends i → Right s roots bumps anchors ids (putEnd ends j t m) i
   right-kept i r = go (eqb i j) refl
     where
-      go : (b : Bool) → eqb i j ≡ b → standingAt (putEnd ends j t) (getD anchors i 0) i ≡ minedBy s roots bumps (getD anchors i 0) (hashAt ids (32 * i))
+      other : (i ≡ j → ⊥) → Right s roots bumps anchors ids (putEnd ends j t m) i
+      other d = right-other s roots bumps anchors ids ends j (endNumber t) (endLayer t) (endPlace t) m i d r
+
+      go : (b : Bool) → eqb i j ≡ b → Right s roots bumps anchors ids (putEnd ends j t m) i
       go true q = rw (eqb-true i j q) right-here
-      go false q = put-other ends j (endNumber t) (endLayer t) (endPlace t) (getD anchors i 0) i (eqb-false i j q) ∙ r
+      go false q = other (eqb-false i j q)
 
 module _ (s roots : List ℕ) (path : Path) (bump : ℕ) (ids slots ends : List ℕ) where
   pub settled-none : Settled s roots path bump ids slots ends ends 0
   unfolding Settled
   settled-none bumps anchors is named = ((λ i r. r), λ r l. absurd (omega arith))
 
-  pub settled-more : (now : List ℕ) (r : ℕ) (t : Standing) → Settled s roots path bump ids slots ends now r → t ≡ trusted roots bump (prove (pathReading s path (hashAt ids (32 * getD slots r 0)))) → 3 * getD slots r 0 + 2 < length now
-      → Settled s roots path bump ids slots ends (putEnd now (getD slots r 0) t) (r + 1)
-  unfolding Settled minedBy
-  settled-more now r t before e room bumps anchors is named =
+  pub settled-more : (now : List ℕ) (r : ℕ) (t : Standing) (m : ℕ) → Settled s roots path bump ids slots ends now r → t ≡ trusted roots bump (prove (pathReading s path (hashAt ids (32 * getD slots r 0))))
+      → m ≡ joinsIn s path (hashAt ids (32 * getD slots r 0)) → 4 * getD slots r 0 + 3 < length now → Settled s roots path bump ids slots ends (putEnd now (getD slots r 0) t m) (r + 1)
+  unfolding Settled minedBy minedJoins
+  settled-more now r t m before e f room bumps anchors is named =
       let x = before bumps anchors is (λ k l. named k (omega arith)) in
       let mine : t ≡ minedBy s roots bumps bump (hashAt ids (32 * getD slots r 0)) = e ∙ ap (trusted roots bump) (head-proving s (hashAt ids (32 * getD slots r 0)) (getD bumps bump noBump) is) in
+      let made : m ≡ minedJoins s bumps bump (hashAt ids (32 * getD slots r 0)) = f ∙ ap (λ (p : Path). joinsIn s p (hashAt ids (32 * getD slots r 0))) is in
       let here = named r (omega arith) in (
-        (λ i right. right-kept s roots bumps anchors ids now bump (getD slots r 0) t here mine room i (x .0 i right)),
-        below-more (λ (k : ℕ). Right s roots bumps anchors ids (putEnd now (getD slots r 0) t) (getD slots k 0)) r
-            (λ k l. right-kept s roots bumps anchors ids now bump (getD slots r 0) t here mine room (getD slots k 0) (x .1 k l))
-            (right-here s roots bumps anchors ids now bump (getD slots r 0) t here mine room),
+        (λ i right. right-kept s roots bumps anchors ids now bump (getD slots r 0) t m here mine made room i (x .0 i right)),
+        below-more (λ (k : ℕ). Right s roots bumps anchors ids (putEnd now (getD slots r 0) t m) (getD slots k 0)) r
+            (λ k l. right-kept s roots bumps anchors ids now bump (getD slots r 0) t m here mine made room (getD slots k 0) (x .1 k l))
+            (right-here s roots bumps anchors ids now bump (getD slots r 0) t m here mine made room),
       )
 
 -- by what the rows say
-module _ (roots : List ℕ) (layers bump : ℕ) (ids slots starts states hashes ends : List ℕ) where
-  pub rows-none : SettlesRows roots layers bump ids slots starts states hashes ends ends 0
+module _ (roots : List ℕ) (layers bump : ℕ) (ids slots starts states hashes costs ends : List ℕ) where
+  pub rows-none : SettlesRows roots layers bump ids slots starts states hashes costs ends ends 0
   unfolding SettlesRows
-  rows-none s path say = settled-none s roots path bump ids slots ends
+  rows-none s path say cost = settled-none s roots path bump ids slots ends
 
-  pub rows-more : (now : List ℕ) (r : ℕ) (id : List ℕ) (p : Proved) (t : Standing) → SettlesRows roots layers bump ids slots starts states hashes ends now r → id ≡ hashAt ids (32 * getD slots r 0)
-      → p ≡ provedAt layers id starts states hashes r → ((v : Result Proof) → p ≡ provedOf v → t ≡ trusted roots bump v) → 3 * getD slots r 0 + 2 < length now
-      → SettlesRows roots layers bump ids slots starts states hashes ends (putEnd now (getD slots r 0) t) (r + 1)
+  pub rows-more : (now : List ℕ) (r : ℕ) (id : List ℕ) (p : Proved) (t : Standing) → SettlesRows roots layers bump ids slots starts states hashes costs ends now r → id ≡ hashAt ids (32 * getD slots r 0)
+      → p ≡ provedAt layers id starts states hashes r → ((v : Result Proof) → p ≡ provedOf v → t ≡ trusted roots bump v) → 4 * getD slots r 0 + 3 < length now
+      → SettlesRows roots layers bump ids slots starts states hashes costs ends (putEnd now (getD slots r 0) t (getD costs r 0)) (r + 1)
   unfolding SettlesRows
-  rows-more now r id p t before is says stands room s path say =
-      settled-more s roots path bump ids slots ends now r t (before s path (λ k l. say k (omega arith)))
+  rows-more now r id p t before is says stands room s path say cost =
+      settled-more s roots path bump ids slots ends now r t (getD costs r 0) (before s path (λ k l. say k (omega arith)) (λ k l. cost k (omega arith)))
       (stands _ (says ∙ ap (λ (x : List ℕ). provedAt layers x starts states hashes r) is ∙ say r (omega arith)))
+      (cost r (omega arith))
       room
 
 -- rows of a BUMP's path: there is room for them, so they say what proving the ids comes to
@@ -200,11 +239,24 @@ bump-fits s head count states hashes few each room =
     let low : layersOf (head .height) ≤ LAYERS = omega arith in
     rw (le-leb (layersOf (head .height)) LAYERS low, le-leb count MAX-TXS few, le-leb count states each, le-leb (32 * count) hashes room)
 
-module _ (s roots : List ℕ) (head : BumpHead) (bump : ℕ) (ids slots starts states hashes ends ends′ : List ℕ) (few : length starts ≤ MAX-TXS) (each : length starts ≤ length states) (room : 32 * length starts ≤ length hashes) (held : HoldIds ids slots hashes (length starts)) where
-  pub rows-settled : {path : Path} {starts′ states′ hashes′ : List ℕ} {m : ℕ} → path ≡ bumpPathOf s head → starts′ ≡ startsOf s path starts states hashes → states′ ≡ statesOf s path starts states hashes → hashes′ ≡ rootsOf s path starts states hashes
-      → m ≡ length starts → SettlesRows roots (path .layers) bump ids slots starts′ states′ hashes′ ends ends′ m → Settled s roots (bumpPathOf s head) bump ids slots ends ends′ (length starts)
+-- a cost of so many rows
+cost-at : (s : List ℕ) (path : Path) (starts states hashes costs : List ℕ) → fits path (length starts) (length states) (length hashes) ≡ true → length starts ≤ length costs → (r : ℕ) → r < length starts
+    → getD (costsOf s path starts states hashes costs) r 0 ≡ joinsIn s path (idAt hashes r)
+unfolding costsOf
+cost-at s path starts states hashes costs f room r l =
+    let size = rows-length (λ i. joinsIn s path (idAt hashes i)) (length starts) in
+    rw (f, le-leb (length starts) (length costs) room)
+    (List·getD-append (rows (λ i. joinsIn s path (idAt hashes i)) (length starts)) (drop (length starts) costs) 0 r (omega arith) ∙ rows-at (λ i. joinsIn s path (idAt hashes i)) (length starts) r 0 l)
+
+module _ (s roots : List ℕ) (head : BumpHead) (bump : ℕ) (ids slots starts states hashes costs ends ends′ : List ℕ) (few : length starts ≤ MAX-TXS) (each : length starts ≤ length states) (room : 32 * length starts ≤ length hashes) (held : HoldIds ids slots hashes (length starts)) where
+  pub rows-settled : {path : Path} {starts′ states′ hashes′ costs′ : List ℕ} {m : ℕ} → length starts ≤ length costs → path ≡ bumpPathOf s head → starts′ ≡ startsOf s path starts states hashes → states′ ≡ statesOf s path starts states hashes → hashes′ ≡ rootsOf s path starts states hashes
+      → costs′ ≡ costsOf s path starts states hashes costs → m ≡ length starts → SettlesRows roots (path .layers) bump ids slots starts′ states′ hashes′ costs′ ends ends′ m → Settled s roots (bumpPathOf s head) bump ids slots ends ends′ (length starts)
   unfolding SettlesRows HoldIds
-  rows-settled by es et eh all settles = (rw (all, es, et, eh, by) at settles) s (bumpPathOf s head) (λ r l. rw (← held r l) (rows-proved s (bumpPathOf s head) starts states hashes (bump-fits s head (length starts) (length states) (length hashes) few each room) r l))
+  rows-settled lent by es et eh ec all settles =
+      let f = bump-fits s head (length starts) (length states) (length hashes) few each room in
+      (rw (all, es, et, eh, ec, by) at settles) s (bumpPathOf s head)
+      (λ r l. rw (← held r l) (rows-proved s (bumpPathOf s head) starts states hashes f r l))
+      (λ r l. rw (← held r l) (cost-at s (bumpPathOf s head) starts states hashes costs f lent r l))
 
 -- ---- gathering
 
@@ -256,37 +308,10 @@ module _ (anchors ids : List ℕ) (bump : ℕ) where
 
 -- ---- the BUMPs in turn
 
--- one by the path of a BUMP's head
-pub alone-stands : (s roots : List ℕ) (head : BumpHead) (bump : ℕ) (x : List ℕ) {path : Path} {id : List ℕ} {p : Proved} {t : Standing} → path ≡ bumpPathOf s head → id ≡ x → p ≡ provedOf (prove (pathReading s path id))
-    → ((v : Result Proof) → p ≡ provedOf v → t ≡ trusted roots bump v) → t ≡ trusted roots bump (headProving s head x)
-alone-stands s roots head bump x by is says stands =
-    stands _ says ∙ ap (trusted roots bump) (head-proving s _ head by ∙ ap (headProving s head) is)
-
-module _ (s roots : List ℕ) (head : BumpHead) (bump n : ℕ) (anchors ids ends : List ℕ) {i : ℕ} (first : FirstNamed anchors bump n 0 i) where
-  -- none names it
-  pub risen-none : n ≤ i → Risen s roots head bump n anchors ids ends ends
-  unfolding Risen
-  risen-none past bumps is = ((λ k r. r), λ k low named. absurd (first .none k (omega arith) (omega arith) named))
-
-  -- one names it
-  pub risen-alone : {j : ℕ} → i < n → FirstNamed anchors bump n (i + 1) j → n ≤ j → 3 * i + 2 < length ends
-      → Risen s roots head bump n anchors ids ends (putEnd ends i (trusted roots bump (headProving s head (hashAt ids (32 * i)))))
-  unfolding Risen minedBy
-  risen-alone {j} inside next past room bumps is =
-      let t : Standing = trusted roots bump (headProving s head (hashAt ids (32 * i))) in
-      let mine : t ≡ minedBy s roots bumps bump (hashAt ids (32 * i)) = ap (λ (h : BumpHead). trusted roots bump (headProving s h (hashAt ids (32 * i)))) is in
-      let here = first .named inside .1 in (
-        right-kept s roots bumps anchors ids ends bump i t here mine room,
-        λ k low named. rw (only k low named) (right-here s roots bumps anchors ids ends bump i t here mine room),
-      )
-    where
-      only : (k : ℕ) → k < n → getD anchors k 0 ≡ bump → k ≡ i
-      only k low named = go (ltb k i) (ltb i k) refl refl
-        where
-          go : (a b : Bool) → ltb k i ≡ a → ltb i k ≡ b → k ≡ i
-          go true b p q = absurd (first .none k (omega arith) (ltb-true k i p) named)
-          go false true p q = absurd (next .none k (let l = ltb-true i k q in omega arith) (omega arith) named)
-          go false false p q = let x = ltb-false k i p in let y = ltb-false i k q in omega arith
+-- none names it
+pub risen-none : (s roots : List ℕ) (head : BumpHead) (bump n : ℕ) (anchors ids ends : List ℕ) → Unnamed anchors bump n → Risen s roots head bump n anchors ids ends ends
+unfolding Risen Unnamed
+risen-none s roots head bump n anchors ids ends none bumps is = ((λ k r. r), λ k low named. absurd (none k low named))
 
 module _ (s roots : List ℕ) (head : BumpHead) (bump n : ℕ) (anchors ids ends : List ℕ) {slots hashes : List ℕ} {count : ℕ} (g : Gathered anchors ids bump n slots hashes count) where
   pub risen-settled : (m : ℕ) (ends′ : List ℕ) → m ≡ count → Settled s roots (bumpPathOf s head) bump ids slots ends ends′ m → Risen s roots head bump n anchors ids ends ends′
@@ -312,7 +337,16 @@ unfolding EndsFrom IdsFrom AnchorsFrom Right
 ends-from count s roots bumps at n anchors ids ends made named wide room right k low h =
     let is = named k low (omega arith) in
     let less = span-low count s at k h in
-    let x = right k low (omega arith) in
+    let x = right k low (omega arith) .0 in
+    rw (is, made k low (omega arith)) at x
+
+pub joins-from : (count : ℕ) (s roots : List ℕ) (bumps : List BumpHead) (at n : ℕ) (anchors ids ends : List ℕ) → IdsFrom count s at n ids → AnchorsFrom count s at n anchors → n ≤ length ids / 32 → n ≤ length anchors
+    → ((i : ℕ) → i < n → getD anchors i 0 < count → Right s roots bumps anchors ids ends i) → JoinsFrom count s bumps at n ends
+unfolding JoinsFrom IdsFrom AnchorsFrom Right
+joins-from count s roots bumps at n anchors ids ends made named wide room right k low h =
+    let is = named k low (omega arith) in
+    let less = span-low count s at k h in
+    let x = right k low (omega arith) .1 in
     rw (is, made k low (omega arith)) at x
 
 module _ (count : ℕ) (s : List ℕ) (at i p : ℕ) {q : ℕ} {e : EntryHead} (o : Onward count s at i p true) (read : entryAt count s p ≡ got e q) where

@@ -206,7 +206,7 @@ module _ (s roots : List ℕ) (room : ℕ) (b : Beef) (read : BeefRead room s b)
 -- ---- a whole input
 
 -- transactions that were read are the same when they are read again
-heads-again : (bumps : ℕ) (s : List ℕ) (n at : ℕ) {l : List Entry} {q : ℕ} → times (entryField bumps) n s at ≡ got l q → headsFrom bumps s n at ≡ map entryHeadOf l
+pub heads-again : (bumps : ℕ) (s : List ℕ) (n at : ℕ) {l : List Entry} {q : ℕ} → times (entryField bumps) n s at ≡ got l q → headsFrom bumps s n at ≡ map entryHeadOf l
 unfolding many each headsFrom
 heads-again bumps s zero at {l} e = let none : [] ≡ l = cc in rw (← none)
 heads-again bumps s (suc n) at {l} e =
@@ -217,7 +217,7 @@ heads-again bumps s (suc n) at {l} e =
     more a r m h f is = rw (h, f, ← is)
 
 -- how many passed, by the verdict
-reached-is : (v : Verdict) (ids numbers : List ℕ) → reachedBy v ≡ reachedFrom 0 (judgementOf v ids numbers)
+pub reached-is : (v : Verdict) (ids numbers : List ℕ) → reachedBy v ≡ reachedFrom 0 (judgementOf v ids numbers)
 unfolding judgementOf reachedFrom
 reached-is (Accepted n) ids numbers = sym (let z = flat-length n ids numbers in omega arith)
 reached-is (Refused x) ids numbers = refl

@@ -47,3 +47,12 @@ pub mod OneMoreBump
 pub mod BundleParts
 pub mod BundlePartsRead
 pub mod UnusedBump
+pub mod Work
+pub mod WorkLaws
+pub mod WorkFits
+pub mod WorkHash
+pub mod WorkCases
+pub mod WorkExample
+pub mod WorkMade
+pub mod WorkMadeLaws
+pub mod WorkRead

@@ -1,5 +1,5 @@
-// The transactions that name one BUMP climb in it together, before any is judged. What each comes to is kept in three numbers: the number of its
-// refusal, the layer and the sibling, or 0, 0 and its position.
+// The transactions that name one BUMP climb in it together, before any is judged. What each comes to is kept in four numbers: the number of its
+// refusal, the layer and the sibling, or 0, 0 and its position; then the joins of its climb.
 use super::judging::IDS_ROOM;
 use super::judging::Standing;
 use super::parents::is_among;
@@ -9,50 +9,50 @@ use format::refusal::UNTRUSTED;
 use spv::Outcome;
 use spv::Proved;
 use spv::Rejection;
-use spv::prove_in;
 use spv::reject;
 ghost use mathlib.Core.Path.{_≡_};
+ghost use mathlib.Core.Bool.{false};
 ghost use Prim.Native.Nat.{ℕ, _*_, _<_, _≤_};
 ghost use lib.ListN.{length, getD};
-ghost use Rattle.format.specs.Bytes.{hashAt};
 ghost use Rattle.format.specs.Refusals.{MAX-TXS, MAX-BUMPS};
 ghost use Rattle.path.specs.Path.{bumpPathOf};
 ghost use Rattle.spv.specs.Result.{Result};
 ghost use Rattle.spv.specs.Compare.{Proof};
 ghost use Rattle.spv.specs.Shapes.{provedOf};
 ghost use Rattle.bundle.specs.Bundle.{trusted};
-ghost use Rattle.bundle.specs.BundleHeads.{headProving};
-ghost use Rattle.bundle.specs.Anchored.{ENDS-ROOM, standingAt, putThree, putEnd, FirstNamed, Gathered, Right, HoldIds, Settled, SettlesRows, Risen};
+ghost use Rattle.bundle.specs.Anchored.{ENDS-ROOM, standingAt, putFour, putEnd, Unnamed, Gathered, Right, HoldIds, Settled, SettlesRows, Risen};
 
 // Room for what the most transactions that a bundle has come to.
-pub(crate) const ENDS_ROOM: usize = 768;
+pub(crate) const ENDS_ROOM: usize = 1024;
 
-// The three numbers of the i-th transaction.
-fn put_three(ends: &mut [u64], i: usize, number: u64, layer: u64, place: u64)
+// The four numbers of the i-th transaction.
+fn put_four(ends: &mut [u64], i: usize, number: u64, layer: u64, place: u64, joins: u64)
     requires { ⌜ i < MAX-TXS ⌝ }
     requires { ⌜ ENDS-ROOM ≤ length (now ends) ⌝ }
-    ensures { λ _. ⌜ now (ends .exit) ≡ putThree (now (ends .entry)) i number layer place ⌝ }
+    ensures { λ _. ⌜ now (ends .exit) ≡ putFour (now (ends .entry)) i number layer place joins ⌝ }
 {
-    let at = 3 * i;
+    let at = 4 * i;
     ends[at] = number;
     ends[at + 1] = layer;
     ends[at + 2] = place;
+    ends[at + 3] = joins;
 }
 
-// What the i-th transaction comes to by its BUMP is kept.
-fn put_end(ends: &mut [u64], i: usize, standing: Standing)
+// What the i-th transaction comes to by its BUMP is kept, and the joins of its climb.
+fn put_end(ends: &mut [u64], i: usize, standing: Standing, joins: u64)
     requires { ⌜ i < MAX-TXS ⌝ }
     requires { ⌜ ENDS-ROOM ≤ length (now ends) ⌝ }
-    ensures { λ _. ⌜ now (ends .exit) ≡ putEnd (now (ends .entry)) i standing ⌝ }
+    ensures { λ _. ⌜ now (ends .exit) ≡ putEnd (now (ends .entry)) i standing joins ⌝ }
 {
     match standing {
         Standing::Refuses(rejection) => {
-            put_three(
+            put_four(
                 ends,
                 i,
                 rejection.number as u64,
                 rejection.layer as u64,
                 rejection.sibling,
+                joins,
             );
         }
         Standing::Passes {
@@ -60,7 +60,7 @@ fn put_end(ends: &mut [u64], i: usize, standing: Standing)
             bump,
             position,
         } => {
-            put_three(ends, i, 0, 0, position);
+            put_four(ends, i, 0, 0, position, joins);
         }
     }
 }
@@ -71,7 +71,7 @@ pub(crate) fn end_at(ends: &[u64], bump: u64, i: usize) -> Standing
     requires { ⌜ ENDS-ROOM ≤ length (now ends) ⌝ }
     ensures { λ r. ⌜ r ≡ standingAt (now (ends .entry)) bump i ⌝ }
 {
-    let at = 3 * i;
+    let at = 4 * i;
     let number = (ends[at] % 256) as u8;
     if number == 0 {
         return Standing::Passes {
@@ -109,40 +109,19 @@ fn trust(roots: &[u8], bump: u64, proved: Proved) -> Standing
     }
 }
 
-// The first transaction from one on that names a BUMP, or n if none of n does.
-fn first_named(anchors: &[u64], n: usize, from: usize, bump: u64) -> usize
+// Whether one of n transactions names a BUMP.
+fn is_named(anchors: &[u64], n: usize, bump: u64) -> bool
     requires { ⌜ n ≤ length (now anchors) ⌝ }
-    ensures { λ r. ⌜ FirstNamed (now (anchors .entry)) bump n from r ⌝ }
+    ensures { λ r. ⌜ (r ≡ false → Unnamed (now (anchors .entry)) bump n) ⌝ }
 {
-    let mut i = from;
+    let mut i = 0;
     while i < n {
         if anchors[i] == bump {
-            return i;
+            return true;
         }
         i += 1;
     }
-    n
-}
-
-// The i-th transaction alone, by the BUMP that it names.
-fn climb_alone(
-    s: &[u8],
-    roots: &[u8],
-    head: BumpHead,
-    bump: u64,
-    ids: &[u8],
-    i: usize,
-    ends: &mut [u64],
-)
-    requires { ⌜ i < MAX-TXS ⌝ }
-    requires { ⌜ ENDS-ROOM ≤ length (now ends) ⌝ }
-    ensures { λ _. ⌜ now (ends .exit) ≡ putEnd (now (ends .entry)) i (trusted (now (roots .entry)) bump (headProving (now (s .entry)) head (hashAt (now (ids .entry)) (32 * i)))) ⌝ }
-{
-    let path = path::bump_path(s, head);
-    let id = format::hash_at(ids, 32 * i);
-    let proved = prove_in(s, path, id);
-    let standing = trust(roots, bump, proved);
-    put_end(ends, i, standing);
+    false
 }
 
 // The transactions that name a BUMP, in order, each with its id.
@@ -186,11 +165,14 @@ fn settle_rows(
     starts: &[u64],
     states: &[u16],
     hashes: &[u8],
+    costs: &[u64],
     ends: &mut [u64],
 )
+    requires { ⌜ length (now starts) ≤ MAX-TXS ⌝ }
     requires { ⌜ length (now starts) ≤ length (now slots) ⌝ }
+    requires { ⌜ length (now starts) ≤ length (now costs) ⌝ }
     requires { ⌜ ENDS-ROOM ≤ length (now ends) ⌝ }
-    ensures { λ _. ⌜ SettlesRows (now (roots .entry)) layers bump (now (ids .entry)) (now (slots .entry)) (now (starts .entry)) (now (states .entry)) (now (hashes .entry)) (now (ends .entry)) (now (ends .exit)) (length (now (starts .entry))) ⌝ }
+    ensures { λ _. ⌜ SettlesRows (now (roots .entry)) layers bump (now (ids .entry)) (now (slots .entry)) (now (starts .entry)) (now (states .entry)) (now (hashes .entry)) (now (costs .entry)) (now (ends .entry)) (now (ends .exit)) (length (now (starts .entry))) ⌝ }
 {
     let mut r = 0;
     while r < starts.len() {
@@ -198,7 +180,7 @@ fn settle_rows(
         let id = format::hash_at(ids, 32 * i);
         let proved = climbs::proved_at(layers, id, starts, states, hashes, r);
         let standing = trust(roots, bump, proved);
-        put_end(ends, i, standing);
+        put_end(ends, i, standing, costs[r]);
         r += 1;
     }
 }
@@ -214,18 +196,20 @@ fn climb_rows(
     starts: &mut [u64],
     states: &mut [u16],
     hashes: &mut [u8],
+    costs: &mut [u64],
     ends: &mut [u64],
 )
     requires { ⌜ length (now starts) ≤ MAX-TXS ⌝ }
     requires { ⌜ length (now starts) ≤ length (now slots) ⌝ }
     requires { ⌜ length (now starts) ≤ length (now states) ⌝ }
     requires { ⌜ 32 * length (now starts) ≤ length (now hashes) ⌝ }
+    requires { ⌜ length (now starts) ≤ length (now costs) ⌝ }
     requires { ⌜ ENDS-ROOM ≤ length (now ends) ⌝ }
     requires { ⌜ HoldIds (now ids) (now slots) (now hashes) (length (now starts)) ⌝ }
     ensures { λ _. ⌜ Settled (now (s .entry)) (now (roots .entry)) (bumpPathOf (now (s .entry)) head) bump (now (ids .entry)) (now (slots .entry)) (now (ends .entry)) (now (ends .exit)) (length (now (starts .entry))) ⌝ }
 {
     let path = path::bump_path(s, head);
-    climbs::prove_all(s, path, starts, states, hashes);
+    climbs::prove_all(s, path, starts, states, hashes, costs);
     settle_rows(
         roots,
         path.layers,
@@ -235,6 +219,7 @@ fn climb_rows(
         starts,
         states,
         hashes,
+        costs,
         ends,
     );
 }
@@ -252,6 +237,7 @@ fn climb_named(
     starts: &mut [u64],
     states: &mut [u16],
     hashes: &mut [u8],
+    costs: &mut [u64],
     ends: &mut [u64],
 )
     requires { ⌜ n ≤ MAX-TXS ⌝ }
@@ -260,6 +246,7 @@ fn climb_named(
     requires { ⌜ n ≤ length (now starts) ⌝ }
     requires { ⌜ n ≤ length (now states) ⌝ }
     requires { ⌜ 32 * n ≤ length (now hashes) ⌝ }
+    requires { ⌜ n ≤ length (now costs) ⌝ }
     requires { ⌜ ENDS-ROOM ≤ length (now ends) ⌝ }
     ensures { λ _. ⌜ Risen (now (s .entry)) (now (roots .entry)) head bump n (now (anchors .entry)) (now (ids .entry)) (now (ends .entry)) (now (ends .exit)) ⌝ }
 {
@@ -274,6 +261,7 @@ fn climb_named(
         &mut starts[..count],
         states,
         hashes,
+        costs,
         ends,
     );
 }
@@ -298,6 +286,7 @@ fn climb_together(
     let mut starts = [0u64; Beef::MAX_TRANSACTIONS];
     let mut states = [0u16; Beef::MAX_TRANSACTIONS];
     let mut hashes = [0u8; IDS_ROOM];
+    let mut costs = [0u64; Beef::MAX_TRANSACTIONS];
     climb_named(
         s,
         roots,
@@ -310,11 +299,12 @@ fn climb_together(
         &mut starts,
         &mut states,
         &mut hashes,
+        &mut costs,
         ends,
     );
 }
 
-// The transactions that name a BUMP: none, one, or more.
+// The same, if any names it.
 fn climb_bump(
     s: &[u8],
     roots: &[u8],
@@ -330,13 +320,7 @@ fn climb_bump(
     requires { ⌜ ENDS-ROOM ≤ length (now ends) ⌝ }
     ensures { λ _. ⌜ Risen (now (s .entry)) (now (roots .entry)) head bump n (now (anchors .entry)) (now (ids .entry)) (now (ends .entry)) (now (ends .exit)) ⌝ }
 {
-    let i = first_named(anchors, n, 0, bump);
-    if n <= i {
-        return;
-    }
-    let next = first_named(anchors, n, i + 1, bump);
-    if n <= next {
-        climb_alone(s, roots, head, bump, ids, i, ends);
+    if !is_named(anchors, n, bump) {
         return;
     }
     climb_together(s, roots, head, bump, n, anchors, ids, ends);

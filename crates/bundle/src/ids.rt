@@ -1,35 +1,37 @@
 // The ids of a bundle's transactions, four at a time, and the BUMPs that these name.
+use super::work::id_work;
 use format::Anchor;
 use format::Beef;
 use format::Cursor;
 use format::EntryAnswer;
-use format::span_hash;
 use lanes::Nodes;
+use spv::Span;
 ghost use mathlib.Core.Path.{_≡_};
 ghost use mathlib.Core.Bool.{true, false};
 ghost use Prim.Native.Nat.{ℕ, _≤_};
 ghost use Rattle.format.specs.Refusals.{MAX-TXS};
 ghost use Rattle.lanes.specs.Lanes as L;
 ghost use lib.ListN.{set};
-ghost use Rattle.bundle.specs.Ahead.{noSpan, anchorOf, span, spanId, Reaches, ReachesFour, Inside, setFour, setAnchors, IdsFrom, AnchorsFrom};
+ghost use Rattle.bundle.specs.Ahead.{noSpan, anchorOf, plainSpan, span, spanId, Reaches, ReachesFour, setAnchors, IdsFrom, AnchorsFrom};
+ghost use Rattle.bundle.specs.WorkMade.{spanWork, workBelow, groupWork, idsMade};
 
 // Where a transaction starts and ends, and the number of its BUMP.
-pub(crate) struct Span {
+pub(crate) struct NamedSpan {
     start: usize,
     end: usize,
     anchor: u64,
 }
 
 pub(crate) struct Spans {
-    a: Span,
-    b: Span,
-    c: Span,
-    d: Span,
+    a: NamedSpan,
+    b: NamedSpan,
+    c: NamedSpan,
+    d: NamedSpan,
 }
 
 // A transaction's place, where the next one is read, and whether there can be one.
 struct Reached {
-    span: Span,
+    span: NamedSpan,
     next: Cursor,
     more: bool,
 }
@@ -52,10 +54,10 @@ pub(crate) fn anchor_number(anchor: Anchor) -> u64
 }
 
 // Where no transaction can be read; it lies in no input.
-fn no_span() -> Span
+fn no_span() -> NamedSpan
     ensures { λ r. ⌜ r ≡ noSpan ⌝ }
 {
-    Span {
+    NamedSpan {
         start: 1,
         end: 0,
         anchor: Beef::MAX_BUMPS as u64,
@@ -86,7 +88,7 @@ fn reach(s: &[u8], count: u64, c: Cursor) -> Reached
     let start = tx.start;
     let end = tx.end;
     Reached {
-        span: Span { start, end, anchor },
+        span: NamedSpan { start, end, anchor },
         next: after,
         more: true,
     }
@@ -125,76 +127,20 @@ fn spans_from(s: &[u8], count: u64, start: Cursor, more: bool) -> Group
     }
 }
 
-fn fits(s: &[u8], x: Span) -> bool
-    ensures { λ r. ⌜ (r ≡ true → Inside (now (s .entry)) x) ⌝ }
+// Where it starts and ends, alone.
+fn plain(x: NamedSpan) -> Span
+    ensures { λ r. ⌜ r ≡ plainSpan x ⌝ }
 {
-    if x.end < x.start {
-        return false;
-    }
-    x.end <= s.len()
-}
-
-fn one_by_one(s: &[u8], x: Spans) -> Nodes
-    ensures { λ r. ⌜ ((l : ℕ) → L.node l r ≡ spanId (now (s .entry)) (span l x)) ⌝ }
-{
-    let a = span_hash(s, x.a.start, x.a.end);
-    let b = span_hash(s, x.b.start, x.b.end);
-    let c = span_hash(s, x.c.start, x.c.end);
-    let d = span_hash(s, x.d.start, x.d.end);
-    Nodes { a, b, c, d }
-}
-
-fn four_at_once(s: &[u8], x: Spans) -> Nodes
-    requires { ⌜ Inside (now s) (x .a) ⌝ }
-    requires { ⌜ Inside (now s) (x .b) ⌝ }
-    requires { ⌜ Inside (now s) (x .c) ⌝ }
-    requires { ⌜ Inside (now s) (x .d) ⌝ }
-    ensures { λ r. ⌜ ((l : ℕ) → L.node l r ≡ spanId (now (s .entry)) (span l x)) ⌝ }
-{
-    let a = x.a.start;
-    let b = x.b.start;
-    let c = x.c.start;
-    let d = x.d.start;
-    let a_end = x.a.end;
-    let b_end = x.b.end;
-    let c_end = x.c.end;
-    let d_end = x.d.end;
-    lanes::sha256d4(&s[a..a_end], &s[b..b_end], &s[c..c_end], &s[d..d_end])
+    let start = x.start;
+    let end = x.end;
+    Span { start, end }
 }
 
 // The ids of transactions at these places; at once if there are four.
 fn ids_of(s: &[u8], x: Spans) -> Nodes
     ensures { λ r. ⌜ ((l : ℕ) → L.node l r ≡ spanId (now (s .entry)) (span l x)) ⌝ }
 {
-    let a = x.a;
-    let b = x.b;
-    let c = x.c;
-    let d = x.d;
-    if fits(s, a) {
-        if fits(s, b) {
-            if fits(s, c) {
-                if fits(s, d) {
-                    return four_at_once(s, x);
-                }
-            }
-        }
-    }
-    one_by_one(s, x)
-}
-
-// Four ids from the i-th on, as far as there is room.
-fn set_four(ids: &mut [u8], i: usize, four: Nodes)
-    requires { ⌜ i ≤ MAX-TXS ⌝ }
-    ensures { λ _. ⌜ now (ids .exit) ≡ setFour (now (ids .entry)) i four ⌝ }
-{
-    let a = four.a;
-    let b = four.b;
-    let c = four.c;
-    let d = four.d;
-    format::set_hash(ids, i, a);
-    format::set_hash(ids, i + 1, b);
-    format::set_hash(ids, i + 2, c);
-    format::set_hash(ids, i + 3, d);
+    spv::span_hashes(s, plain(x.a), plain(x.b), plain(x.c), plain(x.d))
 }
 
 // The i-th number, if there is room for it.
@@ -218,7 +164,44 @@ fn set_anchors(anchors: &mut [u64], i: usize, x: Spans)
     set_number(anchors, i + 3, x.d.anchor);
 }
 
-// The ids of n transactions from a place on, end to end, and the numbers of their BUMPs, as far as there is room.
+// The compressions of the id of a transaction at a place.
+fn span_work(x: NamedSpan) -> u64
+    ensures { λ r. ⌜ (r ≡ spanWork x) × (r ≤ 262146) ⌝ }
+{
+    let start = x.start;
+    let end = x.end;
+    if end < start {
+        return 0;
+    }
+    if hash::MAX_INPUT < end - start {
+        return 0;
+    }
+    id_work(end - start)
+}
+
+// The same of the k-th, if it is one of n.
+fn work_below(n: usize, k: usize, x: NamedSpan) -> u64
+    ensures { λ r. ⌜ (r ≡ workBelow n k x) × (r ≤ 262146) ⌝ }
+{
+    if n <= k {
+        return 0;
+    }
+    span_work(x)
+}
+
+// The same of four from the i-th on.
+fn group_work(n: usize, i: usize, x: Spans) -> u64
+    requires { ⌜ i ≤ MAX-TXS ⌝ }
+    ensures { λ r. ⌜ (r ≡ groupWork n i x) × (r ≤ 1048584) ⌝ }
+{
+    let a = work_below(n, i, x.a);
+    let b = work_below(n, i + 1, x.b);
+    let c = work_below(n, i + 2, x.c);
+    let d = work_below(n, i + 3, x.d);
+    a + b + c + d
+}
+
+// The ids of n transactions from a place on, end to end, and the numbers of their BUMPs, as far as there is room. What the ids cost is answered.
 pub(crate) fn write_ids(
     s: &[u8],
     count: u64,
@@ -226,21 +209,24 @@ pub(crate) fn write_ids(
     n: usize,
     ids: &mut [u8],
     anchors: &mut [u64],
-)
+) -> u64
     requires { ⌜ n ≤ MAX-TXS ⌝ }
-    ensures { λ _. ⌜ IdsFrom count (now (s .entry)) (start .at) n (now (ids .exit)) × AnchorsFrom count (now (s .entry)) (start .at) n (now (anchors .exit)) ⌝ }
+    ensures { λ r. ⌜ IdsFrom count (now (s .entry)) (start .at) n (now (ids .exit)) × AnchorsFrom count (now (s .entry)) (start .at) n (now (anchors .exit)) × (r ≡ idsMade count (now (s .entry)) (start .at) n) ⌝ }
 {
     let mut next = start;
     let mut more = true;
     let mut i = 0;
+    let mut work: u64 = 0;
     while i < n {
         let group = spans_from(s, count, next, more);
         let spans = group.spans;
         let four = ids_of(s, spans);
-        set_four(ids, i, four);
+        spv::set_four(ids, i, four);
         set_anchors(anchors, i, spans);
+        work += group_work(n, i, spans);
         next = group.next;
         more = group.more;
         i += 4;
     }
+    work
 }

@@ -10,6 +10,7 @@ use super::parents::is_among;
 use super::parents::place_among;
 use super::pass::Fault;
 use super::sums::outputs_total;
+use super::work::work_made;
 use format::Anchor;
 use format::Beef;
 use format::BeefAnswer;
@@ -42,6 +43,7 @@ ghost use Rattle.bundle.specs.Bundle.{judgeFrom, judgeBeef};
 ghost use Rattle.bundle.specs.BundleHeads.{numbersOf, restsFrom, headStanding, headId, headStands, headRow, headsFrom, Written};
 ghost use Rattle.format.specs.declared.bump.BumpHead.{BumpHead};
 ghost use Rattle.bundle.specs.BundleAnswer.{judgementOf, reachedBy};
+ghost use Rattle.bundle.specs.Work.{judgeWork};
 ghost use Rattle.bundle.specs.Phases.{settled};
 ghost use Rattle.bundle.specs.Pass.{faultOf};
 ghost use Rattle.bundle.specs.Table.{IDS-ROOM, NUMBERS-ROOM};
@@ -56,6 +58,12 @@ pub(crate) const NUMBERS_ROOM: usize = 2560;
 pub enum Verdict {
     Accepted(usize),
     Refused(Rejection),
+}
+
+// A verdict, and the SHA-256 block compressions of judging by the definition.
+pub struct Judged {
+    pub verdict: Verdict,
+    pub work: u64,
 }
 
 // How a transaction stands after the earlier ones: refused, or passed with what its record says of its anchor: 1, the number of its BUMP and its
@@ -166,10 +174,13 @@ fn judge_entry(
     }
 }
 
-fn refused(number: u8) -> Verdict
-    ensures { λ r. ⌜ r ≡ Verdict.Refused (carrying number 0) ⌝ }
+fn refused(number: u8) -> Judged
+    ensures { λ r. ⌜ (r .verdict ≡ Verdict.Refused (carrying number 0)) × (r .work ≡ 0) ⌝ }
 {
-    Verdict::Refused(reject(number))
+    Judged {
+        verdict: Verdict::Refused(reject(number)),
+        work: 0,
+    }
 }
 
 // The refusal of the n-th transaction.
@@ -270,8 +281,8 @@ pub(crate) fn judge_flat(
     room: usize,
     ids: &mut [u8],
     numbers: &mut [u64],
-) -> Verdict
-    ensures { λ r. ⌜ (IDS-ROOM ≤ length (now (ids .entry)) → NUMBERS-ROOM ≤ length (now (numbers .entry)) → judgementOf r (now (ids .exit)) (now (numbers .exit)) ≡ judgeBeef (now (s .entry)) (now (roots .entry)) fee room) ⌝ }
+) -> Judged
+    ensures { λ r. ⌜ (IDS-ROOM ≤ length (now (ids .entry)) → NUMBERS-ROOM ≤ length (now (numbers .entry)) → (judgementOf (r .verdict) (now (ids .exit)) (now (numbers .exit)) ≡ judgeBeef (now (s .entry)) (now (roots .entry)) fee room) × (r .work ≡ judgeWork (now (s .entry)) (now (roots .entry)) fee room)) ⌝ }
 {
     if ids.len() < IDS_ROOM {
         return refused(NO_ROOM);
@@ -288,20 +299,25 @@ pub(crate) fn judge_flat(
     let bundle = format::read_bundle(s, room);
     let answer = bundle.answer;
     match answer {
-        BeefAnswer::Refused(refusal) => Verdict::Refused(reject_reading(refusal)),
+        BeefAnswer::Refused(refusal) => Judged {
+            verdict: Verdict::Refused(reject_reading(refusal)),
+            work: 0,
+        },
         BeefAnswer::Value(head, _) => {
             let bumps = bundle.bumps;
             let count = head.bumps;
             let start = head.entries;
             let n = head.transactions;
             let mut anchors = [0u64; Beef::MAX_TRANSACTIONS];
-            write_ids(s, count as u64, start, n, ids, &mut anchors);
+            let made = write_ids(s, count as u64, start, n, ids, &mut anchors);
             let mut ends = [0u64; ENDS_ROOM];
             climb_bumps(s, roots, bumps, count, n, &anchors, ids, &mut ends);
             let order = in_order(ids, n);
             let verdict = judge_entries(s, count as u64, start, n, &order, &ends, ids, numbers);
             let fault = judge_amounts(s, ids, &order, numbers, reached(verdict), fee);
-            settle(verdict, fault)
+            let verdict = settle(verdict, fault);
+            let work = work_made(verdict, made, &anchors, &ends, n);
+            Judged { verdict, work }
         }
     }
 }

@@ -8,7 +8,9 @@ mod parents;
 mod pass;
 mod sums;
 mod table;
+mod work;
 
+pub use judging::Judged;
 pub use judging::Verdict;
 pub use table::Record;
 pub use table::Row;

@@ -9,7 +9,7 @@ use Rattle.format.specs.declared.level.Kind.{Kind}
 use Rattle.format.specs.declared.level.Kind.the-variants.{Plain, Copy, Client}
 use Rattle.format.specs.declared.level.Leaf.{Leaf}
 use Rattle.format.specs.declared.level.Layout.{Layout}
-use Rattle.format.specs.Parse.{got, bad, otherwise, many, times}
+use Rattle.format.specs.Parse.{Parse, got, bad, otherwise, many, times}
 use Rattle.format.specs.ParseLaws.{many-told, onward-told, otherwise-got, otherwise-bad}
 use Rattle.format.specs.Field.{varint}
 use Rattle.path.specs.Path.{bumpPath}
@@ -50,6 +50,18 @@ clients-same σ τ h s w [] f = refl
 clients-same σ τ h s w (leaf ∷ leaves) f =
     ap (λ (x : Result Target). follow x (λ w′. clients σ h s w′ leaves)) (after-same σ τ h s w (leaf .offset) (leaf .kind) f)
     ∙ follow-same (afterLeaf τ h s w leaf) (λ w′. clients σ h s w′ leaves) (λ w′. clients τ h s w′ leaves) (λ w′. clients-same σ τ h s w′ leaves f)
+
+in-same : (σ τ : Siblings) (h : ℕ) (s : List ℕ) (n : ℕ) (w : Target) → ((k q : ℕ) → k < h → σ k q ≡ τ k q) → ((next : ℕ) (w′ : Target) → clientsIn σ h s n next w′ ≡ clientsIn τ h s n next w′) → (x : Parse Leaf)
+    → otherwise x (refused (carrying NOT-LISTED 0)) (λ leaf next. follow (afterLeaf σ h s w leaf) (λ w′. clientsIn σ h s n next w′)) ≡ otherwise x (refused (carrying NOT-LISTED 0)) (λ leaf next. follow (afterLeaf τ h s w leaf) (λ w′. clientsIn τ h s n next w′))
+in-same σ τ h s n w f g (got leaf next) =
+    ap (λ (x : Result Target). follow x (λ w′. clientsIn σ h s n next w′)) (after-same σ τ h s w (leaf .offset) (leaf .kind) f)
+    ∙ follow-same (afterLeaf τ h s w leaf) (λ w′. clientsIn σ h s n next w′) (λ w′. clientsIn τ h s n next w′) (λ w′. g next w′)
+in-same σ τ h s n w f g (bad number place) = refl
+
+pub clients-in-same : (σ τ : Siblings) (h : ℕ) (s : List ℕ) (n at : ℕ) (w : Target) → ((k q : ℕ) → k < h → σ k q ≡ τ k q) → clientsIn σ h s n at w ≡ clientsIn τ h s n at w
+unfolding clientsIn
+clients-in-same σ τ h s zero at w f = refl
+clients-in-same σ τ h s (suc n) at w f = in-same σ τ h s n w f (λ next w′. clients-in-same σ τ h s n next w′ f) (looseLeaf Layout.Bump s at)
 
 -- leaves that were read
 pub clients-in : (σ : Siblings) (h : ℕ) (s : List ℕ) (n at : ℕ) (w : Target) {l : List Leaf} {q : ℕ} → times (looseLeaf Layout.Bump) n s at ≡ got l q → clientsIn σ h s n at w ≡ clients σ h s w l

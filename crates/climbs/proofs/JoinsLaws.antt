@@ -1,8 +1,8 @@
 -- The pass makes at most two joins for each row and layer, and one for each leaf.
-use Prim.Native.Nat.{ℕ, zero, suc, _+_, _-_, _*_, _/_, _≤_}
-use native.Mathlib.Nat.{add-mul, mul-suc, mul-assoc, mul-le-mul-right, zero-mul}
+use Prim.Native.Nat.{ℕ, suc, _+_, _-_, _*_, _≤_}
+use native.Mathlib.Nat.{add-mul, mul-suc, mul-assoc, zero-mul}
 use native.Mathlib.Omega.{arith}
-use mathlib.Core.Path.{_≡_, refl, sym, ap, _∙_}
+use mathlib.Core.Path.{_≡_, refl, ap, _∙_}
 use mathlib.Core.Bool.{Bool, true, false, _&&_, _||_}
 use mathlib.Core.List.{List, []}
 use lib.ListN.{getD}
@@ -89,14 +89,15 @@ module _ (s : List ℕ) (levels : List (List Leaf)) where
       rw all
       (sum-joined (rows * suc k) (l * k) (r * k) l r a b c n (full k (2 * q)) (full k (2 * q + 1)) (full (suc k) q) (toJoin w (suc k) q want) (hasValue (joinOf w (suc k) q)) sum left right (omega arith) (two-full k q) (join-leaves k q))
 
-  -- two joins at most for each row and layer, and one for each leaf
-  pub pass-few : (h rows joins : ℕ) → Pass (writtenBy s (findIn levels)) h rows joins → joins ≤ 2 * (rows * h) + leavesIn levels (suc h)
+  -- two joins at most for each row and layer, one more for each layer, and one for each leaf
+  pub pass-few : (h rows joins : ℕ) → Pass (writtenBy s (findIn levels)) h rows joins → joins ≤ (2 * rows + 1) * h + leavesIn levels (suc h)
   unfolding w full
   pass-few h rows joins p =
       let t = visit-few h 0 rows (p .tree) false (p .visit) in
       let u = below-all levels h 0 (suc h) in
       let f = p .few in
-      let m : rows / 4 * (4 * h) ≡ rows / 4 * 4 * h = sym (mul-assoc (rows / 4) 4 h) in
-      let g : rows / 4 * 4 * h ≤ rows * h = mul-le-mul-right h (omega arith) in
+      let m : (rows + 1) * h ≡ rows * h + 1 * h = add-mul rows 1 h in
+      let n : (2 * rows + 1) * h ≡ 2 * rows * h + 1 * h = add-mul (2 * rows) 1 h in
+      let g : 2 * rows * h ≡ 2 * (rows * h) = mul-assoc 2 rows h in
       let e = p .all in
       omega arith

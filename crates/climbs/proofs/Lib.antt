@@ -1,3 +1,4 @@
+pub mod LookUpLaws
 pub mod RowLaws
 pub mod PassLaws
 pub mod Visits
@@ -8,4 +9,8 @@ pub mod ProofsLaws
 pub mod ClientsShapesLaws
 pub mod ClientsLaws
 pub mod WaitingLaws
+pub mod ReachLaws
 pub mod JoinsLaws
+pub mod CountLaws
+pub mod CountEndsLaws
+pub mod SpentLaws

@@ -2,14 +2,13 @@
 use Prim.Native.Nat.{ℕ, zero, suc, _+_, _-_, _*_, _/_, _%_, _^_, _≤_, _<_}
 use native.Mathlib.Nat.{le-trans, le-refl}
 use native.Mathlib.Omega.{arith}
-use mathlib.Core.Path.{_≡_, refl, sym, ap, ap₂, _∙_}
-use mathlib.Core.Bool.{Bool, true, false, _&&_, _||_}
+use mathlib.Core.Path.{_≡_, refl, sym, ap, ap₂, _∙_, subst}
+use mathlib.Core.Bool.{Bool, true, false}
 use mathlib.Core.List.{List, _++_}
 use lib.ListN.{length, getD}
 use lib.Dec.{eqb, ltb}
 use lib.Pow.{shr-mono}
 use borrow.Author.Tests.{eq-eqb, ne-eqb, eqb-true, eqb-false, ltb-true, ltb-false}
-use Rattle.format.specs.Parse.{pick}
 use Rattle.format.specs.declared.level.Kind.{Kind}
 use Rattle.format.specs.declared.level.Kind.the-variants.{Plain, Copy, Client}
 use Rattle.path.specs.declared.path.Found.{Found}
@@ -23,16 +22,18 @@ use Rattle.hash.specs.Sha256.{sha256d}
 use Rattle.hash.specs.Sha256Laws.{sha256d-length}
 use Rattle.format.specs.Bytes.{hashAt}
 use Rattle.spv.specs.Climb.{odd, step}
-use Rattle.spv.specs.Shapes.{nodeOf, siblingBy, siblingOf, joinedOf}
+use Rattle.spv.specs.Shapes.{siblingBy, siblingOf, joinedOf}
 use Rattle.spv.specs.ShapesLaws.{sibling-node}
 use Rattle.spv.specs.declared.climb.Joined.{Joined}
 use Rattle.spv.specs.declared.node.Node.{Node}
-use Rattle.spv.specs.declared.node.NodeKind.{NodeKind}
 use Rattle.spv.specs.declared.node.NodeKind.the-variants.{Value, Copied, Absent}
 use Rattle.climbs.specs.declared.pass.Known.{Known}
-use Rattle.climbs.specs.Row.{startOf, stateOf, Rows, Sorted, Under, NotAt, Reached, Moved, statesAfter, hashesAfter}
+use Rattle.climbs.specs.Row.{startOf, stateOf, Sorted, Under, NotAt, Reached, Moved, statesAfter, hashesAfter}
 use Rattle.climbs.proofs.RowLaws.{half-above, moved-none, moved-on, advance-moves}
-use Rattle.climbs.specs.Pass.{plain, joinChildren, isWritten, unknownNode, Seen, besideOf, firstKnown, Feeds, Stepped, AllStepped}
+use Rattle.climbs.specs.Pass.{plain, joinChildren, isWritten, unknownNode, Seen, besideOf, firstKnown, Made, Feeds, Priced, Charged, Stepped, AllStepped}
+use Rattle.climbs.specs.Count.{costOf}
+use Rattle.climbs.specs.Spent.{costsAfter}
+use Rattle.climbs.proofs.SpentLaws.{spent-none, spent-on, advance-spends}
 
 -- ---- values
 
@@ -77,6 +78,16 @@ plain-none absent e = refl
 pub children-none : (l r r′ : Sibling) → hasValue l ≡ false → joinChildren l r ≡ joinChildren l r′
 unfolding joinChildren joinBoth
 children-none l r r′ e = rw (plain-none l e)
+
+pub children-valued : (l r : Sibling) → hasValue (joinChildren l r) ≡ true → hasValue l ≡ true
+unfolding joinChildren hasValue
+children-valued l r e = go (hasValue l) refl
+  where
+    go : (t : Bool) → hasValue l ≡ t → hasValue l ≡ true
+    go true f = f
+    go false f =
+        let x : hasValue (joinChildren l r) ≡ false = ap hasValue (ap (λ (y : Sibling). joinBoth y (plain y r)) (plain-none l f) ∙ both-left absent (plain absent r) refl) in
+        let z : _≡_ {A = ℕ} 0 1 = cc in absurd (omega arith)
 
 -- what is written stands for itself, and where nothing is the join does
 by-written : (a join : Sibling) → isWritten a ≡ true → valueBy a copied join ≡ a
@@ -161,33 +172,41 @@ module _ (j left : ℕ) (l r : Known) where
   unfolding besideOf
   beside-neither n m = rw (ne-eqb j left n, ne-eqb j (left + 1) m)
 
--- what is known beside a row is its sibling
-pub feeds-beside : (σ : Siblings) (layer left j : ℕ) (l r : Known) → Feeds σ layer left l r → besideOf j left l r .known ≡ true → siblingOf (besideOf j left l r .node) ≡ σ layer (siblingPosition j)
+-- what is known beside a row is known of its sibling
+beside-holds : (left j : ℕ) (l r : Known) (P : Known → ℕ → Type 0) → left % 2 ≡ 0 → (l .known ≡ true → P l left) → (r .known ≡ true → P r (left + 1)) → besideOf j left l r .known ≡ true → P (besideOf j left l r) (siblingPosition j)
 unfolding unknownNode
-feeds-beside σ layer left j l r f e = go (eqb j left) refl
+beside-holds left j l r P ev first second e = go (eqb j left) refl
   where
-    other : (t : Bool) → eqb j (left + 1) ≡ t → (j ≡ left → ⊥) → siblingOf (besideOf j left l r .node) ≡ σ layer (siblingPosition j)
+    known : (x : Known) → besideOf j left l r ≡ x → x .known ≡ true
+    known x b = ap (λ (y : Known). y .known) (sym b) ∙ e
+
+    at : (x : Known) (q : ℕ) → besideOf j left l r ≡ x → siblingPosition j ≡ q → P x q → P (besideOf j left l r) (siblingPosition j)
+    at x q b p v = subst (λ (y : Known). P y (siblingPosition j)) (sym b) (subst (P x) (sym p) v)
+
+    other : (t : Bool) → eqb j (left + 1) ≡ t → (j ≡ left → ⊥) → P (besideOf j left l r) (siblingPosition j)
     other true g n =
         let z : j ≡ left + 1 = eqb-true j (left + 1) g in
-        let ev = f .even in
         let b = beside-right j left l r z in
         let o : siblingPosition j ≡ j - 1 = sibling-odd j (omega arith) in
-        let p : siblingPosition j ≡ left = omega arith in
-        rw (b, p) (f .first (ap (λ (x : Known). x .known) (sym b) ∙ e))
+        at l left b (omega arith) (first (known l b))
     other false g n =
         let b = beside-neither j left l r n (eqb-false j (left + 1) g) in
-        let k : unknownNode .known ≡ true = ap (λ (x : Known). x .known) (sym b) ∙ e in
+        let k : unknownNode .known ≡ true = known unknownNode b in
         let z : _≡_ {A = ℕ} 0 1 = cc in absurd (omega arith)
 
-    go : (t : Bool) → eqb j left ≡ t → siblingOf (besideOf j left l r .node) ≡ σ layer (siblingPosition j)
+    go : (t : Bool) → eqb j left ≡ t → P (besideOf j left l r) (siblingPosition j)
     go true g =
         let z : j ≡ left = eqb-true j left g in
-        let ev = f .even in
         let b = beside-left j left l r z in
         let o : siblingPosition j ≡ j + 1 = sibling-even j (λ q. omega arith) in
-        let p : siblingPosition j ≡ left + 1 = omega arith in
-        rw (b, p) (f .second (ap (λ (x : Known). x .known) (sym b) ∙ e))
+        at r (left + 1) b (omega arith) (second (known r b))
     go false g = other (eqb j (left + 1)) refl (eqb-false j left g)
+
+pub feeds-beside : (σ : Siblings) (layer left j : ℕ) (l r : Known) → Feeds σ layer left l r → besideOf j left l r .known ≡ true → siblingOf (besideOf j left l r .node) ≡ σ layer (siblingPosition j)
+feeds-beside σ layer left j l r f e = beside-holds left j l r (λ (x : Known) (q : ℕ). siblingOf (x .node) ≡ σ layer q) (f .even) (f .first) (f .second) e
+
+priced-beside : (w : Siblings) (layer left j : ℕ) (l r : Known) → left % 2 ≡ 0 → Priced w layer left l r → besideOf j left l r .known ≡ true → besideOf j left l r .joins ≡ costOf w layer (siblingPosition j)
+priced-beside w layer left j l r ev p e = beside-holds left j l r (λ (x : Known) (q : ℕ). x .joins ≡ costOf w layer q) ev (p .first) (p .second) e
 
 -- ---- rows in order
 
@@ -278,24 +297,10 @@ module _ (w : Siblings) (k q : ℕ) (want : Bool) (r : Known) where
         node = λ f. let z : _≡_ {A = ℕ} 0 1 = cc in absurd (omega arith);
       }
 
-module _ (s : List ℕ) (find : ℕ → ℕ → Found) (k q : ℕ) (want : Bool) (r : Known) (asked : want ≡ true) where
-  pub seen-here : (kind : Kind) → find k q ≡ Here kind → r .known ≡ true → siblingOf (r .node) ≡ written s kind → Seen (writtenBy s find) k q want r
-  unfolding sibling
-  seen-here kind e g n =
-      record {
-        unasked = λ f. let z : _≡_ {A = ℕ} 0 1 = cc in absurd (omega arith);
-        told = λ f. g ∙ sym (written-here s (find k q) kind e);
-        node = λ f. n ∙ sym (ap (sibling s) e);
-      }
-
-  pub seen-missing : find k q ≡ Missing → r ≡ unknownNode → Seen (writtenBy s find) k q want r
-  unfolding unknownNode
-  seen-missing e g =
-      record {
-        unasked = λ f. let z : _≡_ {A = ℕ} 0 1 = cc in absurd (omega arith);
-        told = λ f. ap (λ (x : Known). x .known) g ∙ sym (written-missing s (find k q) e .0);
-        node = λ f. ap (λ (x : Known). siblingOf (x .node)) g ∙ sibling-node absent ∙ sym (written-missing s (find k q) e .1);
-      }
+module _ (w : Siblings) (k q : ℕ) (want : Bool) (r : Known) (asked : want ≡ true) where
+  pub seen-looked : siblingOf (r .node) ≡ w k q → r .known ≡ isWritten (siblingOf (r .node)) → Seen w k q want r
+  seen-looked e g =
+      record { unasked = λ f. let z : _≡_ {A = ℕ} 0 1 = cc in absurd (omega arith); told = λ f. g ∙ ap isWritten e; node = λ f. e }
 
 module _ (a b : Known) where
   pub first-yes : a .known ≡ true → firstKnown a b ≡ a
@@ -345,7 +350,7 @@ module _ (starts states hashes : List ℕ) (row layer left : ℕ) (l r : Known) 
           advance-moves σ starts states hashes row layer t parent few here inside room
           (told ∙ ap₂ (λ (y : Sibling) (n : ℕ). joinedOf (step y (odd n) (hashAt hashes (32 * row)))) (sym e) ej) made (ap length made ∙ sha256d-length (t .left ++ t .right))
 
-      pub stepped-on : Stepped starts states hashes states₃ hashes₃ row layer left l r
+      stepped-on : Stepped starts states hashes states₃ hashes₃ row layer left l r
       stepped-on =
           record {
             moved = λ σ f.
@@ -353,6 +358,30 @@ module _ (starts states hashes : List ℕ) (row layer left : ℕ) (l r : Known) 
             grows = move (λ k q. siblingOf (x .node)) refl .0 .grows;
             past = λ f b. move (λ k q. siblingOf (x .node)) refl .1;
           }
+
+      -- and paid for it
+      charged-on : (costs : List ℕ) → Charged starts states hashes costs states₃ hashes₃ (costsAfter states costs row layer (t .kind) (x .joins)) layer left l r
+      unfolding Charged
+      charged-on costs w f p =
+          let k : besideOf i₃ left l r .known ≡ true = ap (λ (z : Known). z .known) (sym at) ∙ known in
+          let e : siblingOf (x .node) ≡ workedOut w layer (siblingPosition i₃) = ap (λ (z : Known). siblingOf (z .node)) at ∙ feeds-beside (workedOut w) layer left i₃ l r f k in
+          advance-spends w starts states hashes costs row layer (x .joins) t parent few here inside room
+          (told ∙ ap₂ (λ (y : Sibling) (n : ℕ). joinedOf (step y (odd n) (hashAt hashes (32 * row)))) e ej) made (ap length made ∙ sha256d-length (t .left ++ t .right))
+          (ap (λ (z : Known). z .joins) at ∙ priced-beside w layer left i₃ l r (f .even) p k)
+
+      pub stepped-both : (states′ hashes′ costs costs′ : List ℕ) → states′ ≡ states₃ → hashes′ ≡ hashes₃ → costs′ ≡ costsAfter states costs row layer (t .kind) (x .joins)
+          → Stepped starts states hashes states′ hashes′ row layer left l r × Charged starts states hashes costs states′ hashes′ costs′ layer left l r
+      stepped-both states′ hashes′ costs costs′ es eh ec = rw (es, eh, ec) (stepped-on, charged-on costs)
+
+module _ (starts : List ℕ) (layer left : ℕ) (l r : Known) where
+  pub charged-none : (states hashes costs : List ℕ) → Charged starts states hashes costs states hashes costs layer left l r
+  unfolding Charged
+  charged-none states hashes costs w f p = spent-none w (layer + 1) starts states hashes costs
+
+  -- one step after the other
+  pub charged-both : (s h c s₁ h₁ c₁ s₂ h₂ c₂ : List ℕ) → Charged starts s h c s₁ h₁ c₁ layer left l r → Charged starts s₁ h₁ c₁ s₂ h₂ c₂ layer left l r → Charged starts s h c s₂ h₂ c₂ layer left l r
+  unfolding Charged
+  charged-both s h c s₁ h₁ c₁ s₂ h₂ c₂ a b w f p = spent-on w (layer + 1) starts s h c s₁ h₁ c₁ s₂ h₂ c₂ (a w f p) (b w f p)
 
 -- ---- all rows of a range
 
@@ -396,26 +425,15 @@ module _ (starts order : List ℕ) (layer left lo : ℕ) (l r : Known) where
   pub all-end : (a x b y : List ℕ) (i hi : ℕ) → i ≡ hi → AllStepped starts order a x b y layer left lo i l r → AllStepped starts order a x b y layer left lo hi l r
   all-end a x b y i hi e v = rw e at v
 
--- two ranges, one after the other
-pub all-both : (starts order : List ℕ) (layer left lo m hi : ℕ) (l r : Known) (a x b y c z : List ℕ) → lo ≤ m → m ≤ hi → AllStepped starts order a x b y layer left lo m l r → AllStepped starts order b y c z layer left m hi l r
-    → AllStepped starts order a x c z layer left lo hi l r
-unfolding Reached
-all-both starts order layer left lo m hi l r a x b y c z k k′ f g =
-    record {
-      moved = λ σ e. moved-on σ (layer + 1) starts a x b y c z (f .moved σ e) (g .moved σ e);
-      grows = λ n. le-trans (f .grows n) (g .grows n);
-      past = λ e u i p q. go e u i p q (ltb i m) refl;
-    }
-  where
-    go : ((i : ℕ) → lo ≤ i → i < hi → stateOf order a i ≡ layer → besideOf (startOf starts order i / 2 ^ layer) left l r .known ≡ true) → ((i : ℕ) → lo ≤ i → i < hi → layer ≤ stateOf order a i)
-        → (i : ℕ) → lo ≤ i → i < hi → (t : Bool) → ltb i m ≡ t → layer + 1 ≤ stateOf order c i
-    go e u i p q true h =
-        let n = ltb-true i m h in
-        le-trans (f .past (λ j p′ q′. e j p′ (le-trans q′ k′)) (λ j p′ q′. u j p′ (le-trans q′ k′)) i p n) (g .grows (getD order i 0))
-    go e u i p q false h =
-        g .past
-        (λ j p′ q′ s.
-        let w = f .grows (getD order j 0) in
-        let v = u j (le-trans k p′) q′ in
-        e j (le-trans k p′) q′ (omega arith))
-        (λ j p′ q′. le-trans (u j (le-trans k p′) q′) (f .grows (getD order j 0))) i (ltb-false i m h) q
+-- ---- the left child's value, as it was found first or again
+
+module _ (l l′ r : Known) (e : l ≡ l′) where
+  pub stepped-known : (starts order s h c s′ h′ c′ : List ℕ) (layer left lo hi : ℕ) → AllStepped starts order s h s′ h′ layer left lo hi l r × Charged starts s h c s′ h′ c′ layer left l r
+      → AllStepped starts order s h s′ h′ layer left lo hi l′ r × Charged starts s h c s′ h′ c′ layer left l′ r
+  stepped-known starts order s h c s′ h′ c′ layer left lo hi v = subst (λ (x : Known). AllStepped starts order s h s′ h′ layer left lo hi x r × Charged starts s h c s′ h′ c′ layer left x r) e v
+
+  pub made-known : (x : Known) → Made l r x → Made l′ r x
+  made-known x v = subst (λ (y : Known). Made y r x) e v
+
+pub made-none : (l r x : Known) (need : Bool) → need ≡ false → need ≡ true → Made l r x
+made-none l r x need e f = let z : _≡_ {A = ℕ} 0 1 = cc in absurd (omega arith)

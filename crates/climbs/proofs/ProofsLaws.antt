@@ -1,18 +1,19 @@
 -- Laws of proofs in rows: all rows climbed say what each id's own proof says.
-use Prim.Native.Nat.{ℕ, zero, suc, _+_, _*_, _/_, _%_, _^_, _≤_, _<_}
+use Prim.Native.Nat.{ℕ, zero, suc, _+_, _*_, _/_, _^_, _≤_, _<_}
 use native.Mathlib.Nat.{div-one}
 use native.Mathlib.Omega.{arith}
 use native.Mathlib.Numerals.{add-one}
 use mathlib.Core.Path.{_≡_, refl, sym, ap, ap₂, _∙_, subst}
 use mathlib.Core.Bool.{Bool, true, false, _&&_}
 use mathlib.Core.List.{List, [], _∷_, _++_, append-assoc}
-use lib.ListN.{length, getD, take, drop, set, replicate, length-replicate, length-append, length-drop, length-set, take-append-drop, List·getD-append}
+use lib.ListN.{length, getD, take, drop, set, replicate, length-replicate, length-append, length-drop, take-append-drop, List·getD-append}
 use lib.Seq.{ext-getD, getD-set-same, getD-set-other, length-take-le, take-all, take-append-le, drop-append-le, take-at, drop-at}
 use lib.Dec.{eqb, ltb, leb}
 use borrow.Author.Tests.{lt-ltb, le-ltb, lt-leb, le-leb, leb-true, eq-eqb, ne-eqb, eqb-true, eqb-false}
 use Rattle.hash.specs.Sha256.{sha256d}
 use Rattle.hash.specs.Sha256Laws.{sha256d-length}
 use Rattle.format.specs.declared.level.Layout.{Layout}
+use Rattle.format.specs.declared.level.Leaf.{Leaf}
 use Rattle.format.specs.Bytes.{setHash, hashAt}
 use Rattle.format.specs.BytesLaws.{set-inside, hash-there, hash-at-length}
 use Rattle.format.specs.Parse.{pick}
@@ -21,7 +22,7 @@ use Rattle.path.specs.declared.path.Form.{Form}
 use Rattle.path.specs.declared.path.Path.{Path}
 use Rattle.path.specs.declared.path.Start.{Start}
 use Rattle.path.specs.declared.path.Start.the-variants.{At, Nowhere}
-use Rattle.path.specs.Path.{startIn}
+use Rattle.path.specs.Path.{leafIn, startIn}
 use Rattle.spv.specs.Result.{Result, accepted, refused, carrying, atSibling}
 use Rattle.spv.specs.Climb.{Siblings, siblingPosition, odd, Step, joins, fails, step, Ascent, ascendBy, ascend, endBy, endOf}
 use Rattle.spv.specs.ClimbLaws.{ascend-joins, ascend-fails, ascend-same}
@@ -31,15 +32,20 @@ use Rattle.spv.specs.Readings.{starting, pathReading}
 use Rattle.spv.specs.Rows.{rows}
 use Rattle.spv.specs.RowsLaws.{rows-length, rows-at}
 use Rattle.spv.specs.Shapes.{acceptedOf, provedOf}
-use Rattle.spv.specs.Siblings.{writtenBy, findAt, pathSiblings}
+use Rattle.spv.specs.Siblings.{sibling, writtenBy, findIn, findAt, pathSiblings}
+use Rattle.spv.specs.SiblingsLaws.{LeadsTo}
 use Rattle.spv.specs.Values.{workedOut}
 use Rattle.spv.specs.declared.rejection.Rejection.{Rejection}
 use Rattle.climbs.specs.Row.{refusalOf, leads, leadsAt, came, cameAt}
 use Rattle.climbs.specs.Together.{Levels, Climbed}
-use Rattle.climbs.specs.Begun.{begunRow, First, closedState, closedHash, closedHashes, Closed}
-use Rattle.climbs.specs.Proofs.{isBump, hasRoom, fits, rootBy, rootIn, startRow, stateRow, rootRow, endToEnd, idAt, startsOf, statesOf, rootsOf, provedAt}
+use Rattle.climbs.specs.Begun.{begunRow, First, closedState, closedHash, closedHashes, Closed, countedOf}
+use Rattle.climbs.specs.Proofs.{isBump, hasRoom, fits, rootBy, rootIn, startRow, stateRow, rootRow, endToEnd, idAt, joinsIn, startsOf, statesOf, rootsOf, costsOf, provedAt}
 use Rattle.climbs.proofs.RowLaws.{half-above, fails-number, refusal-at, refusal-none, leads-start}
-use Rattle.climbs.proofs.TogetherLaws.{path-worked}
+use Rattle.climbs.proofs.TogetherLaws.{leaf-bump, path-worked}
+use Rattle.climbs.specs.Count.{startCost}
+use Rattle.climbs.specs.Spent.{U64, owes, owesAt, Settled}
+use Rattle.climbs.proofs.CountLaws.{start-same}
+use Rattle.climbs.proofs.SpentLaws.{owes-start, start-fits}
 
 -- ---- lists by their rows
 
@@ -263,6 +269,11 @@ unfolding startRow begunRow climbFrom leads
 leads-begun σ h id (At i) = leads-start σ h i id
 leads-begun σ h id Nowhere = ap refused (refusal-none 0)
 
+owes-begun : (w : Siblings) (h : ℕ) (id : List ℕ) (x : Start) → owes w h (startRow x) (begunRow x) id ≡ startCost w h id x
+unfolding startRow begunRow startCost owes
+owes-begun w h id (At i) = owes-start w h i id
+owes-begun w h id Nowhere = refl
+
 climb-root : (σ : Siblings) (h : ℕ) (id : List ℕ) (x : Start) → climbFrom σ h id x ≡ rootBy (prove (starting σ h id x))
 unfolding climbFrom starting proveBy settle hits rootBy
 climb-root σ h id Nowhere = refl
@@ -306,6 +317,29 @@ module _ (s : List ℕ) (path : Path) (v : Levels path) (starts states hashes st
   proved-roots e =
       hashes-rows (λ i. rootRow (rootIn s path (idAt hashes i))) n hashes₃ e
       (λ i b. closed .hash i b ∙ closed-hash (getD starts i 0) (getD states₂ i 0) (hashAt hashes₂ (32 * i)) ∙ ap rootRow (came-root i b))
+
+-- and have paid for it
+module _ (s : List ℕ) (path : Path) (v : Levels path) (starts states hashes costs₁ costs₂ : List ℕ) (n m : ℕ) (all : length starts ≡ n) (some : m ≤ n) (lent : length costs₁ ≡ m) (kept : length costs₂ ≡ m)
+    (fs : First (λ i. startRow (startIn s path (idAt hashes i))) n starts) (fb : First (λ i. begunRow (startIn s path (idAt hashes i))) n states) (none : First (λ _. 0) m costs₁)
+    (settled : Settled (writtenBy s (findAt Layout.Bump s (path .at))) (path .layers) starts states hashes costs₁ costs₂) (wide : (i : ℕ) → getD costs₂ i 0 < U64) where
+  cost-row : (i : ℕ) → i < m → getD costs₂ i 0 ≡ joinsIn s path (idAt hashes i)
+  unfolding Settled First owesAt joinsIn
+  cost-row i b =
+      let w : Siblings = writtenBy s (findAt Layout.Bump s (path .at)) in
+      let x : Start = startIn s path (idAt hashes i) in
+      let h : ℕ = path .layers in
+      let e = settled i (omega arith) (omega arith) in
+      let z = none i b in
+      let o : owes w h (getD starts i 0) (getD states i 0) (idAt hashes i) ≡ startCost w h (idAt hashes i) x =
+      ap₂ (λ (a d : ℕ). owes w h a d (idAt hashes i)) (fs i (omega arith)) (fb i (omega arith)) ∙ owes-begun w h (idAt hashes i) x in
+      let f = start-fits w h (idAt hashes i) x (v .few) in
+      let g = wide i in
+      let r : getD costs₂ i 0 ≡ startCost w h (idAt hashes i) x = omega arith in
+      r ∙ start-same w (writtenBy s (leafIn s path)) h (λ k q d. ap (sibling s) (sym (leaf-bump s path v k q d))) (idAt hashes i) x
+
+  pub proved-costs : costs₂ ≡ rows (λ i. joinsIn s path (idAt hashes i)) m
+  unfolding First
+  proved-costs = first-rows (λ i. joinsIn s path (idAt hashes i)) m costs₂ kept cost-row
 
 -- ---- what the rows say
 
@@ -379,25 +413,25 @@ unfolding endToEnd
 end-below f g zero e = refl
 end-below f g (suc n) e = ap₂ _++_ (end-below f g n (λ i b. e i (omega arith))) (e n (omega arith))
 
+id-taken : (path : Path) (starts states hashes : List ℕ) → fits path (length starts) (length states) (length hashes) ≡ true → (i : ℕ) → i < length starts → idAt (take (32 * length starts) hashes) i ≡ idAt hashes i
+id-taken path starts states hashes fit i b =
+    let v = fits-told path (length starts) (length states) (length hashes) fit in
+    let r = v .room in
+    let n = length-take-le (32 * length starts) hashes r in
+    sym (front (take (32 * length starts) hashes) (drop (32 * length starts) hashes) (32 * i) (omega arith)) ∙ ap (λ (l : List ℕ). hashAt l (32 * i)) (take-append-drop (32 * length starts) hashes)
+
 module _ (s : List ℕ) (path : Path) (starts states hashes starts′ states′ hashes′ : List ℕ) (fit : fits path (length starts) (length states) (length hashes) ≡ true)
     (es : starts′ ≡ rows (λ i. startRow (startIn s path (idAt (take (32 * length starts) hashes) i))) (length starts))
     (et : states′ ≡ rows (λ i. stateRow (rootIn s path (idAt (take (32 * length starts) hashes) i))) (length starts))
     (eh : hashes′ ≡ endToEnd (λ i. rootRow (rootIn s path (idAt (take (32 * length starts) hashes) i))) (length starts)) where
-  id-taken : (i : ℕ) → i < length starts → idAt (take (32 * length starts) hashes) i ≡ idAt hashes i
-  id-taken i b =
-      let v = fits-told path (length starts) (length states) (length hashes) fit in
-      let r = v .room in
-      let n = length-take-le (32 * length starts) hashes r in
-      sym (front (take (32 * length starts) hashes) (drop (32 * length starts) hashes) (32 * i) (omega arith)) ∙ ap (λ (l : List ℕ). hashAt l (32 * i)) (take-append-drop (32 * length starts) hashes)
-
   pub all-proved : (starts′ ≡ startsOf s path starts states hashes) × (states′ ++ drop (length starts) states ≡ statesOf s path starts states hashes) × (hashes′ ++ drop (32 * length starts) hashes ≡ rootsOf s path starts states hashes)
   unfolding startsOf statesOf rootsOf
   all-proved =
       let f : ℕ → List ℕ = (λ i. idAt (take (32 * length starts) hashes) i) in
       let g : ℕ → List ℕ = (λ i. idAt hashes i) in (
-        rw fit (es ∙ rows-below (λ i. startRow (startIn s path (f i))) (λ i. startRow (startIn s path (g i))) (length starts) (λ i b. ap (λ (x : List ℕ). startRow (startIn s path x)) (id-taken i b))),
-        rw fit (ap (λ (l : List ℕ). l ++ drop (length starts) states) (et ∙ rows-below (λ i. stateRow (rootIn s path (f i))) (λ i. stateRow (rootIn s path (g i))) (length starts) (λ i b. ap (λ (x : List ℕ). stateRow (rootIn s path x)) (id-taken i b)))),
-        rw fit (ap (λ (l : List ℕ). l ++ drop (32 * length starts) hashes) (eh ∙ end-below (λ i. rootRow (rootIn s path (f i))) (λ i. rootRow (rootIn s path (g i))) (length starts) (λ i b. ap (λ (x : List ℕ). rootRow (rootIn s path x)) (id-taken i b)))),
+        rw fit (es ∙ rows-below (λ i. startRow (startIn s path (f i))) (λ i. startRow (startIn s path (g i))) (length starts) (λ i b. ap (λ (x : List ℕ). startRow (startIn s path x)) (id-taken path starts states hashes fit i b))),
+        rw fit (ap (λ (l : List ℕ). l ++ drop (length starts) states) (et ∙ rows-below (λ i. stateRow (rootIn s path (f i))) (λ i. stateRow (rootIn s path (g i))) (length starts) (λ i b. ap (λ (x : List ℕ). stateRow (rootIn s path x)) (id-taken path starts states hashes fit i b)))),
+        rw fit (ap (λ (l : List ℕ). l ++ drop (32 * length starts) hashes) (eh ∙ end-below (λ i. rootRow (rootIn s path (f i))) (λ i. rootRow (rootIn s path (g i))) (length starts) (λ i b. ap (λ (x : List ℕ). rootRow (rootIn s path x)) (id-taken path starts states hashes fit i b)))),
       )
 
 pub none-proved : (s : List ℕ) (path : Path) (starts states hashes : List ℕ) → fits path (length starts) (length states) (length hashes) ≡ false
@@ -405,7 +439,70 @@ pub none-proved : (s : List ℕ) (path : Path) (starts states hashes : List ℕ)
 unfolding startsOf statesOf rootsOf
 none-proved s path starts states hashes e = (rw e, rw e, rw e)
 
+-- ---- rows that are counted
+
+module _ (count costs : ℕ) where
+  pub counted-all : count ≤ costs → countedOf count costs ≡ count
+  unfolding countedOf
+  counted-all b = rw (le-leb count costs b)
+
+  pub counted-none : costs < count → countedOf count costs ≡ 0
+  unfolding countedOf
+  counted-none b = rw (lt-leb count costs b)
+
+  pub counted-most : countedOf count costs ≤ count
+  unfolding countedOf
+  counted-most = go (leb count costs)
+    where
+      go : (t : Bool) → pick t count 0 ≤ count
+      go true = omega arith
+      go false = omega arith
+
+  pub counted-fits : countedOf count costs ≤ costs
+  unfolding countedOf
+  counted-fits = go (leb count costs) refl
+    where
+      go : (t : Bool) → leb count costs ≡ t → pick t count 0 ≤ costs
+      go true e = leb-true count costs e
+      go false e = omega arith
+
+module _ (s : List ℕ) (path : Path) (starts states hashes costs : List ℕ) where
+  pub all-counted : (n : ℕ) (costs′ : List ℕ) → fits path (length starts) (length states) (length hashes) ≡ true → n ≡ countedOf (length starts) (length costs)
+      → costs′ ≡ rows (λ i. joinsIn s path (idAt (take (32 * length starts) hashes) i)) (length (take n costs)) → costs′ ++ drop n costs ≡ costsOf s path starts states hashes costs
+  unfolding costsOf countedOf rows
+  all-counted n costs′ fit en e = rw fit (go (leb (length starts) (length costs)) refl)
+    where
+      f : ℕ → ℕ
+      f i = joinsIn s path (idAt (take (32 * length starts) hashes) i)
+
+      g : ℕ → ℕ
+      g i = joinsIn s path (idAt hashes i)
+
+      made : costs′ ≡ rows f n
+      made = e ∙ ap (λ (m : ℕ). rows f m) (length-take-le n costs (omega (arith, en, counted-fits (length starts) (length costs))))
+
+      go : (t : Bool) → leb (length starts) (length costs) ≡ t → costs′ ++ drop n costs ≡ pick t (rows g (length starts) ++ drop (length starts) costs) costs
+      go true q =
+          let z : n ≡ length starts = en ∙ ap (λ (t : Bool). pick t (length starts) 0) q in
+          ap (λ (l : List ℕ). l ++ drop n costs) made
+          ∙ ap (λ (m : ℕ). rows f m ++ drop m costs) z
+          ∙ ap (λ (l : List ℕ). l ++ drop (length starts) costs) (rows-below f g (length starts) (λ i b. ap (joinsIn s path) (id-taken path starts states hashes fit i b)))
+      go false q =
+          let z : n ≡ 0 = en ∙ ap (λ (t : Bool). pick t (length starts) 0) q in
+          ap (λ (l : List ℕ). l ++ drop n costs) made ∙ ap (λ (m : ℕ). rows f m ++ drop m costs) z
+
+  pub none-counted : fits path (length starts) (length states) (length hashes) ≡ false → costs ≡ costsOf s path starts states hashes costs
+  unfolding costsOf
+  none-counted e = rw e
+
 -- ---- for those who call
+
+-- the joins of a proof by levels that were read
+pub joins-levels : (s : List ℕ) (path : Path) (h : ℕ) (levels : List (List Leaf)) (id : List ℕ) (x : Start) → LeadsTo s path h levels → startIn s path id ≡ x → joinsIn s path id ≡ startCost (writtenBy s (findIn levels)) h id x
+unfolding joinsIn
+joins-levels s path h levels id x l e =
+    ap₂ (λ (n : ℕ) (y : Start). startCost (writtenBy s (leafIn s path)) n id y) (l .layers) e
+    ∙ start-same (writtenBy s (leafIn s path)) (writtenBy s (findIn levels)) h (λ k q b. ap (sibling s) (l .leaf k q b)) id x
 
 module _ (s : List ℕ) (path : Path) (starts states hashes : List ℕ) (room : fits path (length starts) (length states) (length hashes) ≡ true) (i : ℕ) (b : i < length starts) where
   pub start-in-row : getD (startsOf s path starts states hashes) i 0 ≡ startRow (startIn s path (idAt hashes i))

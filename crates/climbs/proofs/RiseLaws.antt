@@ -7,10 +7,11 @@ use mathlib.Core.List.{List, _++_}
 use lib.ListN.{length, getD, set}
 use lib.Seq.{getD-set-other}
 use lib.Dec.{eqb}
+use borrow.Author.Tests.{eqb-true, eqb-false}
 use Rattle.hash.specs.Sha256.{sha256d}
 use Rattle.hash.specs.Sha256Laws.{sha256d-length}
 use Rattle.format.specs.BytesLaws.{set-inside}
-use Rattle.format.specs.Bytes.{setHash, hashAt}
+use Rattle.format.specs.Bytes.{hashAt}
 use Rattle.format.specs.Parse.{pick}
 use Rattle.lanes.specs.Lanes as L
 use Rattle.lanes.specs.declared.Nodes.{Nodes}
@@ -24,29 +25,45 @@ use Rattle.spv.specs.declared.climb.StepKind.the-variants.{Joins, Fails}
 use Rattle.climbs.specs.declared.pass.Known.{Known}
 use Rattle.climbs.specs.declared.rise.Turn.{Turn}
 use Rattle.climbs.specs.Row.{hashesBy, statesAfter, hashesAfter, stateBy, Moved}
-use Rattle.climbs.proofs.RowLaws.{advance-moves, moved-none, moved-on}
-use Rattle.climbs.specs.Pass.{Seen}
+use Rattle.climbs.proofs.RowLaws.{advance-stays, advance-moves, moved-none, moved-on}
+use Rattle.climbs.specs.Spent.{costsAfter, Spent}
+use Rattle.climbs.proofs.SpentLaws.{spent-none, spent-on, advance-spends, charge-stays, cost-here}
+use Rattle.climbs.specs.Pass.{isWritten, Seen}
 use Rattle.climbs.proofs.PassLaws.{worked-written}
 use Rattle.climbs.specs.Rise.{Held, TurnRight}
 
-pub stays-right : (σ : Siblings) (starts states hashes : List ℕ) (row k : ℕ) (t : Turn) → t .moves ≡ false → TurnRight σ starts states hashes row k t
-unfolding TurnRight
-stays-right σ starts states hashes row k t e f = let z : _≡_ {A = ℕ} 0 1 = cc in absurd (omega arith)
+module _ (w : Siblings) (starts states hashes : List ℕ) (row k : ℕ) (t : Turn) where
+  pub stays-right : t .moves ≡ false → TurnRight w starts states hashes row k t
+  unfolding TurnRight
+  stays-right e f = let z : _≡_ {A = ℕ} 0 1 = cc in absurd (omega arith)
 
-pub seen-worked : (w : Siblings) (k q : ℕ) (r : Known) → Seen w k q true r → r .known ≡ true → siblingOf (r .node) ≡ workedOut w k q
-seen-worked w k q r v e = v .node refl ∙ sym (worked-written w k q (sym (v .told refl) ∙ e))
+  pub moves-right : (j q : ℕ) (r : Known) → j ≡ getD starts row 0 / 2 ^ k → q ≡ siblingPosition j → Seen w k q true r → r .known ≡ true → t .joined ≡ joinedOf (step (siblingOf (r .node)) (odd j) (hashAt hashes (32 * row)))
+      → TurnRight w starts states hashes row k t
+  unfolding TurnRight
+  moves-right j q r ej eq seen known e _ =
+      let at : q ≡ siblingPosition (getD starts row 0 / 2 ^ k) = eq ∙ ap siblingPosition ej in
+      let there : isWritten (w k q) ≡ true = sym (seen .told refl) ∙ known in (
+        ap (λ (n : ℕ). isWritten (w k n)) (sym at) ∙ there,
+        λ _. e ∙ ap₂ (λ (y : Sibling) (n : ℕ). joinedOf (step y (odd n) (hashAt hashes (32 * row)))) (seen .node refl ∙ sym (worked-written w k q there) ∙ ap (workedOut w k) at) ej,
+      )
 
-pub moves-right : (σ : Siblings) (starts states hashes : List ℕ) (row k j q : ℕ) (x : Sibling) (t : Turn) → getD states row 0 ≡ k → j ≡ getD starts row 0 / 2 ^ k → q ≡ siblingPosition j → x ≡ σ k q
-    → t .joined ≡ joinedOf (step x (odd j) (hashAt hashes (32 * row))) → TurnRight σ starts states hashes row k t
-unfolding TurnRight
-moves-right σ starts states hashes row k j q x t here ej eq ex e _ =
-    (here, e ∙ ap₂ (λ (y : Sibling) (n : ℕ). joinedOf (step y (odd n) (hashAt hashes (32 * row)))) (ex ∙ ap (σ k) (eq ∙ ap siblingPosition ej)) ej)
+-- what a step at a layer leaves: every row comes to what it came to, and what was right of a row stays so
+pub record After (w : Siblings) (k : ℕ) (starts s h c s′ h′ c′ : List ℕ) : Type 0 where
+  pub moved : Moved (workedOut w) (k + 1) starts s h s′ h′
+  pub spent : Spent w (k + 1) starts s h c s′ h′ c′
+  pub turns : (i : ℕ) (t : Turn) → TurnRight w starts s h i k t → TurnRight w starts s′ h′ i k t
 
--- what a step of one row leaves of the others
-pub record After (σ : Siblings) (k : ℕ) (starts s h s′ h′ : List ℕ) (row : ℕ) : Type 0 where
-  pub moved : Moved σ (k + 1) starts s h s′ h′
-  pub states : (i : ℕ) → (i ≡ row → ⊥) → getD s′ i 0 ≡ getD s i 0
-  pub hashes : (i : ℕ) → (i ≡ row → ⊥) → hashAt h′ (32 * i) ≡ hashAt h (32 * i)
+module _ (w : Siblings) (k : ℕ) (starts : List ℕ) where
+  after-none : (s h c : List ℕ) → After w k starts s h c s h c
+  after-none s h c = record { moved = moved-none (workedOut w) (k + 1) starts s h; spent = spent-none w (k + 1) starts s h c; turns = λ i t f. f }
+
+  pub after-on : (s h c s₁ h₁ c₁ s₂ h₂ c₂ : List ℕ) → After w k starts s h c s₁ h₁ c₁ → After w k starts s₁ h₁ c₁ s₂ h₂ c₂ → After w k starts s h c s₂ h₂ c₂
+  after-on s h c s₁ h₁ c₁ s₂ h₂ c₂ a b =
+      record {
+        moved = moved-on (workedOut w) (k + 1) starts s h s₁ h₁ s₂ h₂ (a .moved) (b .moved);
+        spent = spent-on w (k + 1) starts s h c s₁ h₁ c₁ s₂ h₂ c₂ (a .spent) (b .spent);
+        turns = λ i t f. b .turns i t (a .turns i t f);
+      }
 
 module _ (s h : List ℕ) (row k : ℕ) (kind : StepKind) (parent : List ℕ) (whole : length parent ≡ 32) (room : 32 * row + 32 ≤ length h) (i : ℕ) (ne : i ≡ row → ⊥) where
   state-other : getD (statesAfter s row k kind) i 0 ≡ getD s i 0
@@ -70,33 +87,66 @@ module _ (s h : List ℕ) (row k : ℕ) (kind : StepKind) (parent : List ℕ) (w
       go true = by-other kind
       go false = refl
 
-pub after-one : (σ : Siblings) (k : ℕ) (starts s h s′ h′ : List ℕ) (row : ℕ) (t : Turn) (parent : List ℕ) → k < 64 → row < length s → 32 * row + 32 ≤ length h → parent ≡ sha256d (t .joined .left ++ t .joined .right)
-    → TurnRight σ starts s h row k t
-    → (s′ ≡ pick (t .moves) (statesAfter s row k (t .joined .kind)) s) × (h′ ≡ pick (t .moves) (hashesAfter s h row k (t .joined .kind) parent) h) → After σ k starts s h s′ h′ row
-unfolding TurnRight
-after-one σ k starts s h s′ h′ row t parent few inside room made right e = go (t .moves) refl (e .0) (e .1)
-  where
-    whole : length parent ≡ 32
-    whole = ap length made ∙ sha256d-length (t .joined .left ++ t .joined .right)
+-- a row that stands at the layer
+module _ (w : Siblings) (k : ℕ) (starts s h c : List ℕ) (row : ℕ) (t : Joined) (parent : List ℕ) (few : k < 64) (inside : row < length s) (room : 32 * row + 32 ≤ length h) (made : parent ≡ sha256d (t .left ++ t .right))
+    (here : getD s row 0 ≡ k) (free : isWritten (w k (siblingPosition (getD starts row 0 / 2 ^ k))) ≡ true)
+    (told : t ≡ joinedOf (step (workedOut w k (siblingPosition (getD starts row 0 / 2 ^ k))) (odd (getD starts row 0 / 2 ^ k)) (hashAt h (32 * row)))) where
+  abbrev s₁ : List ℕ
+  s₁ = statesAfter s row k (t .kind)
 
-    make : (a b : List ℕ) → s′ ≡ a → h′ ≡ b → After σ k starts s h a b row → After σ k starts s h s′ h′ row
-    make a b p q v = subst (λ (x : List ℕ). After σ k starts s h x h′ row) (sym p) (subst (λ (x : List ℕ). After σ k starts s h a x row) (sym q) v)
+  abbrev h₁ : List ℕ
+  h₁ = hashesAfter s h row k (t .kind) parent
 
-    go : (b : Bool) → t .moves ≡ b → s′ ≡ pick b (statesAfter s row k (t .joined .kind)) s → h′ ≡ pick b (hashesAfter s h row k (t .joined .kind) parent) h → After σ k starts s h s′ h′ row
-    go true m p q =
-        let v = right m in
-        make _ _ p q (record {
-          moved = advance-moves σ starts s h row k (t .joined) parent few (v .0) inside room (v .1) made whole .0;
-          states = λ i ne. state-other s h row k (t .joined .kind) parent whole room i ne;
-          hashes = λ i ne. hash-other s h row k (t .joined .kind) parent whole room i ne;
-        })
-    go false m p q = make s h p q (record { moved = moved-none σ (k + 1) starts s h; states = λ i ne. refl; hashes = λ i ne. refl })
+  whole : length parent ≡ 32
+  whole = ap length made ∙ sha256d-length (t .left ++ t .right)
 
-turn-other : (σ : Siblings) (k : ℕ) (starts s h s′ h′ : List ℕ) (row i : ℕ) (t : Turn) → After σ k starts s h s′ h′ row → (i ≡ row → ⊥) → TurnRight σ starts s h i k t → TurnRight σ starts s′ h′ i k t
-unfolding TurnRight
-turn-other σ k starts s h s′ h′ row i t v ne f m =
-    let g = f m in
-    (v .states i ne ∙ g .0, g .1 ∙ ap (λ (c : List ℕ). joinedOf (step (σ k (siblingPosition (getD starts i 0 / 2 ^ k))) (odd (getD starts i 0 / 2 ^ k)) c)) (sym (v .hashes i ne)))
+  after-step : After w k starts s h c s₁ h₁ (costsAfter s c row k (t .kind) 0)
+  unfolding TurnRight
+  after-step =
+      let m = advance-moves (workedOut w) starts s h row k t parent few here inside room told made whole in
+      record {
+        moved = m .0;
+        spent = advance-spends w starts s h c row k 0 t parent few here inside room told made whole (sym (cost-here w k (siblingPosition (getD starts row 0 / 2 ^ k)) free));
+        turns = λ i u f v. (f v .0, λ e. stood i u (f v .1) (m .1) e (eqb i row) refl);
+      }
+    where
+      stood : (i : ℕ) (u : Turn)
+          → (getD s i 0 ≡ k → u .joined ≡ joinedOf (step (workedOut w k (siblingPosition (getD starts i 0 / 2 ^ k))) (odd (getD starts i 0 / 2 ^ k)) (hashAt h (32 * i))))
+          → k < getD s₁ row 0 → getD s₁ i 0 ≡ k → (b : Bool) → eqb i row ≡ b
+          → u .joined ≡ joinedOf (step (workedOut w k (siblingPosition (getD starts i 0 / 2 ^ k))) (odd (getD starts i 0 / 2 ^ k)) (hashAt h₁ (32 * i)))
+      stood i u f past e true g = let z = eqb-true i row g in let y : getD s₁ row 0 ≡ k = ap (λ (n : ℕ). getD s₁ n 0) (sym z) ∙ e in absurd (omega arith)
+      stood i u f past e false g =
+          let z = eqb-false i row g in
+          f (sym (state-other s h row k (t .kind) parent whole room i z) ∙ e)
+          ∙ ap (λ (x : List ℕ). joinedOf (step (workedOut w k (siblingPosition (getD starts i 0 / 2 ^ k))) (odd (getD starts i 0 / 2 ^ k)) x)) (sym (hash-other s h row k (t .kind) parent whole room i z))
+
+-- one row
+module _ (w : Siblings) (k : ℕ) (starts s h c s′ h′ c′ : List ℕ) (row : ℕ) (t : Turn) (parent : List ℕ) (few : k < 64) (inside : row < length s) (room : 32 * row + 32 ≤ length h)
+    (made : parent ≡ sha256d (t .joined .left ++ t .joined .right)) (right : TurnRight w starts s h row k t) where
+  pub after-one : (s′ ≡ pick (t .moves) (statesAfter s row k (t .joined .kind)) s) × (h′ ≡ pick (t .moves) (hashesAfter s h row k (t .joined .kind) parent) h) × (c′ ≡ pick (t .moves) (costsAfter s c row k (t .joined .kind) 0) c)
+      → After w k starts s h c s′ h′ c′
+  unfolding TurnRight
+  after-one e = go (t .moves) refl (e .0) (e .1) (e .2)
+    where
+      make : (a b d : List ℕ) → s′ ≡ a → h′ ≡ b → c′ ≡ d → After w k starts s h c a b d → After w k starts s h c s′ h′ c′
+      make a b d p q r v =
+          subst (λ (x : List ℕ). After w k starts s h c x h′ c′) (sym p) (subst (λ (x : List ℕ). After w k starts s h c a x c′) (sym q) (subst (λ (x : List ℕ). After w k starts s h c a b x) (sym r) v))
+
+      at : (b : Bool) → eqb (getD s row 0) k ≡ b → t .moves ≡ true → After w k starts s h c (statesAfter s row k (t .joined .kind)) (hashesAfter s h row k (t .joined .kind) parent) (costsAfter s c row k (t .joined .kind) 0)
+      at true g m =
+          let here = eqb-true (getD s row 0) k g in
+          let v = right m in
+          after-step w k starts s h c row (t .joined) parent few inside room made here (v .0) (v .1 here)
+      at false g m =
+          let ne = eqb-false (getD s row 0) k g in
+          let v = advance-stays s h row k (t .joined) parent ne in
+          subst (λ (x : List ℕ). After w k starts s h c x (hashesAfter s h row k (t .joined .kind) parent) (costsAfter s c row k (t .joined .kind) 0)) (sym (v .0))
+          (subst (λ (x : List ℕ). After w k starts s h c s x (costsAfter s c row k (t .joined .kind) 0)) (sym (v .1))
+          (subst (λ (x : List ℕ). After w k starts s h c s h x) (sym (charge-stays s c row k 0 (t .joined .kind) ne)) (after-none w k starts s h c)))
+
+      go : (b : Bool) → t .moves ≡ b → s′ ≡ pick b (statesAfter s row k (t .joined .kind)) s → h′ ≡ pick b (hashesAfter s h row k (t .joined .kind) parent) h → c′ ≡ pick b (costsAfter s c row k (t .joined .kind) 0) c → After w k starts s h c s′ h′ c′
+      go true m p q r = make _ _ _ p q r (at (eqb (getD s row 0) k) refl m)
+      go false m p q r = make s h c p q r (after-none w k starts s h c)
 
 -- the parents in their lanes
 module _ (a b c d : Joined) (p : Nodes) (e : (i : ℕ) → L.node i p ≡ sha256d (L.inLane i (a .left) (b .left) (c .left) (d .left) ++ L.inLane i (a .right) (b .right) (c .right) (d .right))) where
@@ -104,28 +154,26 @@ module _ (a b c d : Joined) (p : Nodes) (e : (i : ℕ) → L.node i p ≡ sha256
   unfolding L.node L.inLane
   parents-four = (e 0, e 1, e 2, e 3)
 
--- four rows
-module _ (σ : Siblings) (k : ℕ) (starts : List ℕ) (row : ℕ) (ta tb tc td : Turn) (pa pb pc pd s₀ h₀ s₁ h₁ s₂ h₂ s₃ h₃ s₄ h₄ : List ℕ) (few : k < 64) (inside : row + 3 < length s₀) (room : 32 * (row + 3) + 32 ≤ length h₀)
+-- four rows, which need not differ
+module _ (w : Siblings) (k : ℕ) (starts : List ℕ) (a b c d : ℕ) (ta tb tc td : Turn) (pa pb pc pd s₀ h₀ c₀ s₁ h₁ c₁ s₂ h₂ c₂ s₃ h₃ c₃ s₄ h₄ c₄ : List ℕ) (few : k < 64) (rows : length starts ≤ length s₀) (room : 32 * length starts ≤ length h₀)
+    (ia : a < length starts) (ib : b < length starts) (ic : c < length starts) (id : d < length starts)
     (l₁ : length s₁ ≡ length s₀) (l₂ : length s₂ ≡ length s₁) (l₃ : length s₃ ≡ length s₂) (m₁ : length h₁ ≡ length h₀) (m₂ : length h₂ ≡ length h₁) (m₃ : length h₃ ≡ length h₂)
     (made : (pa ≡ sha256d (ta .joined .left ++ ta .joined .right)) × (pb ≡ sha256d (tb .joined .left ++ tb .joined .right)) × (pc ≡ sha256d (tc .joined .left ++ tc .joined .right)) × (pd ≡ sha256d (td .joined .left ++ td .joined .right)))
-    (ra : TurnRight σ starts s₀ h₀ row k ta) (rb : TurnRight σ starts s₀ h₀ (row + 1) k tb) (rc : TurnRight σ starts s₀ h₀ (row + 2) k tc) (rd : TurnRight σ starts s₀ h₀ (row + 3) k td)
-    (ea : (s₁ ≡ pick (ta .moves) (statesAfter s₀ row k (ta .joined .kind)) s₀) × (h₁ ≡ pick (ta .moves) (hashesAfter s₀ h₀ row k (ta .joined .kind) pa) h₀))
-    (eb : (s₂ ≡ pick (tb .moves) (statesAfter s₁ (row + 1) k (tb .joined .kind)) s₁) × (h₂ ≡ pick (tb .moves) (hashesAfter s₁ h₁ (row + 1) k (tb .joined .kind) pb) h₁))
-    (ec : (s₃ ≡ pick (tc .moves) (statesAfter s₂ (row + 2) k (tc .joined .kind)) s₂) × (h₃ ≡ pick (tc .moves) (hashesAfter s₂ h₂ (row + 2) k (tc .joined .kind) pc) h₂))
-    (ed : (s₄ ≡ pick (td .moves) (statesAfter s₃ (row + 3) k (td .joined .kind)) s₃) × (h₄ ≡ pick (td .moves) (hashesAfter s₃ h₃ (row + 3) k (td .joined .kind) pd) h₃)) where
-  pub rise-four : Moved σ (k + 1) starts s₀ h₀ s₄ h₄
+    (ra : TurnRight w starts s₀ h₀ a k ta) (rb : TurnRight w starts s₀ h₀ b k tb) (rc : TurnRight w starts s₀ h₀ c k tc) (rd : TurnRight w starts s₀ h₀ d k td)
+    (ea : (s₁ ≡ pick (ta .moves) (statesAfter s₀ a k (ta .joined .kind)) s₀) × (h₁ ≡ pick (ta .moves) (hashesAfter s₀ h₀ a k (ta .joined .kind) pa) h₀) × (c₁ ≡ pick (ta .moves) (costsAfter s₀ c₀ a k (ta .joined .kind) 0) c₀))
+    (eb : (s₂ ≡ pick (tb .moves) (statesAfter s₁ b k (tb .joined .kind)) s₁) × (h₂ ≡ pick (tb .moves) (hashesAfter s₁ h₁ b k (tb .joined .kind) pb) h₁) × (c₂ ≡ pick (tb .moves) (costsAfter s₁ c₁ b k (tb .joined .kind) 0) c₁))
+    (ec : (s₃ ≡ pick (tc .moves) (statesAfter s₂ c k (tc .joined .kind)) s₂) × (h₃ ≡ pick (tc .moves) (hashesAfter s₂ h₂ c k (tc .joined .kind) pc) h₂) × (c₃ ≡ pick (tc .moves) (costsAfter s₂ c₂ c k (tc .joined .kind) 0) c₂))
+    (ed : (s₄ ≡ pick (td .moves) (statesAfter s₃ d k (td .joined .kind)) s₃) × (h₄ ≡ pick (td .moves) (hashesAfter s₃ h₃ d k (td .joined .kind) pd) h₃) × (c₄ ≡ pick (td .moves) (costsAfter s₃ c₃ d k (td .joined .kind) 0) c₃)) where
+  pub rise-four : Moved (workedOut w) (k + 1) starts s₀ h₀ s₄ h₄ × Spent w (k + 1) starts s₀ h₀ c₀ s₄ h₄ c₄
   rise-four =
-      let va = after-one σ k starts s₀ h₀ s₁ h₁ row ta pa few (omega arith) (omega arith) (made .0) ra ea in
-      let rb₁ = turn-other σ k starts s₀ h₀ s₁ h₁ row (row + 1) tb va (λ z. omega arith) rb in
-      let rc₁ = turn-other σ k starts s₀ h₀ s₁ h₁ row (row + 2) tc va (λ z. omega arith) rc in
-      let rd₁ = turn-other σ k starts s₀ h₀ s₁ h₁ row (row + 3) td va (λ z. omega arith) rd in
-      let vb = after-one σ k starts s₁ h₁ s₂ h₂ (row + 1) tb pb few (omega arith) (omega arith) (made .1) rb₁ eb in
-      let rc₂ = turn-other σ k starts s₁ h₁ s₂ h₂ (row + 1) (row + 2) tc vb (λ z. omega arith) rc₁ in
-      let rd₂ = turn-other σ k starts s₁ h₁ s₂ h₂ (row + 1) (row + 3) td vb (λ z. omega arith) rd₁ in
-      let vc = after-one σ k starts s₂ h₂ s₃ h₃ (row + 2) tc pc few (omega arith) (omega arith) (made .2) rc₂ ec in
-      let rd₃ = turn-other σ k starts s₂ h₂ s₃ h₃ (row + 2) (row + 3) td vc (λ z. omega arith) rd₂ in
-      let vd = after-one σ k starts s₃ h₃ s₄ h₄ (row + 3) td pd few (omega arith) (omega arith) (made .3) rd₃ ed in
-      moved-on σ (k + 1) starts s₀ h₀ s₁ h₁ s₄ h₄ (va .moved) (moved-on σ (k + 1) starts s₁ h₁ s₂ h₂ s₄ h₄ (vb .moved) (moved-on σ (k + 1) starts s₂ h₂ s₃ h₃ s₄ h₄ (vc .moved) (vd .moved)))
+      let va = after-one w k starts s₀ h₀ c₀ s₁ h₁ c₁ a ta pa few (omega arith) (omega arith) (made .0) ra ea in
+      let vb = after-one w k starts s₁ h₁ c₁ s₂ h₂ c₂ b tb pb few (omega arith) (omega arith) (made .1) (va .turns b tb rb) eb in
+      let ab = after-on w k starts s₀ h₀ c₀ s₁ h₁ c₁ s₂ h₂ c₂ va vb in
+      let vc = after-one w k starts s₂ h₂ c₂ s₃ h₃ c₃ c tc pc few (omega arith) (omega arith) (made .2) (ab .turns c tc rc) ec in
+      let ac = after-on w k starts s₀ h₀ c₀ s₂ h₂ c₂ s₃ h₃ c₃ ab vc in
+      let vd = after-one w k starts s₃ h₃ c₃ s₄ h₄ c₄ d td pd few (omega arith) (omega arith) (made .3) (ac .turns d td rd) ed in
+      let ad = after-on w k starts s₀ h₀ c₀ s₃ h₃ c₃ s₄ h₄ c₄ ac vd in
+      (ad .moved, ad .spent)
 
 pub held-on : (places starts s h s′ h′ : List ℕ) → length s′ ≡ length s → length h′ ≡ length h → Held places starts s h → Held places starts s′ h′
 held-on places starts s h s′ h′ e f v =

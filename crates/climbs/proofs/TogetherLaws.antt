@@ -54,7 +54,7 @@ reached-end order states h lo n m e r = rw e at r
 
 -- ---- the levels of a BUMP
 
-leaf-bump : (s : List ℕ) (path : Path) → Levels path → (k q : ℕ) → k < path .layers → leafIn s path k q ≡ findAt Layout.Bump s (path .at) k q
+pub leaf-bump : (s : List ℕ) (path : Path) → Levels path → (k q : ℕ) → k < path .layers → leafIn s path k q ≡ findAt Layout.Bump s (path .at) k q
 unfolding leafIn leafAtPlace
 leaf-bump s path v k q b =
     let f = v .few in

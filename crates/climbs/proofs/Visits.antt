@@ -1,5 +1,5 @@
 -- Laws of a visit: a node's children were visited, then each row under them took its step, and the node's own value is at hand.
-use Prim.Native.Nat.{ℕ, zero, suc, _+_, _-_, _*_, _/_, _%_, _^_, _≤_, _<_}
+use Prim.Native.Nat.{ℕ, _+_, _-_, _*_, _/_, _^_, _≤_, _<_}
 use native.Mathlib.Nat.{le-trans, le-refl}
 use native.Mathlib.Omega.{arith}
 use mathlib.Core.Path.{_≡_, refl, sym, ap, ap₂, _∙_, subst}
@@ -8,17 +8,19 @@ use mathlib.Core.List.{List}
 use lib.ListN.{length, getD}
 use lib.Dec.{ltb}
 use borrow.Author.Tests.{ltb-true, ltb-false}
-use Rattle.spv.specs.Climb.{Sibling, absent, Siblings}
+use Rattle.spv.specs.Climb.{Sibling, Siblings}
 use Rattle.spv.specs.Values.{hasValue, joinOf, workedOut}
 use Rattle.spv.specs.ValuesLaws.{join-zero}
 use Rattle.spv.specs.Shapes.{siblingOf}
-use Rattle.spv.specs.Low.{Low}
 use Rattle.spv.specs.LowLaws.{low-left, low-right}
 use Rattle.climbs.specs.declared.pass.Known.{Known}
 use Rattle.climbs.specs.Row.{startOf, stateOf, Rows, Sorted, Under, NotAt, Reached, Moved}
 use Rattle.climbs.proofs.RowLaws.{moved-none, moved-on, moved-up}
-use Rattle.climbs.specs.Pass.{joinChildren, isWritten, Seen, besideOf, firstKnown, Feeds, AllStepped, Setting, Spot, Visited}
-use Rattle.climbs.proofs.PassLaws.{children-join, children-none, worked-written, worked-join, nothing-written, beside-left, beside-right, first-yes, first-no, under-none, under-right, reached-none, reached-both, reached-grows}
+use Rattle.climbs.specs.Pass.{joinChildren, isWritten, Seen, besideOf, firstKnown, Feeds, Priced, Charged, AllStepped, Setting, Spot, Visited, VisitedCost}
+use Rattle.climbs.specs.Count.{costOf}
+use Rattle.climbs.specs.Spent.{joinedCost, Spent}
+use Rattle.climbs.proofs.SpentLaws.{spent-none, spent-on, spent-up, cost-here, cost-bottom, cost-joined}
+use Rattle.climbs.proofs.PassLaws.{children-join, children-none, children-valued, worked-written, worked-join, nothing-written, beside-left, beside-right, first-yes, first-no, under-none, under-right, reached-both, reached-grows}
 
 -- ---- tests
 
@@ -42,6 +44,10 @@ and-both false b c e f = let z : _≡_ {A = ℕ} 0 1 = cc in absurd (omega arith
 pub and-true : (a b c : Bool) → c ≡ a && b → a ≡ true → b ≡ true → c ≡ true
 and-true true b c e f g = e ∙ g
 and-true false b c e f g = let z : _≡_ {A = ℕ} 0 1 = cc in absurd (omega arith)
+
+off : (t : Bool) → not t ≡ true → t ≡ false
+off true e = sym e
+off false e = refl
 
 -- ---- the value
 
@@ -70,10 +76,6 @@ module _ (w : Siblings) (k q : ℕ) (want : Bool) (here : Known) (seen : Seen w 
       let a = and-both want (not (here .known)) need asked f in
       join (hasValue l) refl ∙ children-join w k q ne ∙ sym (worked-join w k q (sym (seen .told (a .0)) ∙ off (here .known) (a .1)))
     where
-      off : (t : Bool) → not t ≡ true → t ≡ false
-      off true e = sym e
-      off false e = refl
-
       join : (t : Bool) → hasValue l ≡ t → joinChildren l r ≡ joinChildren (workedOut w (k - 1) (2 * q)) (workedOut w (k - 1) (2 * q + 1))
       join true e = ap₂ joinChildren el (er e)
       join false e = children-none l r (workedOut w (k - 1) (2 * q + 1)) e ∙ ap (λ (x : Sibling). joinChildren x (workedOut w (k - 1) (2 * q + 1))) el
@@ -177,6 +179,25 @@ module _ (w : Siblings) (starts order : List ℕ) (k q lo m hi : ℕ) (ne : k �
       (moved-on (workedOut w) k starts s₁ h₁ s₂ h₂ s₄ h₄ (up s₁ h₁ s₂ h₂ (v₂ .moved))
       (moved-on (workedOut w) k starts s₂ h₂ s₃ h₃ s₄ h₄ (up s₂ h₂ s₃ h₃ (v₃ .moved)) (moved-up (workedOut w) (k - 1 + 1) k starts s₃ h₃ s₄ h₄ f (st .moved (workedOut w) feeds))))
 
+  priced : (c₀ c₁ c₂ c₃ : List ℕ) → VisitedCost w starts s₀ h₀ c₀ s₁ h₁ c₁ (k - 1) (2 * q) wl first → VisitedCost w starts s₁ h₁ c₁ s₂ h₂ c₂ (k - 1) (2 * q + 1) wr r
+      → VisitedCost w starts s₂ h₂ c₂ s₃ h₃ c₃ (k - 1) (2 * q) wa again → Priced w (k - 1) (2 * q) l r
+  priced c₀ c₁ c₂ c₃ p₁ p₂ p₃ = record { first = λ e. go wl refl e; second = λ e. p₂ .joins (sym (v₂ .known) ∙ e) }
+    where
+      go : (t : Bool) → wl ≡ t → l .known ≡ true → l .joins ≡ costOf w (k - 1) (2 * q)
+      go true e g = ap (λ (x : Known). x .joins) (l-first e) ∙ p₁ .joins e
+      go false e g = ap (λ (x : Known). x .joins) (l-again e) ∙ p₃ .joins (sym (v₃ .known) ∙ sym (ap (λ (x : Known). x .known) (l-again e)) ∙ g)
+
+  pub pass-spent : (c₀ c₁ c₂ c₃ c₄ : List ℕ) → VisitedCost w starts s₀ h₀ c₀ s₁ h₁ c₁ (k - 1) (2 * q) wl first → VisitedCost w starts s₁ h₁ c₁ s₂ h₂ c₂ (k - 1) (2 * q + 1) wr r
+      → VisitedCost w starts s₂ h₂ c₂ s₃ h₃ c₃ (k - 1) (2 * q) wa again → Charged starts s₃ h₃ c₃ s₄ h₄ c₄ (k - 1) (2 * q) l r → Spent w k starts s₀ h₀ c₀ s₄ h₄ c₄
+  unfolding Charged
+  pass-spent c₀ c₁ c₂ c₃ c₄ p₁ p₂ p₃ ch =
+      let b : k - 1 ≤ k = omega arith in
+      let f : k - 1 + 1 ≤ k = omega arith in
+      spent-on w k starts s₀ h₀ c₀ s₁ h₁ c₁ s₄ h₄ c₄ (spent-up w (k - 1) k starts s₀ h₀ c₀ s₁ h₁ c₁ b (p₁ .spent))
+      (spent-on w k starts s₁ h₁ c₁ s₂ h₂ c₂ s₄ h₄ c₄ (spent-up w (k - 1) k starts s₁ h₁ c₁ s₂ h₂ c₂ b (p₂ .spent))
+      (spent-on w k starts s₂ h₂ c₂ s₃ h₃ c₃ s₄ h₄ c₄ (spent-up w (k - 1) k starts s₂ h₂ c₂ s₃ h₃ c₃ b (p₃ .spent))
+      (spent-up w (k - 1 + 1) k starts s₃ h₃ c₃ s₄ h₄ c₄ f (ch w feeds (priced c₀ c₁ c₂ c₃ p₁ p₂ p₃)))))
+
   pub pass-reached : Reached order s₄ k lo hi
   pass-reached =
       let e : k - 1 + 1 ≡ k = omega arith in
@@ -192,7 +213,7 @@ setting-rows places starts order states hashes s i l = le-trans (s .rows i l) (s
 
 module _ (w : Siblings) (k q : ℕ) (want : Bool) (here : Known) (seen : Seen w k q want here) (need : Bool) (asked : need ≡ want && not (here .known)) (starts order s₀ h₀ : List ℕ) (lo hi : ℕ) where
   abbrev handed : Known
-  handed = record { known = want; node = here .node }
+  handed = record { known = want; node = here .node; joins = 0 }
 
   pub visited-bottom : k ≡ 0 → Visited w starts order s₀ h₀ s₀ h₀ k q lo hi want handed
   unfolding Reached
@@ -205,3 +226,37 @@ module _ (w : Siblings) (k q : ℕ) (want : Bool) (here : Known) (seen : Seen w 
 
     pub visited-joined : need ≡ true → (r : Known) → r .known ≡ true → siblingOf (r .node) ≡ workedOut w k q → Visited w starts order s₀ h₀ s₄ h₄ k q lo hi want r
     visited-joined f r g e = record { moved = moved; reached = reached; known = g ∙ sym (and-both want (not (here .known)) need asked f .0); value = λ _. e }
+
+-- ---- what it costs
+
+module _ (w : Siblings) (k q : ℕ) (want : Bool) (here : Known) (seen : Seen w k q want here) (need : Bool) (asked : need ≡ want && not (here .known)) where
+  -- what is written costs none
+  cost-passed : need ≡ false → want ≡ true → 0 ≡ costOf w k q
+  cost-passed f g = go (here .known) refl
+    where
+      go : (t : Bool) → here .known ≡ t → 0 ≡ costOf w k q
+      go true e = sym (cost-here w k q (sym (seen .told g) ∙ e))
+      go false e =
+          let z = and-true want (not (here .known)) need asked g (ap not e) in
+          let y : _≡_ {A = ℕ} 0 1 = cc in absurd (omega arith)
+
+  -- a join costs itself and what the children cost, as the code adds it up
+  pub cost-made : (k ≡ 0 → ⊥) → k ≤ 64 → need ≡ true → (l node : Sibling) (a b n : ℕ) (has : Bool) → l ≡ workedOut w (k - 1) (2 * q) → node ≡ workedOut w k q → has ≡ hasValue node
+      → a ≡ costOf w (k - 1) (2 * q) → (hasValue l ≡ true → b ≡ costOf w (k - 1) (2 * q + 1)) → n ≡ joinedCost has a b → n ≡ costOf w k q
+  cost-made ne few f l node a b n has el en eh ea eb e =
+      let x = and-both want (not (here .known)) need asked f in
+      let free : isWritten (w k q) ≡ false = sym (seen .told (x .0)) ∙ off (here .known) (x .1) in
+      let j : node ≡ joinOf w k q = en ∙ worked-join w k q free in
+      e ∙ ap (λ (t : Bool). joinedCost t a b) (eh ∙ ap hasValue j)
+      ∙ cost-joined w k q ne few free a b ea (λ v. eb (ap hasValue el ∙ children-valued (workedOut w (k - 1) (2 * q)) (workedOut w (k - 1) (2 * q + 1)) (ap hasValue (children-join w k q ne) ∙ v)))
+
+module _ (w : Siblings) (k q : ℕ) (want : Bool) (here : Known) (seen : Seen w k q want here) (need : Bool) (asked : need ≡ want && not (here .known)) (starts s₀ h₀ c₀ : List ℕ) where
+  pub paid-bottom : k ≡ 0 → VisitedCost w starts s₀ h₀ c₀ s₀ h₀ c₀ k q want (record { known = want; node = here .node; joins = 0 })
+  paid-bottom b = record { spent = spent-none w k starts s₀ h₀ c₀; joins = λ _. sym (cost-bottom w k q b) }
+
+  module _ (s₄ h₄ c₄ : List ℕ) (spent : Spent w k starts s₀ h₀ c₀ s₄ h₄ c₄) where
+    pub paid-passed : need ≡ false → VisitedCost w starts s₀ h₀ c₀ s₄ h₄ c₄ k q want (record { known = want; node = here .node; joins = 0 })
+    paid-passed f = record { spent = spent; joins = cost-passed w k q want here seen need asked f }
+
+    pub paid-joined : (r : Known) → r .joins ≡ costOf w k q → VisitedCost w starts s₀ h₀ c₀ s₄ h₄ c₄ k q want r
+    paid-joined r e = record { spent = spent; joins = λ _. e }

@@ -23,13 +23,12 @@ use Rattle.path.specs.Loose.{looseLeaf}
 use Rattle.path.specs.Path.{bumpPathOf}
 use Rattle.spv.specs.Result.{Result, accepted, refused, carrying, follow}
 use Rattle.spv.specs.Climb.{Siblings, ascend, endOf}
-use Rattle.spv.specs.ClimbLaws.{ascend-same}
 use Rattle.spv.specs.Compare.{Target, any, bound, hits, settle, proofOf, proveBy}
 use Rattle.spv.specs.Clients.{wantedBy, afterKind, afterLeaf, closing}
 use Rattle.spv.specs.Shapes.{climbedOf}
 use Rattle.spv.specs.Siblings.{writtenBy, findAt, pathSiblings}
-use Rattle.spv.specs.Stored.{stored-here, stored-other}
 use Rattle.spv.specs.Values.{workedOut}
+use Rattle.spv.specs.Stored.{stored-here, stored-other}
 use Rattle.spv.specs.declared.rejection.Rejection.{Rejection}
 use Rattle.spv.specs.declared.prove.Status.the-variants.{Unread}
 use Rattle.spv.specs.declared.climb.End.{End}
@@ -43,9 +42,11 @@ use Rattle.climbs.specs.Begun.{First}
 use Rattle.climbs.specs.ClientsShapes.{endUnder, endSays, wantedTo, pending, clientsIn, wantSays, refusedCheck, checkedOf}
 use Rattle.climbs.specs.Waiting.{climbOf, rowsSay, Lent}
 use Rattle.climbs.proofs.RowLaws.{leads-start}
+use Rattle.climbs.specs.LookUp.{lookedUp}
+use Rattle.climbs.proofs.LookUpLaws.{one-path}
 use Rattle.climbs.proofs.TogetherLaws.{path-worked}
 use Rattle.climbs.proofs.ClientsShapesLaws.{told-halts}
-use Rattle.climbs.proofs.ClientsLaws.{follow-same, follow-twice, turn-leaf, turn-short, turn-last}
+use Rattle.climbs.proofs.ClientsLaws.{follow-same, follow-twice, turn-leaf, turn-short, turn-last, clients-in-same}
 
 -- ---- one climb
 
@@ -183,23 +184,20 @@ zeros-past f l z v i = go (ltb i (length l)) refl
     go true e = v i (ltb-true i (length l) e) ∙ z i
     go false e = List·getD-eq-default l 0 (ltb-false i (length l) e)
 
-pub rows-climbed : (s : List ℕ) (path : Path) (starts states hashes states′ hashes′ : List ℕ) (count : ℕ) (x : Result Target) → Levels path → count ≤ length starts → ((i : ℕ) → getD states i 0 ≡ 0)
-    → T.Climbed (workedOut (writtenBy s (findAt Layout.Bump s (path .at)))) (path .layers) (take count starts) states hashes states′ hashes′
-    → pending (cameAt starts states′ hashes′) count x ≡ rowsSay (pathSiblings s path) (path .layers) starts hashes count x
+pub rows-climbed : (σ : Siblings) (h : ℕ) (starts states hashes states′ hashes′ : List ℕ) (count : ℕ) (x : Result Target) → count ≤ length starts → ((i : ℕ) → getD states i 0 ≡ 0)
+    → T.Climbed σ h (take count starts) states hashes states′ hashes′
+    → pending (cameAt starts states′ hashes′) count x ≡ rowsSay σ h starts hashes count x
 unfolding rowsSay climbOf T.Climbed leadsAt cameAt
-rows-climbed s path starts states hashes states′ hashes′ count x v b none f =
-    pending-same (cameAt starts states′ hashes′) (climbOf (pathSiblings s path) (path .layers) starts hashes) count x each
+rows-climbed σ h starts states hashes states′ hashes′ count x b none f = pending-same (cameAt starts states′ hashes′) (climbOf σ h starts hashes) count x each
   where
-    each : (i : ℕ) → i < count → cameAt starts states′ hashes′ i ≡ climbOf (pathSiblings s path) (path .layers) starts hashes i
+    each : (i : ℕ) → i < count → cameAt starts states′ hashes′ i ≡ climbOf σ h starts hashes i
     each i l =
         let n = length-take-le count starts b in
         let e : getD (take count starts) i 0 ≡ getD starts i 0 = rw getD-take in
-        let σ : Siblings = workedOut (writtenBy s (findAt Layout.Bump s (path .at))) in
         let c : List ℕ = hashAt hashes (32 * i) in
         ap (λ (p : ℕ). came p (getD states′ i 0) (hashAt hashes′ (32 * i))) (sym e) ∙ f i (omega arith)
-        ∙ ap₂ (λ (p m : ℕ). leads σ (path .layers) p m c) e (none i)
-        ∙ leads-start σ (path .layers) (getD starts i 0) c
-        ∙ ap (endOf c) (ascend-same σ (pathSiblings s path) (path .layers) (path-worked s path v) (getD starts i 0) c)
+        ∙ ap₂ (λ (p m : ℕ). leads σ h p m c) e (none i)
+        ∙ leads-start σ h (getD starts i 0) c
 
 pub levels-bump : (s : List ℕ) (head : BumpHead) (path : Path) → path ≡ bumpPathOf s head → Levels path
 unfolding bumpPathOf
@@ -232,28 +230,28 @@ rows-refused σ h starts hashes count want f e = ap (pending (climbOf σ h start
 
 -- ---- a level's clients: with x wanted, what is left from here comes to what was asked at the start
 
-pub record Checking (σ : Siblings) (h : ℕ) (s : List ℕ) (n start m at : ℕ) (x : Result Target) : Type 0 where
+pub record Checking (σ : Siblings) (h : ℕ) (s : List ℕ) (n start : ℕ) (x₀ : Result Target) (m at : ℕ) (x : Result Target) : Type 0 where
   pub done : m ≤ n
-  pub kept : follow x (λ w. clientsIn σ h s (n - m) at w) ≡ clientsIn σ h s n start any
+  pub kept : follow x (λ w. clientsIn σ h s (n - m) at w) ≡ follow x₀ (λ w. clientsIn σ h s n start w)
 
-module _ (σ : Siblings) (h : ℕ) (s : List ℕ) (n start : ℕ) where
-  pub checking-start : (x : Result Target) → x ≡ accepted any → Checking σ h s n start 0 start x
+module _ (σ : Siblings) (h : ℕ) (s : List ℕ) (n start : ℕ) (x₀ : Result Target) where
+  pub checking-start : (x : Result Target) → x ≡ x₀ → Checking σ h s n start x₀ 0 start x
   checking-start x e = record { done = omega arith; kept = rw (sub-zero, e) }
 
-  module _ (m at : ℕ) (x : Result Target) (v : Checking σ h s n start m at x) where
-    pub checking-end : n ≤ m → follow x closing ≡ clientsIn σ h s n start any
+  module _ (m at : ℕ) (x : Result Target) (v : Checking σ h s n start x₀ m at x) where
+    pub checking-end : n ≤ m → follow x closing ≡ follow x₀ (λ w. clientsIn σ h s n start w)
     checking-end b = follow-same x closing (λ w. clientsIn σ h s (n - m) at w) (λ w. sym (turn-last σ h s n m at w b)) ∙ v .kept
 
-    pub checking-halts : (f : Rejection) → x ≡ refused f → refusedCheck f ≡ checkedOf (clientsIn σ h s n start any)
+    pub checking-halts : (f : Rejection) → x ≡ refused f → refusedCheck f ≡ checkedOf (follow x₀ (λ w. clientsIn σ h s n start w))
     unfolding checkedOf
     checking-halts f e = ap checkedOf (sym (ap (λ (y : Result Target). follow y (λ w. clientsIn σ h s (n - m) at w)) e) ∙ v .kept)
 
     module _ (b : m < n) where
-      pub checking-short : (number place : ℕ) → looseLeaf Layout.Bump s at ≡ bad number place → follow x (λ w. refused (carrying NOT-LISTED 0)) ≡ clientsIn σ h s n start any
+      pub checking-short : (number place : ℕ) → looseLeaf Layout.Bump s at ≡ bad number place → follow x (λ w. refused (carrying NOT-LISTED 0)) ≡ follow x₀ (λ w. clientsIn σ h s n start w)
       checking-short number place e =
           follow-same x (λ w. refused (carrying NOT-LISTED 0)) (λ w. clientsIn σ h s (n - m) at w) (λ w. sym (turn-short σ h s n m at w b number place e)) ∙ v .kept
 
-      pub checking-goes : (leaf : Leaf) (next : ℕ) → looseLeaf Layout.Bump s at ≡ got leaf next → (y : Result Target) → y ≡ follow x (λ w. afterLeaf σ h s w leaf) → Checking σ h s n start (m + 1) next y
+      pub checking-goes : (leaf : Leaf) (next : ℕ) → looseLeaf Layout.Bump s at ≡ got leaf next → (y : Result Target) → y ≡ follow x (λ w. afterLeaf σ h s w leaf) → Checking σ h s n start x₀ (m + 1) next y
       checking-goes leaf next e y f =
           record {
             done = omega arith;
@@ -262,6 +260,14 @@ module _ (σ : Siblings) (h : ℕ) (s : List ℕ) (n start : ℕ) where
                 ∙ follow-same x (λ w. follow (afterLeaf σ h s w leaf) (λ w′. clientsIn σ h s (n - (m + 1)) next w′)) (λ w. clientsIn σ h s (n - m) at w) (λ w. sym (turn-leaf σ h s n m at w b leaf next e))
                 ∙ v .kept;
           }
+
+-- a path by itself
+pub own-clients : (s : List ℕ) (path : Path) (t y : List ℕ) (n at : ℕ) (x : Result Target) → Levels path → length y ≡ 0 → x ≡ accepted any
+    → checkedOf (follow x (λ w. clientsIn (workedOut (lookedUp s (path .at) t y)) (path .layers) s n at w)) ≡ checkedOf (clientsIn (pathSiblings s path) (path .layers) s n at any)
+own-clients s path t y n at x v e f =
+    ap (λ (z : Result Target). checkedOf (follow z (λ w. clientsIn (workedOut (lookedUp s (path .at) t y)) (path .layers) s n at w))) f
+    ∙ ap checkedOf (ap (λ (z : Siblings). clientsIn (workedOut z) (path .layers) s n at any) (one-path s (path .at) t y e)
+    ∙ clients-in-same (workedOut (writtenBy s (findAt Layout.Bump s (path .at)))) (pathSiblings s path) (path .layers) s n at any (path-worked s path v))
 
 pub pending-none : (v : ℕ → Result (List ℕ)) (x : Result Target) → x ≡ pending v 0 x
 unfolding pending

@@ -3,7 +3,7 @@ use Prim.Native.Nat.{ℕ, _+_, _*_, _%_, _≤_, _<_}
 use mathlib.Core.Path.{_≡_}
 use mathlib.Core.List.{List}
 use lib.ListN.{getD, replicate}
-use lib.Dec.{ltb}
+use lib.Dec.{ltb, leb}
 use Rattle.format.specs.Parse.{pick}
 use Rattle.format.specs.Bytes.{setHash, hashAt}
 use Rattle.format.specs.Refusals.{NOT-LISTED}
@@ -35,3 +35,7 @@ pub record Closed (n : ℕ) (states hashes states′ hashes′ : List ℕ) : Typ
   pub state : (i : ℕ) → i < n → getD states′ i 0 ≡ closedState (getD states i 0)
   pub hash : (i : ℕ) → i < n → hashAt hashes′ (32 * i) ≡ closedHash (getD states i 0) (hashAt hashes (32 * i))
   pub left : (i : ℕ) → n ≤ i → (getD states′ i 0 ≡ getD states i 0) × (hashAt hashes′ (32 * i) ≡ hashAt hashes (32 * i))
+
+-- the rows that are counted: all, or none if there is not a cost for each
+unfoldable pub countedOf : ℕ → ℕ → ℕ
+countedOf count costs = pick (leb count costs) count 0

@@ -1,5 +1,5 @@
 -- The joins of the pass, by what it does at a node: a visit with so many rows under the node makes so many, whatever these wait for.
-use Prim.Native.Nat.{ℕ, suc, _+_, _*_, _/_, _≤_}
+use Prim.Native.Nat.{ℕ, suc, _+_, _*_, _≤_}
 use mathlib.Core.Path.{_≡_}
 use mathlib.Core.Bool.{Bool, true, false, not, _&&_, _||_}
 use lib.Dec.{ltb}
@@ -29,10 +29,11 @@ pub data Visit (w : Siblings) : ℕ → ℕ → ℕ → Bool → ℕ → Type 0 
       → joins ≡ left + right + again + steps + one (toJoin w (suc k) q want && hasValue (joinOf w (suc k) q))
       → Visit w (suc k) q rows want joins
 
--- all climbs of so many rows over h layers: four joins at most for each layer of four rows while siblings are written, then the visit of the tree
+-- all climbs of so many rows over h layers: one join at most for each row and layer while siblings are written, and one more for a layer where three rows
+-- take four lanes; then the visit of the tree
 pub record Pass (w : Siblings) (h rows joins : ℕ) : Type 0 where
   pub rise : ℕ
-  pub few : rise ≤ rows / 4 * (4 * h)
+  pub few : rise ≤ (rows + 1) * h
   pub tree : ℕ
   pub visit : Visit w h 0 rows false tree
   pub all : joins ≡ rise + tree

@@ -1,4 +1,5 @@
 pub mod Row
+pub mod LookUp
 pub mod Pass
 pub mod Order
 pub mod Together
@@ -6,5 +7,9 @@ pub mod Rise
 pub mod Begun
 pub mod Proofs
 pub mod ClientsShapes
+pub mod Reach
 pub mod Waiting
 pub mod Joins
+pub mod Count
+pub mod CountEnds
+pub mod Spent

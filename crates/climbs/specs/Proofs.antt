@@ -10,14 +10,16 @@ use Rattle.path.specs.declared.path.Form.{Form}
 use Rattle.path.specs.declared.path.Path.{Path}
 use Rattle.path.specs.declared.path.Start.{Start}
 use Rattle.path.specs.declared.path.Start.the-variants.{At, Nowhere}
-use Rattle.path.specs.Path.{LAYERS, startIn}
+use Rattle.path.specs.Path.{LAYERS, leafIn, startIn}
 use Rattle.spv.specs.Result.{Result, accepted, refused}
 use Rattle.spv.specs.Compare.{Proof, prove}
 use Rattle.spv.specs.Readings.{pathReading}
 use Rattle.spv.specs.Rows.{rows}
+use Rattle.spv.specs.Siblings.{writtenBy}
 use Rattle.spv.specs.Shapes.{acceptedOf, provedOf}
 use Rattle.spv.specs.declared.prove.Proved.{Proved}
 use Rattle.climbs.specs.Row.{refusalOf}
+use Rattle.climbs.specs.Count.{startCost}
 
 -- rows that are proved at once
 abbrev pub ROWS : ℕ
@@ -43,6 +45,10 @@ rootBy (refused why) = refused why
 
 unfoldable pub rootIn : List ℕ → Path → List ℕ → Result (List ℕ)
 rootIn s path id = rootBy (prove (pathReading s path id))
+
+-- the joins of the same proof, from where the id stands
+unfoldable pub joinsIn : List ℕ → Path → List ℕ → ℕ
+joinsIn s path id = startCost (writtenBy s (leafIn s path)) (path .layers) id (startIn s path id)
 
 -- a row's start: where the id stands, 0 if nowhere
 unfoldable pub startRow : Start → ℕ
@@ -80,6 +86,12 @@ module _ (s : List ℕ) (path : Path) (starts states hashes : List ℕ) where
   unfoldable pub rootsOf : List ℕ
   rootsOf =
       pick (fits path (length starts) (length states) (length hashes)) (endToEnd (λ i. rootRow (rootIn s path (idAt hashes i))) (length starts) ++ drop (32 * length starts) hashes) hashes
+
+  -- the joins of their proofs, if there is a cost for each
+  unfoldable pub costsOf : List ℕ → List ℕ
+  costsOf costs =
+      pick (fits path (length starts) (length states) (length hashes) && leb (length starts) (length costs))
+      (rows (λ i. joinsIn s path (idAt hashes i)) (length starts) ++ drop (length starts) costs) costs
 
 -- what a row says of an id
 unfoldable pub provedAt : ℕ → List ℕ → List ℕ → List ℕ → List ℕ → ℕ → Proved

@@ -6,7 +6,9 @@ use mathlib.Core.List.{List}
 use lib.ListN.{length, getD}
 use Rattle.format.specs.Bytes.{hashAt}
 use Rattle.spv.specs.Climb.{Siblings, siblingPosition, odd, step}
+use Rattle.spv.specs.Values.{workedOut}
 use Rattle.spv.specs.Shapes.{joinedOf}
+use Rattle.climbs.specs.Pass.{isWritten}
 use Rattle.climbs.specs.declared.rise.Turn.{Turn}
 
 pub record Held (places starts states hashes : List ℕ) : Type 0 where
@@ -15,7 +17,9 @@ pub record Held (places starts states hashes : List ℕ) : Type 0 where
   pub each : length starts ≤ length states
   pub room : 32 * length starts ≤ length hashes
 
--- a row that moves stands at the layer, and hashes what its climb hashes there
+-- the sibling of a row that moves is written, and if the row stands at the layer it hashes what its climb hashes there
 unfoldable pub TurnRight : Siblings → List ℕ → List ℕ → List ℕ → ℕ → ℕ → Turn → Type 0
-TurnRight σ starts states hashes row k t =
-    t .moves ≡ true → (getD states row 0 ≡ k) × (t .joined ≡ joinedOf (step (σ k (siblingPosition (getD starts row 0 / 2 ^ k))) (odd (getD starts row 0 / 2 ^ k)) (hashAt hashes (32 * row))))
+TurnRight w starts states hashes row k t =
+    t .moves ≡ true
+    → (isWritten (w k (siblingPosition (getD starts row 0 / 2 ^ k))) ≡ true)
+    × (getD states row 0 ≡ k → t .joined ≡ joinedOf (step (workedOut w k (siblingPosition (getD starts row 0 / 2 ^ k))) (odd (getD starts row 0 / 2 ^ k)) (hashAt hashes (32 * row))))

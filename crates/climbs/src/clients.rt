@@ -1,5 +1,5 @@
 // A BUMP's all-clients check (01, "The climb"): the clients climb together, as many as there is room for.
-use super::all::climb_rows;
+use super::all::climb_both;
 use super::prove::ROWS;
 use super::row::row_end;
 use super::want::Checked;
@@ -28,6 +28,8 @@ ghost use Rattle.spv.specs.Result.{Result, follow};
 ghost use Rattle.spv.specs.Climb.{Siblings};
 ghost use Rattle.spv.specs.Compare.{Target, any};
 ghost use Rattle.spv.specs.Siblings.{pathSiblings};
+ghost use Rattle.spv.specs.Values.{workedOut};
+ghost use Rattle.climbs.specs.LookUp.{lookedUp};
 ghost use Rattle.spv.specs.Clients.{afterLeaf, bumpClients};
 ghost use Rattle.climbs.specs.ClientsShapes.{pending, clientsIn, clientsOfLevel, wantSays, checkedOf};
 ghost use Rattle.climbs.specs.Row.{cameAt};
@@ -71,6 +73,8 @@ fn clear(states: &mut [u16])
 fn settle_rows(
     s: &[u8],
     path: Path,
+    t: &[u8],
+    others: &[usize],
     want: Want,
     count: usize,
     starts: &[u64],
@@ -79,19 +83,22 @@ fn settle_rows(
     hashes: &mut [u8],
 ) -> Want
     requires { ⌜ (count ≤ length (now starts)) × Lent (now starts) (now order) (now states) (now hashes) × Levels path ⌝ }
-    ensures { λ r. ⌜ wantSays r ≡ rowsSay (pathSiblings (now (s .entry)) path) (path .layers) (now (starts .entry)) (now (hashes .entry)) count (wantSays want) ⌝ }
+    ensures { λ r. ⌜ wantSays r ≡ rowsSay (workedOut (lookedUp (now (s .entry)) (path .at) (now (t .entry)) (now (others .entry)))) (path .layers) (now (starts .entry)) (now (hashes .entry)) count (wantSays want) ⌝ }
 {
     clear(states);
     let places = path.at;
-    climb_rows(
+    let mut uncounted = [0u64; 0];
+    climb_both(
         s,
         &places,
-        Layout::Bump,
+        t,
+        others,
         path.layers,
         &starts[..count],
         &mut order[..count],
         states,
         hashes,
+        &mut uncounted,
     );
     want_rows(want, count, starts, states, hashes)
 }
@@ -118,6 +125,8 @@ fn take_row(s: &[u8], leaf: Leaf, count: usize, starts: &mut [u64], hashes: &mut
 fn make_room(
     s: &[u8],
     path: Path,
+    t: &[u8],
+    others: &[usize],
     want: Want,
     count: usize,
     starts: &[u64],
@@ -126,21 +135,36 @@ fn make_room(
     hashes: &mut [u8],
 ) -> Waiting
     requires { ⌜ (count ≤ length (now starts)) × Lent (now starts) (now order) (now states) (now hashes) × Levels path ⌝ }
-    ensures { λ r. ⌜ (r .count < length (now (starts .entry))) × (rowsSay (pathSiblings (now (s .entry)) path) (path .layers) (now (starts .entry)) (now (hashes .exit)) (r .count) (wantSays (r .want)) ≡ rowsSay (pathSiblings (now (s .entry)) path) (path .layers) (now (starts .entry)) (now (hashes .entry)) count (wantSays want)) ⌝ }
+    ensures { λ r. ⌜ (r .count < length (now (starts .entry))) × (rowsSay (workedOut (lookedUp (now (s .entry)) (path .at) (now (t .entry)) (now (others .entry)))) (path .layers) (now (starts .entry)) (now (hashes .exit)) (r .count) (wantSays (r .want)) ≡ rowsSay (workedOut (lookedUp (now (s .entry)) (path .at) (now (t .entry)) (now (others .entry)))) (path .layers) (now (starts .entry)) (now (hashes .entry)) count (wantSays want)) ⌝ }
 {
     if count < starts.len() {
         return Waiting { want, count };
     }
     Waiting {
-        want: settle_rows(s, path, want, count, starts, order, states, hashes),
+        want: settle_rows(
+            s,
+            path,
+            t,
+            others,
+            want,
+            count,
+            starts,
+            order,
+            states,
+            hashes,
+        ),
         count: 0,
     }
 }
 
-// The clients among count leaves from c, in written order.
+// The clients among count leaves of u from c, in written order, with a root wanted of the first one or not.
 fn check_each(
+    u: &[u8],
     s: &[u8],
     path: Path,
+    t: &[u8],
+    others: &[usize],
+    wanted: Want,
     c: Cursor,
     count: u64,
     starts: &mut [u64],
@@ -149,19 +173,41 @@ fn check_each(
     hashes: &mut [u8],
 ) -> Checked
     requires { ⌜ Lent (now starts) (now order) (now states) (now hashes) × Levels path ⌝ }
-    ensures { λ r. ⌜ r ≡ checkedOf (clientsIn (pathSiblings (now (s .entry)) path) (path .layers) (now (s .entry)) count (c .at) any) ⌝ }
+    ensures { λ r. ⌜ r ≡ checkedOf (follow (wantSays wanted) (λ w. clientsIn (workedOut (lookedUp (now (s .entry)) (path .at) (now (t .entry)) (now (others .entry)))) (path .layers) (now (u .entry)) count (c .at) w)) ⌝ }
 {
-    let mut want = unbound();
+    let mut want = wanted;
     let mut rows: usize = 0;
     let mut next = c;
     let mut i: u64 = 0;
     while i < count {
-        let field = path::leaf_at(s, next, Layout::Bump);
+        let field = path::leaf_at(u, next, Layout::Bump);
         let LeafAnswer::Value(leaf, after) = field else {
-            return close_short(settle_rows(s, path, want, rows, starts, order, states, hashes));
+            return close_short(settle_rows(
+                s,
+                path,
+                t,
+                others,
+                want,
+                rows,
+                starts,
+                order,
+                states,
+                hashes,
+            ));
         };
-        let taken = take_row(s, leaf, rows, starts, hashes);
-        let waiting = make_room(s, path, want, taken, starts, order, states, hashes);
+        let taken = take_row(u, leaf, rows, starts, hashes);
+        let waiting = make_room(
+            s,
+            path,
+            t,
+            others,
+            want,
+            taken,
+            starts,
+            order,
+            states,
+            hashes,
+        );
         want = waiting.want;
         rows = waiting.count;
         let status = want.status;
@@ -175,20 +221,45 @@ fn check_each(
             }
         }
     }
-    close_check(settle_rows(s, path, want, rows, starts, order, states, hashes))
+    close_check(settle_rows(
+        s,
+        path,
+        t,
+        others,
+        want,
+        rows,
+        starts,
+        order,
+        states,
+        hashes,
+    ))
 }
 
-fn check_many(s: &[u8], path: Path, c: Cursor, count: u64) -> Checked
+// The same, with room for the rows.
+pub(crate) fn check_many(
+    u: &[u8],
+    s: &[u8],
+    path: Path,
+    t: &[u8],
+    others: &[usize],
+    wanted: Want,
+    c: Cursor,
+    count: u64,
+) -> Checked
     requires { ⌜ Levels path ⌝ }
-    ensures { λ r. ⌜ r ≡ checkedOf (clientsIn (pathSiblings (now (s .entry)) path) (path .layers) (now (s .entry)) count (c .at) any) ⌝ }
+    ensures { λ r. ⌜ r ≡ checkedOf (follow (wantSays wanted) (λ w. clientsIn (workedOut (lookedUp (now (s .entry)) (path .at) (now (t .entry)) (now (others .entry)))) (path .layers) (now (u .entry)) count (c .at) w)) ⌝ }
 {
     let mut starts = [0u64; ROWS];
     let mut order = [0u16; ROWS];
     let mut states = [0u16; ROWS];
     let mut hashes = [0u8; ROWS_ROOM];
     check_each(
+        u,
         s,
         path,
+        t,
+        others,
+        wanted,
         c,
         count,
         &mut starts,
@@ -196,6 +267,15 @@ fn check_many(s: &[u8], path: Path, c: Cursor, count: u64) -> Checked
         &mut states,
         &mut hashes,
     )
+}
+
+// The clients of a path by itself.
+fn check_own(s: &[u8], path: Path, c: Cursor, count: u64) -> Checked
+    requires { ⌜ Levels path ⌝ }
+    ensures { λ r. ⌜ r ≡ checkedOf (clientsIn (pathSiblings (now (s .entry)) path) (path .layers) (now (s .entry)) count (c .at) any) ⌝ }
+{
+    let none = [0usize; 0];
+    check_many(s, s, path, s, &none, unbound(), c, count)
 }
 
 // A client climbs at once.
@@ -239,7 +319,7 @@ fn check_leaves(s: &[u8], path: Path, c: Cursor, count: u64) -> Checked
     if count <= 4 {
         return check_few(s, path, c, count);
     }
-    check_many(s, path, c, count)
+    check_own(s, path, c, count)
 }
 
 fn check_level(s: &[u8], path: Path, c: Cursor) -> Checked

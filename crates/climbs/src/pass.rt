@@ -1,31 +1,30 @@
 // One pass over the tree: a node's children first, then each climb under them takes one step, then the node's own value.
+use super::count::charge;
+use super::count::join_cost;
+use super::lookup::is_written;
+use super::lookup::look_up;
 use super::row::above;
 use super::row::advance;
 use super::row::turn;
-use format::Cursor;
-use format::Layout;
-use path::Found;
 use spv::Node;
 use spv::NodeKind;
 use spv::absent_node;
 use spv::has_value;
 use spv::join_both;
-use spv::written_node;
 ghost use mathlib.Core.Path.{_≡_};
 ghost use mathlib.Core.Bool.{true, false, _&&_, _||_};
-ghost use Prim.Native.Nat.{ℕ, _+_, _*_, _/_, _≤_, _<_, _^_};
+ghost use Prim.Native.Nat.{_+_, _*_, _/_, _≤_, _<_, _^_};
 ghost use lib.ListN.{length, getD};
-ghost use Rattle.spv.specs.Siblings.{writtenBy, findAt};
-ghost use Rattle.spv.specs.Values.{workedOut};
-ghost use Rattle.spv.specs.Low.{Low};
+ghost use Rattle.climbs.specs.LookUp.{lookedUp};
 ghost use Rattle.spv.specs.Shapes.{siblingOf};
 ghost use Rattle.climbs.specs.Row.{Rows, NotAt, Reached, Under};
-ghost use Rattle.climbs.specs.Pass.{joinChildren, unknownNode, besideOf, firstKnown, Seen, Stepped, AllStepped, Setting, Spot, Visited};
+ghost use Rattle.climbs.specs.Pass.{joinChildren, unknownNode, besideOf, firstKnown, Made, Seen, Stepped, AllStepped, Charged, Setting, Spot, Visited, VisitedCost};
 
-// A node's value, if it was asked for.
+// A node's value, if it was asked for, and the joins that it cost.
 pub struct Known {
     pub known: bool,
     pub node: Node,
+    pub joins: u64,
 }
 
 fn unknown() -> Known
@@ -34,6 +33,7 @@ fn unknown() -> Known
     Known {
         known: false,
         node: absent_node(),
+        joins: 0,
     }
 }
 
@@ -53,25 +53,23 @@ pub(crate) fn either(a: bool, b: bool) -> bool
 pub(crate) fn written_at(
     s: &[u8],
     places: &[usize],
-    layout: Layout,
+    t: &[u8],
+    others: &[usize],
     layer: usize,
     position: u64,
     want: bool,
 ) -> Known
     requires { ⌜ (want ≡ true → layer < length (now places)) ⌝ }
-    ensures { λ r. ⌜ Seen (writtenBy (now (s .entry)) (findAt layout (now (s .entry)) (now (places .entry)))) layer position want r ⌝ }
+    ensures { λ r. ⌜ Seen (lookedUp (now (s .entry)) (now (places .entry)) (now (t .entry)) (now (others .entry))) layer position want r ⌝ }
 {
     if !want {
         return unknown();
     }
-    let at = places[layer];
-    let found = path::find_in_level(s, Cursor { at }, layout, position);
-    match found {
-        Found::Here(kind) => Known {
-            known: true,
-            node: written_node(s, kind),
-        },
-        Found::Missing => unknown(),
+    let node = look_up(s, places, t, others, layer, position);
+    Known {
+        known: is_written(node),
+        node,
+        joins: 0,
     }
 }
 
@@ -84,6 +82,20 @@ fn join_children(l: Node, r: Node) -> Node
         NodeKind::Value => join_both(l, r),
         NodeKind::Copied => join_both(l, l),
         NodeKind::Absent => absent_node(),
+    }
+}
+
+// The same with what it cost.
+fn join_known(l: Known, r: Known) -> Known
+    ensures { λ x. ⌜ Made l r x ⌝ }
+{
+    let a = l.node;
+    let b = r.node;
+    let node = join_children(a, b);
+    Known {
+        known: true,
+        node,
+        joins: join_cost(has_value(node), l.joins, r.joins),
     }
 }
 
@@ -160,7 +172,7 @@ fn beside(j: u64, left: u64, l: Known, r: Known) -> Known
     unknown()
 }
 
-// A row takes one step at a layer, if it stands there, beside one of the two children.
+// A row takes one step at a layer, if it stands there, beside one of the two children, and pays for it.
 fn step_row(
     starts: &[u64],
     states: &mut [u16],
@@ -170,9 +182,10 @@ fn step_row(
     left: u64,
     l: Known,
     r: Known,
+    costs: &mut [u64],
 )
     requires { ⌜ (row < length (now starts)) × (length (now starts) ≤ length (now states)) × (32 * length (now starts) ≤ length (now hashes)) × (layer < 64) ⌝ }
-    ensures { λ _. ⌜ Stepped (now (starts .entry)) (now (states .entry)) (now (hashes .entry)) (now (states .exit)) (now (hashes .exit)) row layer left l r ⌝ }
+    ensures { λ _. ⌜ Stepped (now (starts .entry)) (now (states .entry)) (now (hashes .entry)) (now (states .exit)) (now (hashes .exit)) row layer left l r × Charged (now (starts .entry)) (now (states .entry)) (now (hashes .entry)) (now (costs .entry)) (now (states .exit)) (now (hashes .exit)) (now (costs .exit)) layer left l r ⌝ }
 {
     let state = states[row] as usize;
     if state != layer {
@@ -189,6 +202,8 @@ fn step_row(
     let a = t.left;
     let b = t.right;
     let parent = hash::join(a, b);
+    let kind = t.kind;
+    charge(states, row, layer, kind, x.joins, costs);
     advance(states, hashes, row, layer, t, parent);
 }
 
@@ -204,14 +219,15 @@ fn step_rows(
     hi: usize,
     l: Known,
     r: Known,
+    costs: &mut [u64],
 )
     requires { ⌜ (lo ≤ hi) × (hi ≤ length (now order)) × Rows (now order) (length (now starts)) × (length (now starts) ≤ length (now states)) × (32 * length (now starts) ≤ length (now hashes)) × (layer < 64) ⌝ }
-    ensures { λ _. ⌜ AllStepped (now (starts .entry)) (now (order .entry)) (now (states .entry)) (now (hashes .entry)) (now (states .exit)) (now (hashes .exit)) layer left lo hi l r ⌝ }
+    ensures { λ _. ⌜ AllStepped (now (starts .entry)) (now (order .entry)) (now (states .entry)) (now (hashes .entry)) (now (states .exit)) (now (hashes .exit)) layer left lo hi l r × Charged (now (starts .entry)) (now (states .entry)) (now (hashes .entry)) (now (costs .entry)) (now (states .exit)) (now (hashes .exit)) (now (costs .exit)) layer left l r ⌝ }
 {
     let mut i = lo;
     while i < hi {
         let row = order[i] as usize;
-        step_row(starts, states, hashes, row, layer, left, l, r);
+        step_row(starts, states, hashes, row, layer, left, l, r, costs);
         i += 1;
     }
 }
@@ -225,6 +241,46 @@ fn first_known(a: Known, b: Known) -> Known
     b
 }
 
+// The rows under two children take their step, the left child's value as it was found first or again; and the join of the two, if it is needed.
+// It is called from two places so that it has a frame of its own, and `visit`, which calls itself, a small one.
+fn step_children(
+    starts: &[u64],
+    order: &[u16],
+    states: &mut [u16],
+    hashes: &mut [u8],
+    layer: usize,
+    left: u64,
+    lo: usize,
+    hi: usize,
+    first: Known,
+    again: Known,
+    r: Known,
+    need: bool,
+    costs: &mut [u64],
+) -> Known
+    requires { ⌜ (lo ≤ hi) × (hi ≤ length (now order)) × Rows (now order) (length (now starts)) × (length (now starts) ≤ length (now states)) × (32 * length (now starts) ≤ length (now hashes)) × (layer < 64) ⌝ }
+    ensures { λ x. ⌜ AllStepped (now (starts .entry)) (now (order .entry)) (now (states .entry)) (now (hashes .entry)) (now (states .exit)) (now (hashes .exit)) layer left lo hi (firstKnown first again) r × Charged (now (starts .entry)) (now (states .entry)) (now (hashes .entry)) (now (costs .entry)) (now (states .exit)) (now (hashes .exit)) (now (costs .exit)) layer left (firstKnown first again) r × (need ≡ true → Made (firstKnown first again) r x) ⌝ }
+{
+    let l = first_known(first, again);
+    step_rows(
+        starts,
+        order,
+        states,
+        hashes,
+        layer,
+        left,
+        lo,
+        hi,
+        l,
+        r,
+        costs,
+    );
+    if !need {
+        return unknown();
+    }
+    join_known(l, r)
+}
+
 // The climbs of the rows from lo to hi in order, which lie under a layer and position, up to that layer; and the value there, if it is wanted.
 pub(crate) fn visit(
     s: &[u8],
@@ -233,22 +289,28 @@ pub(crate) fn visit(
     order: &[u16],
     states: &mut [u16],
     hashes: &mut [u8],
-    layout: Layout,
+    t: &[u8],
+    others: &[usize],
     layer: usize,
     position: u64,
     lo: usize,
     hi: usize,
     want: bool,
+    costs: &mut [u64],
 ) -> Known
     requires { ⌜ Setting (now places) (now starts) (now order) (now states) (now hashes) ⌝ }
     requires { ⌜ Spot (now starts) (now order) layer position lo hi want ⌝ }
-    ensures { λ r. ⌜ Visited (writtenBy (now (s .entry)) (findAt layout (now (s .entry)) (now (places .entry)))) (now (starts .entry)) (now (order .entry)) (now (states .entry)) (now (hashes .entry)) (now (states .exit)) (now (hashes .exit)) layer position lo hi want r ⌝ }
+    ensures { λ r. ⌜ Visited (lookedUp (now (s .entry)) (now (places .entry)) (now (t .entry)) (now (others .entry))) (now (starts .entry)) (now (order .entry)) (now (states .entry)) (now (hashes .entry)) (now (states .exit)) (now (hashes .exit)) layer position lo hi want r × VisitedCost (lookedUp (now (s .entry)) (now (places .entry)) (now (t .entry)) (now (others .entry))) (now (starts .entry)) (now (states .entry)) (now (hashes .entry)) (now (costs .entry)) (now (states .exit)) (now (hashes .exit)) (now (costs .exit)) layer position want r ⌝ }
 {
-    let here = written_at(s, places, layout, layer, position, want);
+    let here = written_at(s, places, t, others, layer, position, want);
     let need = both(want, !here.known);
     let node = here.node;
     if layer == 0 {
-        return Known { known: want, node };
+        return Known {
+            known: want,
+            node,
+            joins: 0,
+        };
     }
     if either(need, behind(order, states, layer, lo, hi)) {
         let below = layer - 1;
@@ -262,12 +324,14 @@ pub(crate) fn visit(
             order,
             states,
             hashes,
-            layout,
+            t,
+            others,
             below,
             left,
             lo,
             m,
             want_l,
+            costs,
         );
         let l_node = first.node;
         let want_r = either(
@@ -281,12 +345,14 @@ pub(crate) fn visit(
             order,
             states,
             hashes,
-            layout,
+            t,
+            others,
             below,
             left + 1,
             m,
             hi,
             want_r,
+            costs,
         );
         let want_again = both(!want_l, waiting(order, states, below, m, hi));
         let again = visit(
@@ -296,23 +362,51 @@ pub(crate) fn visit(
             order,
             states,
             hashes,
-            layout,
+            t,
+            others,
             below,
             left,
             m,
             m,
             want_again,
+            costs,
         );
-        let l = first_known(first, again);
-        step_rows(starts, order, states, hashes, below, left, lo, m, l, r);
-        step_rows(starts, order, states, hashes, below, left, m, hi, l, r);
         if need {
-            let r_node = r.node;
-            return Known {
-                known: true,
-                node: join_children(l_node, r_node),
-            };
+            return step_children(
+                starts,
+                order,
+                states,
+                hashes,
+                below,
+                left,
+                lo,
+                hi,
+                first,
+                again,
+                r,
+                true,
+                costs,
+            );
         }
+        step_children(
+            starts,
+            order,
+            states,
+            hashes,
+            below,
+            left,
+            lo,
+            hi,
+            first,
+            again,
+            r,
+            false,
+            costs,
+        );
     }
-    Known { known: want, node }
+    Known {
+        known: want,
+        node,
+        joins: 0,
+    }
 }

@@ -1,11 +1,11 @@
 // Proofs of many ids by one path: each row of a list of hashes holds an id, and gets what the id's own proof comes to.
 use super::all::climb_rows;
+use super::count::clear_costs;
 use super::row::closed_state;
 use super::row::rejection_of;
 use super::row::root_at;
 use super::row::start_at;
 use super::row::state_at;
-use format::Layout;
 use path::Form;
 use path::LAYERS;
 use path::Path;
@@ -19,8 +19,8 @@ ghost use lib.ListN.{length, getD, set};
 ghost use Rattle.path.specs.Path.{startIn};
 ghost use Rattle.spv.specs.Rows.{rows};
 ghost use Rattle.climbs.specs.Together.{Levels};
-ghost use Rattle.climbs.specs.Begun.{begunRow, First, closedState, closedHashes, Closed};
-ghost use Rattle.climbs.specs.Proofs.{hasRoom, fits, rootIn, startRow, stateRow, rootRow, endToEnd, idAt, startsOf, statesOf, rootsOf, provedAt};
+ghost use Rattle.climbs.specs.Begun.{begunRow, First, closedState, closedHashes, Closed, countedOf};
+ghost use Rattle.climbs.specs.Proofs.{hasRoom, fits, rootIn, startRow, stateRow, rootRow, endToEnd, idAt, joinsIn, startsOf, statesOf, rootsOf, costsOf, provedAt};
 
 // Rows that are proved at once.
 pub const ROWS: usize = 256;
@@ -119,43 +119,77 @@ fn prove_rows(
     states: &mut [u16],
     hashes: &mut [u8],
     order: &mut [u16],
+    costs: &mut [u64],
 )
-    requires { ⌜ Levels path × (length (now starts) ≤ 256) × (length (now states) ≡ length (now starts)) × (length (now hashes) ≡ 32 * length (now starts)) × (length (now order) ≡ 256) ⌝ }
-    ensures { λ _. ⌜ (now (starts .exit) ≡ rows (λ i. startRow (startIn (now (s .entry)) path (idAt (now (hashes .entry)) i))) (length (now (starts .entry)))) × (now (states .exit) ≡ rows (λ i. stateRow (rootIn (now (s .entry)) path (idAt (now (hashes .entry)) i))) (length (now (starts .entry)))) × (now (hashes .exit) ≡ endToEnd (λ i. rootRow (rootIn (now (s .entry)) path (idAt (now (hashes .entry)) i))) (length (now (starts .entry)))) ⌝ }
+    requires { ⌜ Levels path × (length (now starts) ≤ 256) × (length (now states) ≡ length (now starts)) × (length (now hashes) ≡ 32 * length (now starts)) × (length (now order) ≡ 256) × (length (now costs) ≤ length (now starts)) ⌝ }
+    ensures { λ _. ⌜ (now (starts .exit) ≡ rows (λ i. startRow (startIn (now (s .entry)) path (idAt (now (hashes .entry)) i))) (length (now (starts .entry)))) × (now (states .exit) ≡ rows (λ i. stateRow (rootIn (now (s .entry)) path (idAt (now (hashes .entry)) i))) (length (now (starts .entry)))) × (now (hashes .exit) ≡ endToEnd (λ i. rootRow (rootIn (now (s .entry)) path (idAt (now (hashes .entry)) i))) (length (now (starts .entry)))) × (now (costs .exit) ≡ rows (λ i. joinsIn (now (s .entry)) path (idAt (now (hashes .entry)) i)) (length (now (costs .entry)))) ⌝ }
 {
     begin_rows(s, path, starts, states, hashes);
+    clear_costs(costs);
     let places = path.at;
     let count = starts.len();
     climb_rows(
         s,
         &places,
-        Layout::Bump,
         path.layers,
         starts,
         &mut order[..count],
         states,
         hashes,
+        costs,
     );
     close_rows(states, hashes);
 }
 
-fn prove_ordered(s: &[u8], path: Path, starts: &mut [u64], states: &mut [u16], hashes: &mut [u8])
-    requires { ⌜ Levels path × (length (now starts) ≤ 256) × (length (now states) ≡ length (now starts)) × (length (now hashes) ≡ 32 * length (now starts)) ⌝ }
-    ensures { λ _. ⌜ (now (starts .exit) ≡ rows (λ i. startRow (startIn (now (s .entry)) path (idAt (now (hashes .entry)) i))) (length (now (starts .entry)))) × (now (states .exit) ≡ rows (λ i. stateRow (rootIn (now (s .entry)) path (idAt (now (hashes .entry)) i))) (length (now (starts .entry)))) × (now (hashes .exit) ≡ endToEnd (λ i. rootRow (rootIn (now (s .entry)) path (idAt (now (hashes .entry)) i))) (length (now (starts .entry)))) ⌝ }
+fn prove_ordered(
+    s: &[u8],
+    path: Path,
+    starts: &mut [u64],
+    states: &mut [u16],
+    hashes: &mut [u8],
+    costs: &mut [u64],
+)
+    requires { ⌜ Levels path × (length (now starts) ≤ 256) × (length (now states) ≡ length (now starts)) × (length (now hashes) ≡ 32 * length (now starts)) × (length (now costs) ≤ length (now starts)) ⌝ }
+    ensures { λ _. ⌜ (now (starts .exit) ≡ rows (λ i. startRow (startIn (now (s .entry)) path (idAt (now (hashes .entry)) i))) (length (now (starts .entry)))) × (now (states .exit) ≡ rows (λ i. stateRow (rootIn (now (s .entry)) path (idAt (now (hashes .entry)) i))) (length (now (starts .entry)))) × (now (hashes .exit) ≡ endToEnd (λ i. rootRow (rootIn (now (s .entry)) path (idAt (now (hashes .entry)) i))) (length (now (starts .entry)))) × (now (costs .exit) ≡ rows (λ i. joinsIn (now (s .entry)) path (idAt (now (hashes .entry)) i)) (length (now (costs .entry)))) ⌝ }
 {
     let mut order = [0u16; ROWS];
-    prove_rows(s, path, starts, states, hashes, &mut order);
+    prove_rows(s, path, starts, states, hashes, &mut order, costs);
 }
 
-// Prove the ids in the rows of `hashes` by one path, as many as there are starts: each gets the start, the state and the root of its own proof.
-// Nothing is done if there is no room for them.
-pub fn prove_all(s: &[u8], path: Path, starts: &mut [u64], states: &mut [u16], hashes: &mut [u8])
-    ensures { λ _. ⌜ (now (starts .exit) ≡ startsOf (now (s .entry)) path (now (starts .entry)) (now (states .entry)) (now (hashes .entry))) × (now (states .exit) ≡ statesOf (now (s .entry)) path (now (starts .entry)) (now (states .entry)) (now (hashes .entry))) × (now (hashes .exit) ≡ rootsOf (now (s .entry)) path (now (starts .entry)) (now (states .entry)) (now (hashes .entry))) ⌝ }
+// The rows that are counted: all, or none if there is not a cost for each.
+fn counted(count: usize, costs: usize) -> usize
+    ensures { λ r. ⌜ r ≡ countedOf count costs ⌝ }
+{
+    if count <= costs {
+        return count;
+    }
+    0
+}
+
+// Prove the ids in the rows of `hashes` by one path, as many as there are starts: each gets the start, the state and the root of its own proof, and
+// if there is a cost for each, the joins that it makes. Nothing is done if there is no room for them.
+pub fn prove_all(
+    s: &[u8],
+    path: Path,
+    starts: &mut [u64],
+    states: &mut [u16],
+    hashes: &mut [u8],
+    costs: &mut [u64],
+)
+    ensures { λ _. ⌜ (now (starts .exit) ≡ startsOf (now (s .entry)) path (now (starts .entry)) (now (states .entry)) (now (hashes .entry))) × (now (states .exit) ≡ statesOf (now (s .entry)) path (now (starts .entry)) (now (states .entry)) (now (hashes .entry))) × (now (hashes .exit) ≡ rootsOf (now (s .entry)) path (now (starts .entry)) (now (states .entry)) (now (hashes .entry))) × (now (costs .exit) ≡ costsOf (now (s .entry)) path (now (starts .entry)) (now (states .entry)) (now (hashes .entry)) (now (costs .entry))) ⌝ }
 {
     let count = starts.len();
     if rows_fit(path, count, states.len(), hashes.len()) {
         let end = 32 * count;
-        prove_ordered(s, path, starts, &mut states[..count], &mut hashes[..end]);
+        let some = counted(count, costs.len());
+        prove_ordered(
+            s,
+            path,
+            starts,
+            &mut states[..count],
+            &mut hashes[..end],
+            &mut costs[..some],
+        );
     }
 }
 

@@ -1,10 +1,10 @@
 // Rows four at a time, as long as their siblings are written: most layers of most climbs, as four joins at once take as long as two.
+use super::count::charge;
 use super::pass::either;
 use super::pass::written_at;
 use super::row::above;
 use super::row::advance;
 use super::row::turn;
-use format::Layout;
 use lanes::Nodes;
 use spv::Joined;
 use spv::failed;
@@ -12,14 +12,15 @@ use spv::sibling_position;
 ghost use mathlib.Core.Path.{_≡_};
 ghost use mathlib.Core.Bool.{false};
 ghost use mathlib.Core.List.{_++_};
-ghost use Prim.Native.Nat.{ℕ, _+_, _*_, _≤_, _<_};
+ghost use Prim.Native.Nat.{ℕ, _+_, _≤_, _<_};
 ghost use lib.ListN.{length};
 ghost use Rattle.hash.specs.Sha256.{sha256d};
 ghost use Rattle.lanes.specs.Lanes as L;
 ghost use Rattle.format.specs.Parse.{pick};
-ghost use Rattle.spv.specs.Siblings.{writtenBy, findAt};
+ghost use Rattle.climbs.specs.LookUp.{lookedUp};
 ghost use Rattle.spv.specs.Values.{workedOut};
 ghost use Rattle.climbs.specs.Row.{Moved, statesAfter, hashesAfter};
+ghost use Rattle.climbs.specs.Spent.{costsAfter, Spent};
 ghost use Rattle.climbs.specs.Rise.{Held, TurnRight};
 
 // What a row hashes at a layer, if it moves.
@@ -44,12 +45,13 @@ fn written_turn(
     starts: &[u64],
     states: &[u16],
     hashes: &[u8],
-    layout: Layout,
+    t: &[u8],
+    others: &[usize],
     row: usize,
     layer: usize,
 ) -> Turn
     requires { ⌜ (row < length (now starts)) × (layer < 64) × Held (now places) (now starts) (now states) (now hashes) ⌝ }
-    ensures { λ r. ⌜ TurnRight (workedOut (writtenBy (now (s .entry)) (findAt layout (now (s .entry)) (now (places .entry))))) (now (starts .entry)) (now (states .entry)) (now (hashes .entry)) row layer r ⌝ }
+    ensures { λ r. ⌜ TurnRight (lookedUp (now (s .entry)) (now (places .entry)) (now (t .entry)) (now (others .entry))) (now (starts .entry)) (now (states .entry)) (now (hashes .entry)) row layer r ⌝ }
 {
     let state = states[row] as usize;
     if state != layer {
@@ -57,7 +59,7 @@ fn written_turn(
     }
     let j = above(starts[row], layer);
     let q = sibling_position(j);
-    let x = written_at(s, places, layout, layer, q, true);
+    let x = written_at(s, places, t, others, layer, q, true);
     if !x.known {
         return stay();
     }
@@ -69,7 +71,7 @@ fn written_turn(
     }
 }
 
-// A row that moves goes one layer on.
+// A row that moves goes one layer on, and pays for its own join: what is written costs none.
 fn advance_if(
     states: &mut [u16],
     hashes: &mut [u8],
@@ -77,13 +79,16 @@ fn advance_if(
     layer: usize,
     t: Turn,
     parent: [u8; 32],
+    costs: &mut [u64],
 )
     requires { ⌜ (row < length (now states)) × (layer < 64) ⌝ }
-    ensures { λ _. ⌜ (now (states .exit) ≡ pick (t .moves) (statesAfter (now (states .entry)) row layer (t .joined .kind)) (now (states .entry))) × (now (hashes .exit) ≡ pick (t .moves) (hashesAfter (now (states .entry)) (now (hashes .entry)) row layer (t .joined .kind) parent) (now (hashes .entry))) ⌝ }
+    ensures { λ _. ⌜ (now (states .exit) ≡ pick (t .moves) (statesAfter (now (states .entry)) row layer (t .joined .kind)) (now (states .entry))) × (now (hashes .exit) ≡ pick (t .moves) (hashesAfter (now (states .entry)) (now (hashes .entry)) row layer (t .joined .kind) parent) (now (hashes .entry))) × (now (costs .exit) ≡ pick (t .moves) (costsAfter (now (states .entry)) (now (costs .entry)) row layer (t .joined .kind) 0) (now (costs .entry))) ⌝ }
 {
     let moves = t.moves;
     let joined = t.joined;
+    let kind = joined.kind;
     if moves {
+        charge(states, row, layer, kind, 0, costs);
         advance(states, hashes, row, layer, joined, parent);
     }
 }
@@ -116,24 +121,29 @@ fn parents(a: Joined, b: Joined, c: Joined, d: Joined) -> Nodes
     )
 }
 
-// Four rows from one on, one layer on; whether one of them moved.
+// Four rows, one layer on; whether one of them moved. A row may be named twice: once it has moved it stands at the layer no more.
 fn layer4(
     s: &[u8],
     places: &[usize],
     starts: &[u64],
     states: &mut [u16],
     hashes: &mut [u8],
-    layout: Layout,
-    row: usize,
+    t: &[u8],
+    others: &[usize],
+    a: usize,
+    b: usize,
+    c: usize,
+    d: usize,
     layer: usize,
+    costs: &mut [u64],
 ) -> bool
-    requires { ⌜ (row + 3 < length (now starts)) × (layer < 64) × Held (now places) (now starts) (now states) (now hashes) ⌝ }
-    ensures { λ _. ⌜ Moved (workedOut (writtenBy (now (s .entry)) (findAt layout (now (s .entry)) (now (places .entry))))) (layer + 1) (now (starts .entry)) (now (states .entry)) (now (hashes .entry)) (now (states .exit)) (now (hashes .exit)) ⌝ }
+    requires { ⌜ (a < length (now starts)) × (b < length (now starts)) × (c < length (now starts)) × (d < length (now starts)) × (layer < 64) × Held (now places) (now starts) (now states) (now hashes) ⌝ }
+    ensures { λ _. ⌜ Moved (workedOut (lookedUp (now (s .entry)) (now (places .entry)) (now (t .entry)) (now (others .entry)))) (layer + 1) (now (starts .entry)) (now (states .entry)) (now (hashes .entry)) (now (states .exit)) (now (hashes .exit)) × Spent (lookedUp (now (s .entry)) (now (places .entry)) (now (t .entry)) (now (others .entry))) (layer + 1) (now (starts .entry)) (now (states .entry)) (now (hashes .entry)) (now (costs .entry)) (now (states .exit)) (now (hashes .exit)) (now (costs .exit)) ⌝ }
 {
-    let ta = written_turn(s, places, starts, states, hashes, layout, row, layer);
-    let tb = written_turn(s, places, starts, states, hashes, layout, row + 1, layer);
-    let tc = written_turn(s, places, starts, states, hashes, layout, row + 2, layer);
-    let td = written_turn(s, places, starts, states, hashes, layout, row + 3, layer);
+    let ta = written_turn(s, places, starts, states, hashes, t, others, a, layer);
+    let tb = written_turn(s, places, starts, states, hashes, t, others, b, layer);
+    let tc = written_turn(s, places, starts, states, hashes, t, others, c, layer);
+    let td = written_turn(s, places, starts, states, hashes, t, others, d, layer);
     let ja = ta.joined;
     let jb = tb.joined;
     let jc = tc.joined;
@@ -143,11 +153,89 @@ fn layer4(
     let pb = parent.b;
     let pc = parent.c;
     let pd = parent.d;
-    advance_if(states, hashes, row, layer, ta, pa);
-    advance_if(states, hashes, row + 1, layer, tb, pb);
-    advance_if(states, hashes, row + 2, layer, tc, pc);
-    advance_if(states, hashes, row + 3, layer, td, pd);
+    advance_if(states, hashes, a, layer, ta, pa, costs);
+    advance_if(states, hashes, b, layer, tb, pb, costs);
+    advance_if(states, hashes, c, layer, tc, pc, costs);
+    advance_if(states, hashes, d, layer, td, pd, costs);
     either(either(ta.moves, tb.moves), either(tc.moves, td.moves))
+}
+
+// One row by itself, one layer on; whether it moved.
+fn layer1(
+    s: &[u8],
+    places: &[usize],
+    starts: &[u64],
+    states: &mut [u16],
+    hashes: &mut [u8],
+    t: &[u8],
+    others: &[usize],
+    row: usize,
+    layer: usize,
+    costs: &mut [u64],
+) -> bool
+    requires { ⌜ (row < length (now starts)) × (layer < 64) × Held (now places) (now starts) (now states) (now hashes) ⌝ }
+    ensures { λ _. ⌜ Moved (workedOut (lookedUp (now (s .entry)) (now (places .entry)) (now (t .entry)) (now (others .entry)))) (layer + 1) (now (starts .entry)) (now (states .entry)) (now (hashes .entry)) (now (states .exit)) (now (hashes .exit)) × Spent (lookedUp (now (s .entry)) (now (places .entry)) (now (t .entry)) (now (others .entry))) (layer + 1) (now (starts .entry)) (now (states .entry)) (now (hashes .entry)) (now (costs .entry)) (now (states .exit)) (now (hashes .exit)) (now (costs .exit)) ⌝ }
+{
+    let turn = written_turn(s, places, starts, states, hashes, t, others, row, layer);
+    if !turn.moves {
+        return false;
+    }
+    let joined = turn.joined;
+    let left = joined.left;
+    let right = joined.right;
+    let parent = hash::join(left, right);
+    advance_if(states, hashes, row, layer, turn, parent, costs);
+    true
+}
+
+// Four rows, or one that is named four times.
+fn layer_rows(
+    s: &[u8],
+    places: &[usize],
+    starts: &[u64],
+    states: &mut [u16],
+    hashes: &mut [u8],
+    t: &[u8],
+    others: &[usize],
+    a: usize,
+    b: usize,
+    c: usize,
+    d: usize,
+    layer: usize,
+    costs: &mut [u64],
+) -> bool
+    requires { ⌜ (a < length (now starts)) × (b < length (now starts)) × (c < length (now starts)) × (d < length (now starts)) × (layer < 64) × Held (now places) (now starts) (now states) (now hashes) ⌝ }
+    ensures { λ _. ⌜ Moved (workedOut (lookedUp (now (s .entry)) (now (places .entry)) (now (t .entry)) (now (others .entry)))) (layer + 1) (now (starts .entry)) (now (states .entry)) (now (hashes .entry)) (now (states .exit)) (now (hashes .exit)) × Spent (lookedUp (now (s .entry)) (now (places .entry)) (now (t .entry)) (now (others .entry))) (layer + 1) (now (starts .entry)) (now (states .entry)) (now (hashes .entry)) (now (costs .entry)) (now (states .exit)) (now (hashes .exit)) (now (costs .exit)) ⌝ }
+{
+    if a == d {
+        return layer1(
+            s,
+            places,
+            starts,
+            states,
+            hashes,
+            t,
+            others,
+            a,
+            layer,
+            costs,
+        );
+    }
+    layer4(
+        s,
+        places,
+        starts,
+        states,
+        hashes,
+        t,
+        others,
+        a,
+        b,
+        c,
+        d,
+        layer,
+        costs,
+    )
 }
 
 // The same layer by layer, as long as one of them moves.
@@ -157,42 +245,103 @@ fn rise4(
     starts: &[u64],
     states: &mut [u16],
     hashes: &mut [u8],
-    layout: Layout,
-    row: usize,
+    t: &[u8],
+    others: &[usize],
+    a: usize,
+    b: usize,
+    c: usize,
+    d: usize,
     layers: usize,
+    costs: &mut [u64],
 )
-    requires { ⌜ (row + 3 < length (now starts)) × (layers ≤ 64) × Held (now places) (now starts) (now states) (now hashes) ⌝ }
-    ensures { λ _. ⌜ Moved (workedOut (writtenBy (now (s .entry)) (findAt layout (now (s .entry)) (now (places .entry))))) layers (now (starts .entry)) (now (states .entry)) (now (hashes .entry)) (now (states .exit)) (now (hashes .exit)) ⌝ }
+    requires { ⌜ (a < length (now starts)) × (b < length (now starts)) × (c < length (now starts)) × (d < length (now starts)) × (layers ≤ 64) × Held (now places) (now starts) (now states) (now hashes) ⌝ }
+    ensures { λ _. ⌜ Moved (workedOut (lookedUp (now (s .entry)) (now (places .entry)) (now (t .entry)) (now (others .entry)))) layers (now (starts .entry)) (now (states .entry)) (now (hashes .entry)) (now (states .exit)) (now (hashes .exit)) × Spent (lookedUp (now (s .entry)) (now (places .entry)) (now (t .entry)) (now (others .entry))) layers (now (starts .entry)) (now (states .entry)) (now (hashes .entry)) (now (costs .entry)) (now (states .exit)) (now (hashes .exit)) (now (costs .exit)) ⌝ }
 {
     let mut k: usize = 0;
     while k < layers {
-        if !layer4(s, places, starts, states, hashes, layout, row, k) {
+        if !layer_rows(
+            s,
+            places,
+            starts,
+            states,
+            hashes,
+            t,
+            others,
+            a,
+            b,
+            c,
+            d,
+            k,
+            costs,
+        ) {
             return;
         }
         k += 1;
     }
 }
 
-// All rows, four at a time; up to three that are left over stay where they are.
+// The row in lane i beside one of n: one or two that are left over go up each by itself, and of three the last is named twice.
+fn lane(row: usize, i: usize, n: usize) -> usize
+    requires { ⌜ (row < n) × (n ≤ 65536) ⌝ }
+    ensures { λ r. ⌜ r < n ⌝ }
+{
+    let left = n - row;
+    if left < 3 {
+        return row;
+    }
+    if left <= i {
+        return n - 1;
+    }
+    row + i
+}
+
+// How many rows go up together from one of n on.
+fn together(row: usize, n: usize) -> usize
+    requires { ⌜ row < n ⌝ }
+    ensures { λ r. ⌜ (1 ≤ r) × (r ≤ 4) ⌝ }
+{
+    if n - row < 3 {
+        return 1;
+    }
+    4
+}
+
+// All rows, as long as their siblings are written.
 pub(crate) fn rise_rows(
     s: &[u8],
     places: &[usize],
     starts: &[u64],
     states: &mut [u16],
     hashes: &mut [u8],
-    layout: Layout,
+    t: &[u8],
+    others: &[usize],
     layers: usize,
+    costs: &mut [u64],
 )
     requires { ⌜ (layers ≤ 64) × Held (now places) (now starts) (now states) (now hashes) ⌝ }
-    ensures { λ _. ⌜ Moved (workedOut (writtenBy (now (s .entry)) (findAt layout (now (s .entry)) (now (places .entry))))) layers (now (starts .entry)) (now (states .entry)) (now (hashes .entry)) (now (states .exit)) (now (hashes .exit)) ⌝ }
+    ensures { λ _. ⌜ Moved (workedOut (lookedUp (now (s .entry)) (now (places .entry)) (now (t .entry)) (now (others .entry)))) layers (now (starts .entry)) (now (states .entry)) (now (hashes .entry)) (now (states .exit)) (now (hashes .exit)) × Spent (lookedUp (now (s .entry)) (now (places .entry)) (now (t .entry)) (now (others .entry))) layers (now (starts .entry)) (now (states .entry)) (now (hashes .entry)) (now (costs .entry)) (now (states .exit)) (now (hashes .exit)) (now (costs .exit)) ⌝ }
 {
     let n = starts.len();
     let mut row: usize = 0;
     while row < n {
-        if n - row < 4 {
-            return;
-        }
-        rise4(s, places, starts, states, hashes, layout, row, layers);
-        row += 4;
+        let b = lane(row, 1, n);
+        let c = lane(row, 2, n);
+        let d = lane(row, 3, n);
+        rise4(
+            s,
+            places,
+            starts,
+            states,
+            hashes,
+            t,
+            others,
+            row,
+            b,
+            c,
+            d,
+            layers,
+            costs,
+        );
+        row += together(row, n);
     }
 }

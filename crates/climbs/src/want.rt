@@ -10,7 +10,7 @@ use spv::reject;
 ghost use mathlib.Core.Path.{_≡_};
 ghost use Rattle.format.specs.Refusals.{NOT-LISTED};
 ghost use Rattle.spv.specs.Result.{accepted, refused, carrying, follow};
-ghost use Rattle.spv.specs.Compare.{targetOf, any};
+ghost use Rattle.spv.specs.Compare.{targetOf, any, bound};
 ghost use Rattle.spv.specs.Clients.{closing};
 ghost use Rattle.climbs.specs.ClientsShapes.{wantSays, endSays, wantedTo, refusedCheck, checkedOf};
 
@@ -55,6 +55,17 @@ pub(crate) fn unbound() -> Want
         status: Status::Read,
         bound: false,
         root: [0u8; 32],
+    }
+}
+
+// A root that is wanted of the first client already.
+pub(crate) fn bound_to(root: [u8; 32]) -> Want
+    ensures { λ r. ⌜ wantSays r ≡ accepted (bound root) ⌝ }
+{
+    Want {
+        status: Status::Read,
+        bound: true,
+        root,
     }
 }
 

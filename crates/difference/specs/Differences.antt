@@ -4,24 +4,10 @@ use mathlib.Core.List.{List, [], _∷_, _++_}
 use mathlib.Core.Bool.{Bool, true, false}
 use Prim.Native.Nat.{ℕ, zero, suc, _^_}
 use lib.Dec.{eqb, leb}
-use lib.ListN.{getD}
 use Rattle.format.specs.Bytes.{same}
 use Rattle.format.specs.Parse.{pick}
-use Rattle.encoding.specs.BumpBytes.{Carried, plain, copy, client, Entry, Content}
-
--- what stands at a place
-pub data Standing : Type 0 where
-  stands : Carried → Standing
-  nothing : Standing
-
--- what stands at an offset of a level
-unfoldable pub at : ℕ → List Entry → Standing
-at o [] = nothing
-at o (e ∷ l) = pick (eqb (e .offset) o) (stands (e .carried)) (at o l)
-
--- what stands at a level and offset
-unfoldable pub standing : Content → ℕ → ℕ → Standing
-standing x k o = at o (getD (x .levels) k [])
+use Rattle.encoding.specs.BumpBytes.{Carried, plain, copy, client, Content}
+use Rattle.levels.specs.Standing.{Standing, stands, nothing, standing}
 
 -- a leaf that stands in the first only, in the second only, or in both and differs
 pub data Side : Type 0 where

@@ -9,7 +9,8 @@ use Rattle.format.specs.Bump.{blockField, heightField, bumpField}
 use Rattle.encoding.specs.BumpBytes.{Content, Entry, plain, copy, client, carriedOf}
 use Rattle.format.specs.Bytes.{same}
 use Rattle.spv.specs.Result.{refused, carrying}
-use Rattle.difference.specs.Differences.{first, second, both, Difference, block, height, leaf, at, standing, equal, told, tell, offsetsFrom, levelsFrom, unless, higher, differences}
+use Rattle.difference.specs.Differences.{first, second, both, Difference, block, height, leaf, equal, told, tell, offsetsFrom, levelsFrom, unless, higher, differences}
+use Rattle.levels.specs.Standing.{at, standing}
 use Rattle.difference.specs.Listing.{sideWord, whatOf, levelOf, offsetOf, wordsOf, fitting, listing, wordsIn}
 
 -- a leaf that holds a short string in place of a hash

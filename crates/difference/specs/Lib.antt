@@ -5,10 +5,6 @@ pub mod NoDifference
 pub mod Listing
 pub mod Filling
 pub mod FillingLaws
-pub mod Sorted
-pub mod SortedLaws
-pub mod InOrder
-pub mod SortedTheorem
 pub mod Merge
 pub mod MergeLaws
 pub mod MergeTheorem

@@ -1,41 +1,19 @@
 -- The differences of a level as the code tells them: of two lists in the order of their offsets, from the least offset up.
-use mathlib.Core.List.{List, [], _∷_}
+use mathlib.Core.List.{List, []}
 use mathlib.Core.Bool.{Bool}
 use Prim.Native.Nat.{ℕ, zero, suc, _+_}
-use lib.Dec.{eqb, ltb}
+use lib.Dec.{eqb, leb}
 use Rattle.format.specs.Parse.{pick}
-use Rattle.format.specs.declared.level.Kind.{Kind}
-use Rattle.format.specs.declared.level.Kind.the-variants.{Plain, Copy, Client}
 use Rattle.format.specs.declared.bump.BumpHead.{BumpHead}
 use Rattle.format.specs.Refusals.{MAX-LEAVES}
-use Rattle.encoding.specs.BumpBytes.{Entry, carriedOf}
-use Rattle.difference.specs.declared.level.Next.{Next}
-use Rattle.difference.specs.declared.level.Next.the-variants.{Offset, End}
-use Rattle.difference.specs.declared.level.Spot.{Spot}
-use Rattle.difference.specs.declared.level.Spot.the-variants.{Stands, Nothing}
-use Rattle.difference.specs.Differences.{Standing, stands, nothing, Difference, told, tell, higher}
+use Rattle.encoding.specs.BumpBytes.{Entry}
+use Rattle.difference.specs.Differences.{Difference, told, tell, higher}
+use Rattle.levels.specs.declared.level.Next.{Next}
+use Rattle.levels.specs.declared.level.Next.the-variants.{Offset, End}
 use Rattle.difference.specs.Filling.{Filling, putAll, putUnless}
-use Rattle.difference.specs.Sorted.{entries, gatherLevel}
-
--- the offset of the first
-unfoldable pub nextOf : List Entry → Next
-nextOf [] = End
-nextOf (e ∷ l) = Offset (e .offset)
-
-unfoldable pub lesser : Next → Next → Next
-lesser End b = b
-lesser (Offset x) End = Offset x
-lesser (Offset x) (Offset y) = Offset (pick (ltb y x) y x)
-
--- what stands at the offset, if it is that of the first
-unfoldable pub front : ℕ → List Entry → Standing
-front o [] = nothing
-front o (e ∷ l) = pick (eqb (e .offset) o) (stands (e .carried)) nothing
-
--- those behind the offset
-unfoldable pub past : ℕ → List Entry → List Entry
-past o [] = []
-past o (e ∷ l) = pick (eqb (e .offset) o) l (e ∷ l)
+use Rattle.levels.specs.Ordered.{orderedIn, nextIn}
+use Rattle.levels.specs.Fronts.{nextOf, lesser, front, past}
+use Rattle.levels.specs.Places.{entries}
 
 abbrev pub onNext : Next → (ℕ → List Difference) → List Difference
 onNext End f = []
@@ -46,25 +24,21 @@ unfoldable pub merged : ℕ → ℕ → List Entry → List Entry → List Diffe
 merged zero k x y = []
 merged (suc n) k x y = onNext (lesser (nextOf x) (nextOf y)) (λ o. tell k o (told (front o x) (front o y)) (merged n k (past o x) (past o y)))
 
--- a leaf's flags, and the place of its hash
-unfoldable pub flagsOf : Kind → ℕ
-flagsOf (Plain p) = 0
-flagsOf Copy = 1
-flagsOf (Client p) = 2
-
-unfoldable pub placeOf : Kind → ℕ
-placeOf (Plain p) = p
-placeOf Copy = 0
-placeOf (Client p) = p
-
--- what the code's answer says
-unfoldable pub standingOf : List ℕ → Spot → Standing
-standingOf s (Stands kind) = stands (carriedOf s kind)
-standingOf s Nothing = nothing
-
 -- what two levels have at most (01, "Sizes": 1,024 leaves a level)
 abbrev pub OFFSETS : ℕ
 OFFSETS = 2048
+
+-- places in the order of their offsets, and the place after the last leaf
+pub record Gathering : Type 0 where
+  pub places : List ℕ
+  pub next : ℕ
+
+abbrev pub gathering : List ℕ → ℕ → Gathering
+gathering l next = record { places = l; next = next }
+
+-- level k of a tree of this height, at a place; the levels above a tree are empty
+unfoldable pub gatherLevel : ℕ → List ℕ → ℕ → ℕ → ℕ → Gathering
+gatherLevel room s height k at = pick (leb height k) (gathering [] at) (gathering (orderedIn room s at) (nextIn room s at))
 
 -- n levels from k, which start at these places in the first and in the second; the arrays have room for so many places
 unfoldable pub walk : Bool → List ℕ → ℕ → ℕ → List ℕ → ℕ → ℕ → ℕ → ℕ → ℕ → ℕ → Filling → Filling

@@ -3,71 +3,26 @@ use mathlib.Core.Path.{_≡_, refl, ap, sym, _∙_}
 use mathlib.Core.List.{List, []}
 use mathlib.Core.Bool.{Bool, true, false}
 use Prim.Native.Nat.{ℕ, _+_, _-_, _<_, _≤_}
-use lib.ListN.{length, getD, drop, drop-of-length-le}
-use lib.Seq.{drop-cons}
 use lib.Dec.{eqb}
 use native.Mathlib.Omega.{arith}
-use native.Mathlib.Numerals.{add-one}
-use borrow.Author.Tests.{eq-eqb, ne-eqb}
-use Rattle.format.specs.declared.level.Layout.{Layout}
-use Rattle.format.specs.declared.level.Leaf.{Leaf}
-use Rattle.format.specs.Parse.{got, bad}
+use borrow.Author.Tests.{le-leb, lt-leb}
 use Rattle.format.specs.Basics.{one-less}
 use Rattle.format.specs.declared.level.Kind.{Kind}
 use Rattle.format.specs.declared.level.Kind.the-variants.{Plain, Copy, Client}
 use Rattle.format.specs.declared.bump.BumpHead.{BumpHead}
 use Rattle.format.specs.Refusals.{MAX-LEAVES}
 use Rattle.format.specs.Bytes.{same, hashAt}
-use Rattle.path.specs.Loose.{looseLeaf}
-use Rattle.encoding.specs.BumpBytes.{Entry, copy, carriedOf}
-use Rattle.difference.specs.declared.level.Next.{Next}
-use Rattle.difference.specs.declared.level.Next.the-variants.{Offset, End}
-use Rattle.difference.specs.Differences.{Standing, stands, nothing, equal, told, tell, higher}
+use Rattle.encoding.specs.BumpBytes.{Entry, carriedOf}
+use Rattle.levels.specs.declared.level.Next.{Next}
+use Rattle.levels.specs.declared.level.Next.the-variants.{Offset, End}
+use Rattle.difference.specs.Differences.{equal, told, tell, higher}
+use Rattle.levels.specs.Standing.{Standing}
 use Rattle.difference.specs.Filling.{Filling, putAll, toldWord, putPlace, putUnless}
 use Rattle.difference.specs.FillingLaws.{all-told}
-use Rattle.difference.specs.Sorted.{offsetAt, carriedAt, entries, Gathering, gathering, gatherLevel}
-use Rattle.difference.specs.Merge.{nextOf, lesser, front, past, onNext, merged, flagsOf, placeOf, walk, walkAll}
-
-module _ (s l : List ℕ) (i : ℕ) where
-  none-left : length l ≤ i → entries s (drop i l) ≡ []
-  none-left h = ap (entries s) (drop-of-length-le l h)
-
-  pub next-end : length l ≤ i → nextOf (entries s (drop i l)) ≡ End
-  unfolding nextOf
-  next-end h = rw (none-left h)
-
-  pub front-end : (o : ℕ) → length l ≤ i → front o (entries s (drop i l)) ≡ nothing
-  unfolding front
-  front-end o h = rw (none-left h)
-
-  pub past-end : (o : ℕ) → length l ≤ i → entries s (drop i l) ≡ past o (entries s (drop i l))
-  unfolding past
-  past-end o h = rw (none-left h) refl
-
-  module _ (h : i < length l) {a : ℕ} (e : a ≡ offsetAt s (getD l i 0)) where
-    pub next-here : nextOf (entries s (drop i l)) ≡ Offset a
-    unfolding nextOf
-    next-here = rw (drop-cons l i 0 h, e)
-
-    pub front-other : (o : ℕ) → (a ≡ o → ⊥) → front o (entries s (drop i l)) ≡ nothing
-    unfolding front
-    front-other o f = rw (drop-cons l i 0 h, ← e, ne-eqb a o f)
-
-    pub front-stuck : (o : ℕ) {k q : ℕ} → a ≡ o → looseLeaf Layout.Bump s (getD l i 0) ≡ bad k q → front o (entries s (drop i l)) ≡ stands copy
-    unfolding front carriedAt
-    front-stuck o f g = rw (drop-cons l i 0 h, ← e, eq-eqb a o f, g)
-
-    pub front-here : (o : ℕ) {leaf : Leaf} {q : ℕ} → a ≡ o → looseLeaf Layout.Bump s (getD l i 0) ≡ got leaf q → front o (entries s (drop i l)) ≡ stands (carriedOf s (leaf .kind))
-    unfolding front carriedAt
-    front-here o f g = rw (drop-cons l i 0 h, ← e, eq-eqb a o f, g)
-
-    pub past-other : (o : ℕ) → (a ≡ o → ⊥) → entries s (drop i l) ≡ past o (entries s (drop i l))
-    unfolding past
-    past-other o f = rw (drop-cons l i 0 h, ← e, ne-eqb a o f) refl
-
-    pub past-here : (o : ℕ) → a ≡ o → entries s (drop (i + 1) l) ≡ past o (entries s (drop i l))
-    unfolding past
-    past-here o f = rw (drop-cons l i 0 h, ← e, eq-eqb a o f, add-one) refl
+use Rattle.levels.specs.Places.{entries}
+use Rattle.difference.specs.Merge.{onNext, merged, walk, walkAll, Gathering, gathering, gatherLevel}
+use Rattle.levels.specs.Ordered.{orderedIn, nextIn}
+use Rattle.levels.specs.Fronts.{nextOf, lesser, front, past, flagsOf, placeOf}
 
 module _ (write : Bool) (p : Filling) (n i k : ℕ) (x y : List Entry) where
   pub merge-end : n ≤ i → putAll write p (merged (n - i) k x y) ≡ p
@@ -94,6 +49,15 @@ module _ (write : Bool) (p : Filling) (n i k : ℕ) (x y : List Entry) where
         ∙ ap (λ (v : List Entry). putAll write p′ (merged (n - (i + 1)) k v (past o y))) (sym a)
         ∙ ap (λ (v : List Entry). putAll write p′ (merged (n - (i + 1)) k x′ v)) (sym b)
 
+module _ (room : ℕ) (s : List ℕ) (height k at : ℕ) where
+  pub level-above : height ≤ k → gatherLevel room s height k at ≡ gathering [] at
+  unfolding gatherLevel
+  level-above h = rw (le-leb height k h)
+
+  pub level-here : k < height → gatherLevel room s height k at ≡ gathering (orderedIn room s at) (nextIn room s at)
+  unfolding gatherLevel
+  level-here h = rw (lt-leb height k h)
+
 module _ (write : Bool) (s : List ℕ) (hx rx : ℕ) (t : List ℕ) (hy ry h k c d : ℕ) (p : Filling) where
   pub walk-end : h ≤ k → walk write s hx rx t hy ry (h - k) k c d p ≡ p
   unfolding walk
@@ -115,10 +79,6 @@ module _ (write : Bool) (s : List ℕ) (hx rx : ℕ) (t : List ℕ) (hy ry h k c
       ∙ ap (λ (v : Gathering). after v (gatherLevel ry t hy k d)) m
       ∙ ap (λ (v : Gathering). after (gathering a c′) v) n
       ∙ ap (walk write s hx rx t hy ry (h - (k + 1)) (k + 1) c′ d′) (sym j)
-
--- the least of the two offsets, and what is told of it, by the parts that code works out
-pub least : (x y : List Entry) {a b c d : Next} → a ≡ nextOf x → b ≡ nextOf y → c ≡ lesser a b → c ≡ d → lesser (nextOf x) (nextOf y) ≡ d
-least x y {a} {b} {c} {d} e f g h = ap (λ (v : Next). lesser v (nextOf y)) (sym e) ∙ ap (lesser a) (sym f) ∙ sym g ∙ h
 
 pub told-there : (x y : List Entry) (o : ℕ) {f g : Standing} {what : ℕ} → f ≡ front o x → g ≡ front o y → what ≡ toldWord (told f g) → what ≡ toldWord (told (front o x) (front o y))
 told-there x y o {f} {g} e h i = i ∙ ap (λ (v : Standing). toldWord (told v g)) e ∙ ap (λ (v : Standing). toldWord (told (front o x) v)) h

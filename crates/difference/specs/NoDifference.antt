@@ -9,8 +9,10 @@ use borrow.Author.Tests.{eqb-true, eq-eqb}
 use Rattle.format.specs.BytesLaws.{same-eq, same-refl}
 use Rattle.format.specs.Parse.{pick}
 use Rattle.encoding.specs.BumpBytes.{Carried, plain, copy, client, Content}
-use Rattle.difference.specs.Differences.{Standing, stands, nothing, standing, Side, first, second, both, Difference, block, height, leaf, equal, Told, alike, differ, told, tell, offsetsFrom, levelsFrom, unless, higher, differences}
-use Rattle.difference.specs.Once.{count, one, differs, isTold, sameSide, Within, once}
+use Rattle.difference.specs.Differences.{Side, first, second, both, Difference, block, height, leaf, equal, Told, alike, differ, told, tell, offsetsFrom, levelsFrom, unless, higher, differences}
+use Rattle.levels.specs.Standing.{Standing, stands, nothing, standing}
+use Rattle.difference.specs.Once.{count, one, differs, isTold, sameSide, once}
+use Rattle.levels.proofs.Within.{Within}
 
 no-bool : {A : Type 0} → false ≡ true → A
 no-bool e = absurd (false≢true e)

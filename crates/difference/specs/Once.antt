@@ -10,7 +10,9 @@ use lib.Pow.{pow-mono}
 use borrow.Author.Tests.{eqb-true, eqb-false, eq-eqb, ne-eqb, leb-true, leb-false, ltb-true, ltb-false}
 use Rattle.format.specs.Parse.{pick}
 use Rattle.encoding.specs.BumpBytes.{Content}
-use Rattle.difference.specs.Differences.{stands, nothing, standing, Side, first, second, both, Difference, block, height, leaf, Told, alike, differ, told, tell, offsetsFrom, levelsFrom, unless, higher, differences}
+use Rattle.difference.specs.Differences.{Side, first, second, both, Difference, block, height, leaf, Told, alike, differ, told, tell, offsetsFrom, levelsFrom, unless, higher, differences}
+use Rattle.levels.proofs.Within.{Within}
+use Rattle.levels.specs.Standing.{nothing, standing}
 
 -- ---- the statement
 
@@ -54,11 +56,6 @@ unfoldable pub differs : Content → Content → Difference → Bool
 differs x y block = not (eqb (x .block) (y .block))
 differs x y height = not (eqb (x .height) (y .height))
 differs x y (leaf k o s) = isTold s (told (standing x k o) (standing y k o))
-
--- nothing stands outside the tree
-pub record Within (x : Content) : Type 0 where
-  pub below : (k o : ℕ) → x .height ≤ k → standing x k o ≡ nothing
-  pub inside : (k o : ℕ) → 2 ^ (x .height - k) ≤ o → standing x k o ≡ nothing
 
 -- ---- proof
 

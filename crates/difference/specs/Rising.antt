@@ -7,7 +7,8 @@ use lib.Dec.{eqb, ltb}
 use native.Mathlib.Omega.{arith}
 use borrow.Author.Tests.{eq-eqb, lt-ltb, le-ltb}
 use Rattle.encoding.specs.BumpBytes.{Content}
-use Rattle.difference.specs.Differences.{standing, Side, Difference, block, height, leaf, Told, alike, differ, told, tell, offsetsFrom, levelsFrom, unless, higher, differences}
+use Rattle.difference.specs.Differences.{Side, Difference, block, height, leaf, Told, alike, differ, told, tell, offsetsFrom, levelsFrom, unless, higher, differences}
+use Rattle.levels.specs.Standing.{standing}
 
 -- d comes before e
 unfoldable pub before : Difference → Difference → Bool

@@ -19,11 +19,12 @@ use Rattle.format.specs.LevelLaws.{holds-snoc}
 use Rattle.format.specs.Bump.{Bump, bumpWhole}
 use Rattle.format.specs.BumpLaws.{bump-whole-told}
 use Rattle.encoding.specs.BumpBytes.{Carried, Entry, Content, entryOf, contentOf}
-use Rattle.difference.specs.Differences.{Standing, stands, nothing, at, standing, Difference, equal, differences}
+use Rattle.difference.specs.Differences.{Difference, equal, differences}
+use Rattle.levels.specs.Standing.{Standing, stands, nothing, at, standing}
 use Rattle.difference.specs.Once.{one, count, differs, once}
 use Rattle.difference.specs.NoDifference.{equal-eq, equal-refl, Alike, none-alike, alike-none}
-use Rattle.difference.specs.SortedTheorem.{leaf-read}
-use Rattle.difference.specs.WalkTheorem.{within}
+use Rattle.levels.proofs.PlacesLaws.{leaf-read}
+use Rattle.levels.proofs.Within.{within}
 
 -- offset, flags and hash are equal
 unfoldable pub sameLeaf : Entry → Entry → Bool

@@ -3,7 +3,7 @@ use mathlib.Core.Path.{_≡_, refl, ap, sym, subst, _∙_}
 use mathlib.Core.List.{List, [], _∷_, map}
 use mathlib.Core.Bool.{Bool, true, false}
 use Prim.Native.Nat.{ℕ, zero, suc, _+_, _-_, _^_, _<_, _≤_}
-use lib.ListN.{length, getD, drop, length-map, List·getD-map, List·getD-eq-default}
+use lib.ListN.{length, getD, drop, length-map, List·getD-map}
 use lib.Seq.{getD-drop, drop-drop}
 use lib.Dec.{leb, eqb}
 use lib.Pow.{pow-mono}
@@ -14,23 +14,23 @@ use borrow.Author.Tests.{leb-true, leb-false}
 use Rattle.format.specs.declared.level.Layout.{Layout}
 use Rattle.format.specs.declared.level.Leaf.{Leaf}
 use Rattle.format.specs.Basics.{one-less}
-use Rattle.format.specs.Parse.{many, _passing_else_, got}
-use Rattle.format.specs.ParseLaws.{onward-told, passing-told, many-told, many-length}
-use Rattle.format.specs.Field.{varint}
-use Rattle.format.specs.Refusals.{OVER-LIMIT, MAX-LEAVES}
-use Rattle.format.specs.Level.{leafField, andOffset, levelField, levelOfTurn, levelInTurn, nextTurn}
+use Rattle.format.specs.Parse.{many, got}
+use Rattle.format.specs.ParseLaws.{many-told}
+use Rattle.format.specs.Level.{levelOfTurn, levelInTurn, nextTurn}
 use Rattle.format.specs.Bump.{Bump, bumpWhole, headOf}
 use Rattle.format.specs.BumpLaws.{bump-whole-told}
 use Rattle.encoding.specs.BumpBytes.{Entry, Content, entryOf, levelsOf, contentOf}
-use Rattle.difference.specs.Differences.{nothing, at, standing, Difference, offsetsFrom, levelsFrom, higher, differences}
-use Rattle.difference.specs.Once.{Within, higher-bounds}
+use Rattle.difference.specs.Differences.{Difference, offsetsFrom, levelsFrom, higher, differences}
+use Rattle.levels.specs.Standing.{nothing, at, standing}
+use Rattle.difference.specs.Once.{higher-bounds}
 use Rattle.difference.specs.Filling.{Filling, putAll, putUnless}
 use Rattle.difference.specs.FillingLaws.{all-block, all-height, all-append}
-use Rattle.difference.specs.InOrder.{Under, InOrder, orElse, from-least, under-weaken, at-above}
-use Rattle.difference.specs.Sorted.{entryAt, entries, Gathering, gathering, gatherLevel}
-use Rattle.difference.specs.SortedLaws.{level-above, level-gathered}
-use Rattle.difference.specs.SortedTheorem.{gather-read}
-use Rattle.difference.specs.Merge.{merged, walk, walkAll}
+use Rattle.levels.proofs.InOrder.{Under, InOrder, from-least, under-weaken}
+use Rattle.levels.specs.Places.{entryAt, entries}
+use Rattle.difference.specs.MergeLaws.{level-above, level-here}
+use Rattle.levels.specs.Ordered.{orderedIn}
+use Rattle.levels.proofs.OrderedLaws.{level-ordered, next-read}
+use Rattle.difference.specs.Merge.{merged, Gathering, gathering, gatherLevel, walk, walkAll}
 use Rattle.difference.specs.MergeTheorem.{offsets-same, merged-all}
 
 -- the levels from k on, read from a place
@@ -58,20 +58,18 @@ module _ (s : List ℕ) (h k p : ℕ) where
 
   level-told : (g : k < h) (l : List Leaf) (r : ℕ) (rest : List (List Leaf)) (q : ℕ) → levelInTurn Layout.Bump h k s p ≡ got l r → Ahead s h (k + 1) r rest q
       → Level s h k (l ∷ rest) q (gatherLevel 1024 s h k p)
-  unfolding levelOfTurn levelField InOrder Under at orElse
+  unfolding levelOfTurn
   level-told g l r rest q e f =
-      let x = onward-told ((varint passing (λ n. leb n MAX-LEAVES) else OVER-LIMIT) s p) _ e in
-      let v = passing-told varint (λ n. leb n MAX-LEAVES) OVER-LIMIT s p (x .2) in
-      let few = leb-true (x .0) MAX-LEAVES (v .1) in
-      let size = many-length (leafField Layout.Bump (2 ^ (h - k)) k) andOffset (x .0) [] s (x .1) (x .3) in
-      let t = gather-read s (2 ^ (h - k)) k (x .0) [] (x .1) [] tt tt (λ o _. refl) (x .3) in
-      subst (λ (w : Gathering). Level s h k (l ∷ rest) q w) (sym (level-gathered 1024 s h k p g (v .0) few))
+      let o = level-ordered s (2 ^ (h - k)) k p e in
+      let few = o .few in
+      let size = length-map (orderedIn 1024 s p) (entryAt s) in
+      subst (λ (w : Gathering). Level s h k (l ∷ rest) q w) (sym (level-here 1024 s h k p g))
       (record {
-        order = t .order;
-        under = t .under;
-        stood = t .stood;
-        few = (let a = t .size in omega (arith, a, size, few));
-        ahead = subst (λ (w : ℕ). Ahead s h (k + 1) w rest q) (sym (t .next)) f;
+        order = o .order;
+        under = o .under;
+        stood = o .stood;
+        few = omega (arith, few, size);
+        ahead = subst (λ (w : ℕ). Ahead s h (k + 1) w rest q) (sym (next-read s (2 ^ (h - k)) k p e)) f;
       })
 
   gathered : (ls : List (List Leaf)) (q : ℕ) → Ahead s h k p ls q → Level s h k ls q (gatherLevel 1024 s h k p)
@@ -144,27 +142,3 @@ told-all write s t {x} {y} {q} {r} p e f =
     walk-told write s (contentOf s x) (x .height) q t (contentOf t y) (y .height) r (higher (x .height) (y .height)) 0 (x .start) (y .start)
     (putUnless (eqb (x .height) (y .height)) write (putUnless (eqb (x .block) (y .block)) write p 1) 2) (x .levels) (y .levels) a b refl refl g j
     ∙ sym (all-block write p (eqb (x .block) (y .block)) _ ∙ all-height write (putUnless (eqb (x .block) (y .block)) write p 1) (eqb (x .height) (y .height)) _)
-
--- what was read stands within its tree
-inside-from : (s : List ℕ) (h k p : ℕ) (ls : List (List Leaf)) (q j o : ℕ) → Ahead s h k p ls q → 2 ^ (h - (k + j)) ≤ o → at o (map (entryOf s) (getD ls j [])) ≡ nothing
-inside-from s h k p ls q zero o e g =
-    let u = gathered s h k p ls q e in
-    let a : k + zero ≡ k = omega arith in
-    sym (u .stood o) ∙ at-above o (2 ^ (h - k)) (entries s (gatherLevel 1024 s h k p .places)) (u .under) (subst (λ (m : ℕ). 2 ^ (h - m) ≤ o) a g)
-inside-from s h k p [] q (suc j) o e g = empty-at o
-inside-from s h k p (l ∷ ls) q (suc j) o e g =
-    let u = gathered s h k p (l ∷ ls) q e in
-    let a : k + suc j ≡ k + 1 + j = omega arith in
-    inside-from s h (k + 1) (gatherLevel 1024 s h k p .next) ls q j o (u .ahead) (subst (λ (m : ℕ). 2 ^ (h - m) ≤ o) a g)
-
-pub within : (s : List ℕ) {b : Bump} {q : ℕ} → bumpWhole s ≡ got b q → Within (contentOf s b)
-unfolding standing
-within s {b} {q} e =
-    let u = bump-whole-told s e .levels in
-    let n = many-length (levelInTurn Layout.Bump (b .height)) nextTurn (b .height) 0 s (b .start) u in
-    record {
-      below = λ k o h. ap (at o) (List·getD-map (map (entryOf s)) (b .levels) k [] ∙ ap (map (entryOf s)) (List·getD-eq-default (b .levels) [] (omega (arith, n, h)))) ∙ empty-at o;
-      inside = λ k o h.
-          ap (at o) (List·getD-map (map (entryOf s)) (b .levels) k [])
-          ∙ inside-from s (b .height) 0 (b .start) (b .levels) q k o (simp sub-zero u) (let a : 0 + k ≡ k = omega arith in subst (λ (m : ℕ). 2 ^ (b .height - m) ≤ o) (sym a) h);
-    }

@@ -1,5 +1,4 @@
 // Two BUMPs side by side: the list of their differences, and the shorter of two that prove an id to one root (paper 02, Item 7).
-mod level;
 mod listing;
 mod weighing;
 

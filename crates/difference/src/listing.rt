@@ -1,25 +1,32 @@
 // The list of the differences of two BUMPs, three words an entry.
-use super::level::Next;
-use super::level::Spot;
-use super::level::front;
-use super::level::gather_level;
-use super::level::lesser;
-use super::level::next_offset;
-use super::level::past;
 use format::BumpAnswer;
 use format::BumpHead;
+use format::Cursor;
 use format::Kind;
 use format::Layout;
 use format::refusal::NO_ROOM;
+use levels::Gathered;
+use levels::Next;
+use levels::Spot;
+use levels::flags_of;
+use levels::front;
+use levels::lesser;
+use levels::next_offset;
+use levels::order_level;
+use levels::past;
+use levels::place_of;
 use spv::Rejection;
 ghost use mathlib.Core.Path.{_≡_};
-ghost use lib.ListN.{length};
+ghost use Prim.Native.Nat.{_≤_};
+ghost use lib.ListN.{length, take};
 ghost use Rattle.encoding.specs.BumpBytes.{carriedOf};
+ghost use Rattle.levels.specs.Ordered.{holding};
 ghost use Rattle.difference.specs.Differences.{equal, told, higher as higherOf};
 ghost use Rattle.difference.specs.Listing.{listing, listedOf, wordsIn, roomIn};
 ghost use Rattle.difference.specs.Filling.{filling, putOn, putAll, toldWord, putPlace, putUnless};
-ghost use Rattle.difference.specs.Sorted.{entries};
-ghost use Rattle.difference.specs.Merge.{flagsOf, placeOf, standingOf, merged, walk, walkAll};
+ghost use Rattle.levels.specs.Places.{entries};
+ghost use Rattle.difference.specs.Merge.{gathering, gatherLevel, merged, walk, walkAll};
+ghost use Rattle.levels.specs.Fronts.{flagsOf, placeOf, standingOf};
 
 // What an entry says first; its level and offset follow, 0 of a height.
 pub const BLOCK: u64 = 1;
@@ -53,27 +60,6 @@ fn put(out: &mut [u64], at: usize, write: bool, what: u64, level: u64, offset: u
     out[at * 3 + 1] = level;
     out[at * 3 + 2] = offset;
     at + 1
-}
-
-fn flags_of(kind: Kind) -> u64
-    ensures { λ r. ⌜ r ≡ flagsOf kind ⌝ }
-{
-    match kind {
-        Kind::Plain(_) => 0,
-        Kind::Copy => 1,
-        Kind::Client(_) => 2,
-    }
-}
-
-// The place of the hash; of a copy there is none.
-fn place_of(kind: Kind) -> usize
-    ensures { λ r. ⌜ r ≡ placeOf kind ⌝ }
-{
-    match kind {
-        Kind::Plain(place) => place,
-        Kind::Copy => 0,
-        Kind::Client(place) => place,
-    }
 }
 
 // Whether flags and hash are equal.
@@ -163,7 +149,24 @@ fn higher(a: u64, b: u64) -> u64
     if a <= b { b } else { a }
 }
 
-// The differences of all levels.
+// The level at c, if the tree is that high.
+fn gather_level(
+    s: &[u8],
+    c: Cursor,
+    height: u64,
+    level: u64,
+    places: &mut [usize],
+    room: &mut [usize],
+) -> Gathered
+    ensures { λ r. ⌜ (gathering (take (r .count) (now (places .exit))) (r .next .at) ≡ gatherLevel (holding (now (places .entry)) (now (room .entry))) (now (s .entry)) height level (c .at)) × (r .count ≤ length (now (places .entry))) ⌝ }
+{
+    if height <= level {
+        return Gathered { count: 0, next: c };
+    }
+    order_level(s, c, places, room)
+}
+
+// The differences of all levels. The arrays have room for a level's places; the third is to sort in.
 fn tell_levels(
     s: &[u8],
     x: BumpHead,
@@ -174,8 +177,9 @@ fn tell_levels(
     write: bool,
     first: &mut [usize],
     second: &mut [usize],
+    room: &mut [usize],
 ) -> usize
-    ensures { λ r. ⌜ filling (now (out .exit)) r ≡ walk write (now (s .entry)) (x .height) (length (now (first .entry))) (now (t .entry)) (y .height) (length (now (second .entry))) (higherOf (x .height) (y .height)) 0 (x .levels .at) (y .levels .at) (filling (now (out .entry)) at) ⌝ }
+    ensures { λ r. ⌜ filling (now (out .exit)) r ≡ walk write (now (s .entry)) (x .height) (holding (now (first .entry)) (now (room .entry))) (now (t .entry)) (y .height) (holding (now (second .entry)) (now (room .entry))) (higherOf (x .height) (y .height)) 0 (x .levels .at) (y .levels .at) (filling (now (out .entry)) at) ⌝ }
 {
     let height = higher(x.height, y.height);
     let mut c = x.levels;
@@ -183,8 +187,8 @@ fn tell_levels(
     let mut at = at;
     let mut level: u64 = 0;
     while level < height {
-        let a = gather_level(s, c, x.height, level, first);
-        let b = gather_level(t, d, y.height, level, second);
+        let a = gather_level(s, c, x.height, level, first, room);
+        let b = gather_level(t, d, y.height, level, second, room);
         let n = a.count;
         let m = b.count;
         at = tell_level(s, &first[..n], t, &second[..m], out, at, write, level);
@@ -213,9 +217,21 @@ fn tell_all(s: &[u8], x: BumpHead, t: &[u8], y: BumpHead, out: &mut [u64], write
 {
     let mut first = [0usize; PLACES];
     let mut second = [0usize; PLACES];
+    let mut room = [0usize; PLACES];
     let block = put_unless(x.block == y.block, out, 0, write, BLOCK);
     let height = put_unless(x.height == y.height, out, block, write, HEIGHT);
-    tell_levels(s, x, t, y, out, height, write, &mut first, &mut second)
+    tell_levels(
+        s,
+        x,
+        t,
+        y,
+        out,
+        height,
+        write,
+        &mut first,
+        &mut second,
+        &mut room,
+    )
 }
 
 // Lists the differences of two BUMPs, three words an entry. If they do not all fit, or an input can't be read, nothing is written.

@@ -212,7 +212,8 @@ fn answer_ids(
     ensures { λ _. ⌜ AllRight (now (s .entry)) (now (ids .entry)) path (length (now (ids .entry)) / 32) (now (roots .exit)) (now (numbers .exit)) ⌝ }
 {
     copy_ids(ids, roots);
-    climbs::prove_all(s, path, starts, states, roots);
+    let mut uncounted = [0u64; 0];
+    climbs::prove_all(s, path, starts, states, roots, &mut uncounted);
     answer_rows(ids, path.layers, starts, states, numbers, roots);
 }
 

@@ -38,7 +38,7 @@ module _ (σ : Siblings) (h : ℕ) (s r : List ℕ) where
   AllReach leaves = (k p : ℕ) → k < length leaves → getD leaves k noLeaf .kind ≡ Client p → Reaches (getD leaves k noLeaf .offset) p
 
   -- what the leaves still have to give: a first client, or r where a root is wanted already
-  unfoldable Still : Target → List Leaf → Type 0
+  unfoldable pub Still : Target → List Leaf → Type 0
   Still any leaves = HasClient leaves
   Still (bound w) leaves = w ≡ r
 
@@ -94,7 +94,7 @@ module _ (σ : Siblings) (h : ℕ) (s r : List ℕ) where
         let e : v ≡ w = cc in
         (still-more w (subst (λ (v : Target). Still v leaves) e a), also (λ q k. absurd (let z : _≡_ {A = ℕ} 0 1 = cc in omega arith)) g)
 
-  agreed-told : (w : Target) (leaves : List Leaf) → clients σ h s w leaves ≡ accepted r → Still w leaves × AllReach leaves
+  pub agreed-told : (w : Target) (leaves : List Leaf) → clients σ h s w leaves ≡ accepted r → Still w leaves × AllReach leaves
   unfolding clients closing Still
   agreed-told any [] e = absurd (let z : _≡_ {A = ℕ} 0 1 = cc in omega arith)
   agreed-told (bound w) [] e = (cc, λ k p b. absurd (omega arith))
@@ -128,7 +128,7 @@ module _ (σ : Siblings) (h : ℕ) (s r : List ℕ) where
     told-first w (Plain p) is a g = (w, refl, still-less w (λ q k. let z : _≡_ {A = ℕ} 0 1 = cc in omega arith) a)
     told-first w Copy is a g = (w, refl, still-less w (λ q k. let z : _≡_ {A = ℕ} 0 1 = cc in omega arith) a)
 
-  told-agreed : (w : Target) (leaves : List Leaf) → Still w leaves → AllReach leaves → clients σ h s w leaves ≡ accepted r
+  pub told-agreed : (w : Target) (leaves : List Leaf) → Still w leaves → AllReach leaves → clients σ h s w leaves ≡ accepted r
   unfolding clients closing Still
   told-agreed any [] (k, b, c) g = absurd (omega arith)
   told-agreed (bound w) [] e g = ap accepted e

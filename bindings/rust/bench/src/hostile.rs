@@ -1,7 +1,7 @@
 //! Inputs made to cost the most: paths in which many climbs need siblings that take thousands of
 //! joins, in no order.
 
-use barrowtide::{prove_page_into, Answer, Record, MAX_PAGE};
+use barrowtide::{merge_into, prove_page_into, Answer, Record, MAX_LISTED, MAX_PAGE, MERGE_EXTRA};
 use reference::generate::path::{Leaf, Plan};
 use reference::generate::random::Random;
 use reference::generate::{bundle, transaction};
@@ -41,6 +41,13 @@ pub fn run() {
         assert_eq!(prove_page_into(&bump, page, &mut answers), Ok(()));
         most(&format!("a page of 256 ids{name}"), MAX_PAGE * HEIGHT + leaves, || {
             prove_page_into(&bump, page, &mut answers)
+        });
+
+        let mut bytes = vec![0; 2 * bump.len() + MERGE_EXTRA];
+        let mut list = vec![0; 3 * MAX_LISTED];
+        assert_eq!(merge_into(&bump, &bump, &mut bytes, &mut list).is_ok(), !missing);
+        most(&format!("merged with itself{name}"), 2 * (512 * HEIGHT + 2 * leaves) * 2, || {
+            merge_into(&bump, &bump, &mut bytes, &mut list)
         });
 
         let roots = alone.into_iter().collect();

@@ -19,8 +19,8 @@ use crate::yardstick::OpenSsl;
 pub fn run() {
     println!("\nBundles judged");
     println!(
-        "{:<34} {:>12} {:>12} {:>6} {:>22}",
-        "", "library", "reference", "ratio", "hashing, of all time"
+        "{:<34} {:>12} {:>12} {:>6} {:>22} {:>13} {:>9}",
+        "", "library", "reference", "ratio", "hashing, of all time", "compressions", "for each"
     );
     let published = hex::decode(include_str!("../../tests/data/004-bundle.hex"));
     let root = reference::prove::all_clients(&published[5..290]).expect("004's BUMP");
@@ -62,8 +62,8 @@ fn compare(name: &str, bundle: &[u8], roots: &[u8]) {
     let read = beef::read(bundle).expect("a well-formed bundle");
     let count = read.entries.len();
     let mut table = vec![Record::default(); count];
-    let answer = barrowtide::judge_beef(bundle, roots, 0, &mut table);
-    assert_eq!(answer, Ok(count as u64));
+    let judged = barrowtide::judge_beef(bundle, roots, 0, &mut table).expect("a sound bundle");
+    assert_eq!(judged.transactions, count as u64);
 
     let transactions: Vec<&[u8]> = read
         .entries
@@ -80,11 +80,13 @@ fn compare(name: &str, bundle: &[u8], roots: &[u8]) {
         subject(|| join(&node, &node)),
     ]);
     println!(
-        "{name:<34} {:>12} {:>12} {:>6.2} {:>20.0} %",
+        "{name:<34} {:>12} {:>12} {:>6.2} {:>20.0} % {:>13} {:>9}",
         time(times[0]),
         time(times[1]),
         times[0] / times[1],
-        100.0 * (times[2] + joins as f64 * times[3]) / times[0]
+        100.0 * (times[2] + joins as f64 * times[3]) / times[0],
+        judged.work,
+        time(times[0] / judged.work as f64)
     );
 }
 
@@ -98,7 +100,8 @@ fn of_250_bytes(random: &mut Random, count: usize) {
     });
     let (bundle, roots) = (plan.draft().bytes, plan.root_list());
     let mut table = vec![Record::default(); count];
-    assert_eq!(barrowtide::judge_beef(&bundle, &roots, 0, &mut table), Ok(count as u64));
+    let judged = barrowtide::judge_beef(&bundle, &roots, 0, &mut table);
+    assert_eq!(judged.map(|judged| judged.transactions), Ok(count as u64));
     let transactions: Vec<_> = plan.entries.iter().map(|entry| entry.0.draft().bytes).collect();
     assert!(transactions.iter().all(|bytes| bytes.len() == 250));
     let mut subjects = vec![
@@ -124,10 +127,18 @@ fn worst(name: &str, plan: &Plan) {
     let count = plan.entries.len();
     let mut table = vec![Record::default(); count];
     let answer = barrowtide::judge_beef(&bundle, &roots, 0, &mut table);
-    let told = judge(&bundle, &roots, 0, count).0;
+    let told = judge(&bundle, &roots, 0, count);
     assert_eq!(
-        answer.map_err(|refusal| (refusal.reason.number(), refusal.carried)),
-        told.map_err(|refusal| (refusal.number, refusal.carried))
+        answer.map(|judged| (judged.transactions, judged.work)).map_err(|refusal| (
+            refusal.reason.number(),
+            refusal.carried,
+            refusal.work
+        )),
+        told.answer.map(|count| (count, told.work)).map_err(|refusal| (
+            refusal.number,
+            refusal.carried,
+            Some(told.work)
+        ))
     );
     row(
         name,

@@ -10,6 +10,7 @@ mod hash;
 mod hostile;
 mod joins;
 mod judge;
+mod leaves;
 mod measure;
 mod merged;
 mod order;
@@ -43,5 +44,6 @@ fn main() {
     write::run();
     convert::run();
     difference::run();
+    leaves::run();
     stack::run();
 }

@@ -74,6 +74,9 @@ pub fn run() {
     row(c"compare_depths", &bump, &id);
     row(c"differences", &bump, &[]);
     row(c"shorter", &bump, &id);
+    row(c"list_leaves", &bump, &[]);
+    row(c"search_leaves", &bump, &[]);
+    row(c"merge", &many, &many);
     row(c"judge_beef", &beef, &roots);
     row(c"order", &set, &[]);
     row(c"check_order", &set, &[]);

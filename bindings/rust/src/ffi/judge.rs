@@ -17,6 +17,7 @@ extern "C" {
         table_len: usize,
         blame: *mut Blame,
         transactions: *mut u64,
+        work: *mut u64,
     ) -> u32;
 }
 
@@ -31,7 +32,8 @@ const _: () = assert!(offset_of!(Record, position) == 56);
 const _: () = assert!(offset_of!(Record, outputs) == 64);
 const _: () = assert!(offset_of!(Record, total) == 72);
 
-/// `barrowtide_judge_beef`: a bundle against a list of roots and a fee, into a lent table.
+/// `barrowtide_judge_beef`: a bundle against a list of roots and a fee, into a lent table. The work
+/// is written whatever the answer.
 pub fn judge_beef(
     data: &[u8],
     roots: &[u8],
@@ -39,9 +41,10 @@ pub fn judge_beef(
     table: &mut [Record],
     blame: &mut Blame,
     transactions: &mut u64,
+    work: &mut u64,
 ) -> u32 {
     expect_same();
-    // SAFETY: the call reads `data` and `roots` within their lengths and writes a blame, a u64
+    // SAFETY: the call reads `data` and `roots` within their lengths and writes a blame, two u64
     // and the table's records, whose layout is C's; all of it is borrowed for the call.
     unsafe {
         barrowtide_judge_beef(
@@ -54,6 +57,7 @@ pub fn judge_beef(
             table.len(),
             blame,
             transactions,
+            work,
         )
     }
 }

@@ -1,12 +1,12 @@
 //! The C interface of `include/barrowtide.h`, call by call, with slices and references in place of
 //! pointers.
 //!
-//! Each call (but [`version`], [`join`] and [`parts_start`]) returns 01's refusal number, or 0 if it
-//! accepts; [`parts_part`] may also return [`MORE`], with nothing written but the state. A refusal writes all
-//! three numbers of `blame`, and of a set's order the number of a transaction, and leaves all other
-//! lent memory as it was, except that a lent table or row is zeroed, that the state of a transaction
-//! in parts changes, and that [`shorter`] hands back no bytes. Acceptance writes the values and
-//! leaves `blame` as it was, and the room past what is written.
+//! Each call (but [`version`], [`join`], [`parts_start`] and [`search_leaves`]) returns 01's refusal
+//! number, or 0 if it accepts; [`parts_part`] may also return [`MORE`], with nothing written but the state. A refusal writes all
+//! three numbers of `blame`, of a set's order the number of a transaction, and of judging the work,
+//! and leaves all other lent memory as it was, except that a lent table or row is zeroed, that the
+//! state of a transaction in parts changes, and that [`shorter`] hands back no bytes. Acceptance
+//! writes the values and leaves `blame` as it was, and the room past what is written.
 //!
 //! The functions one module up are made of these and are nicer to use; these show what becomes of
 //! lent memory. All the unsafe code of the crate is here.
@@ -19,6 +19,7 @@ mod convert;
 mod difference;
 mod hash;
 mod judge;
+mod leaves;
 mod order;
 mod page;
 mod parts;
@@ -37,6 +38,7 @@ pub use convert::{bump_to_tsc, tsc_to_bump};
 pub use difference::{differences, shorter};
 pub use hash::{join, sha256d};
 pub use judge::judge_beef;
+pub use leaves::{list_leaves, merge, search_leaves, Room};
 pub use order::{check_order, order};
 pub use page::prove_page;
 pub use parts::{parts_end, parts_part, parts_start, Parts, MORE};

@@ -17,7 +17,7 @@ static void print_call(const char *call, uint32_t number, barrowtide_blame *blam
 int main(void)
 {
     barrowtide_blame blame = {7, 8, 9};
-    uint64_t transactions = 7, written = 7, position = 7, layers = 7;
+    uint64_t transactions = 7, work = 7, written = 7, position = 7, layers = 7;
     uint8_t digest[32];
     /* A transaction of one input and one output. */
     static const uint8_t one[60] = {1, 0, 0, 0, 1, [46] = 1};
@@ -36,6 +36,8 @@ int main(void)
     printf("TSC to BUMP room %d\n", BARROWTIDE_TSC_TO_BUMP_ROOM);
     printf("BUMP to TSC room %d\n", BARROWTIDE_BUMP_TO_TSC_ROOM);
     printf("differences %d\n", BARROWTIDE_MAX_DIFFERENCES);
+    printf("leaves %d, listed %d\n", BARROWTIDE_MAX_LEAVES, BARROWTIDE_MAX_LISTED);
+    printf("more bytes to merge %d\n", BARROWTIDE_MERGE_EXTRA);
     printf("record %zu\n", sizeof(barrowtide_record));
     printf("answer %zu\n", sizeof(barrowtide_answer));
     printf("blame %zu\n", sizeof(barrowtide_blame));
@@ -44,11 +46,34 @@ int main(void)
 
     print_call("hash of nothing", barrowtide_sha256d(NULL, 0, &blame, digest), &blame);
     print_call("no bundle",
-               barrowtide_judge_beef(NULL, 0, NULL, 0, 0, NULL, 0, &blame, &transactions), &blame);
+               barrowtide_judge_beef(NULL, 0, NULL, 0, 0, NULL, 0, &blame, &transactions, &work),
+               &blame);
+    printf("work %" PRIu64 "\n", work);
     print_call("no path", barrowtide_prove_page(NULL, 0, NULL, 0, NULL, 0, &blame), &blame);
     print_call("no paths",
                barrowtide_differences(NULL, 0, NULL, 0, NULL, 0, &blame, &written), &blame);
     print_call("no list", barrowtide_write_bump(0, NULL, 0, NULL, 0, NULL, 0, &blame, &written),
+               &blame);
+    /* A BUMP of one copy, listed, and searched for in the list and in none. */
+    static const uint8_t copy[5] = {7, 1, 1, 1, 1};
+    uint64_t list[4] = {7, 7, 7, 7}, leaves = 7, place = 7;
+    print_call("no leaves", barrowtide_list_leaves(NULL, 0, NULL, 0, &blame, &leaves), &blame);
+    print_call("no room", barrowtide_list_leaves(copy, sizeof copy, NULL, 0, &blame, &leaves),
+               &blame);
+    print_call("a leaf", barrowtide_list_leaves(copy, sizeof copy, list, 4, &blame, &leaves),
+               &blame);
+    printf("leaves %" PRIu64 ": %" PRIu64 " %" PRIu64 " %" PRIu64 " %" PRIu64 "\n", leaves, list[0],
+           list[1], list[2], list[3]);
+    printf("found %" PRIu32 ", ", barrowtide_search_leaves(NULL, 0, 0, 1, &place));
+    printf("at %" PRIu64 "\n", place);
+    printf("found %" PRIu32 ", ", barrowtide_search_leaves(list, 3, 0, 1, &place));
+    printf("at %" PRIu64 "\n", place);
+    print_call("nothing to merge",
+               barrowtide_merge(NULL, 0, NULL, 0, NULL, 0, NULL, 0, &blame, &written, &leaves),
+               &blame);
+    print_call("no client",
+               barrowtide_merge(copy, sizeof copy, NULL, 0, NULL, 0, NULL, 0, &blame, &written,
+                                &leaves),
                &blame);
     /* A set of none has one order, of none; of two transactions the second is not there. */
     uint64_t transaction = 7, number = 0;

@@ -38,6 +38,9 @@ ids-proved s ids path n starts states roots v few count each wide copied es et e
 copy-ids-requires : tie.Need-copy-ids-requires
 copy-ids-requires c κs = search needs
 
+slice-aggregate-prove-all : tie.Need-slice-aggregate-prove-all
+slice-aggregate-prove-all c = search needs
+
 prove-all-requires : tie.Need-prove-all-requires
 prove-all-requires c κs = search needs
 
@@ -58,11 +61,10 @@ same-length-4 c = search needs
 
 returns : tie.Need-returns
 returns c =
-    let start = c .before .before .before .before .before .before .before .before .before .before .before .before .before .before .before .before .before .before .before .before .before .before .before .before .before .before .before .before .before in
-    let a = start .args in
-    let q = start .pre in
-    let copied = c .before .before .before .before .before .before .before .before .before .before .before .before .before .before .before .before .before .before .before .before .before .copy-ids in
-    let proved = c .before .before .before .before .before .before .before .before .before .before .before .before .before .before .before .prove-all in
+    let a = c .before .before .before .before .before .before .before .before .before .before .before .before .before .before .before .before .before .before .before .before .before .before .before .before .before .before .before .before .before .before .before .args in
+    let q = c .before .before .before .before .before .before .before .before .before .before .before .before .before .before .before .before .before .before .before .before .before .before .before .before .before .before .before .before .before .before .before .pre in
+    let copied = c .before .before .before .before .before .before .before .before .before .before .before .before .before .before .before .before .before .before .before .before .before .before .before .copy-ids in
+    let proved = c .before .before .before .before .before .before .before .before .before .before .before .before .before .before .before .before .prove-all in
     all-proved (a .s .now) (a .ids .now) (a .path) _ _ _ _ _ _ (c .before .before .before .before .answer-rows .ensures)
     (ids-proved (a .s .now) (a .ids .now) (a .path) _ (a .starts .now) (a .states .now) (copied .last .1 .0) (q .1 .1 .1 .0) (q .0) (q .1 .1 .1 .1 .0) (q .1 .1 .1 .1 .1) (omega (arith, q .1 .1 .0, copied .kept .1 .0)) (copied .ensures) (proved .ensures .0) (proved .ensures .1) (proved .ensures .2))
 
@@ -71,6 +73,7 @@ answer-ids-spec =
     tie.close
     (tie.spec
     copy-ids-requires
+    slice-aggregate-prove-all
     prove-all-requires
     answer-rows-requires
     same-length

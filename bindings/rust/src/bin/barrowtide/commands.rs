@@ -6,7 +6,7 @@ use std::ffi::{OsStr, OsString};
 use barrowtide::{
     hex, Blames, Claim, Difference, Hash, Proof, Reason, Record, Refusal, Side, MAX_PAGE,
 };
-use barrowtide::{Received, TransactionReader, MAX_TRANSACTIONS};
+use barrowtide::{LeafList, ListedLeaf, Received, TransactionReader, MAX_TRANSACTIONS};
 
 use crate::answer::{Answer, Failure, Output, Told};
 use crate::draw;
@@ -30,12 +30,20 @@ fn unreadable() -> Failure {
 }
 
 pub fn judge(words: &[OsString]) -> Answer {
-    let (fee, words) = input::option("--fee", words)?;
+    let (fee, mut words) = input::option("--fee", words)?;
+    let cost = input::flag("--cost", &mut words);
     let [beef, roots] = words[..] else { return Err(Failure::Misused) };
     let fee = fee.map_or(Ok(0), |word| input::number("fee", word))?;
     let (bundle, roots) = (input::bytes(beef)?, input::hashes(roots)?);
-    let verdict =
-        barrowtide::judge(&bundle, &roots, fee).map_err(refused(Asked::Judge, &bundle))?;
+    let verdict = match barrowtide::judge(&bundle, &roots, fee) {
+        Ok(verdict) => verdict,
+        Err(refusal) => {
+            let refused = Refused::of(&bundle, refusal, Asked::Judge);
+            let work = refusal.work.filter(|_| cost).ok_or(Failure::Refused(refused))?;
+            let (text, fields) = (format!("{refused}\n"), vec![("refusal", refused.json())]);
+            return Ok(Told { accepted: false, ..with_cost(text, fields, work) });
+        }
+    };
     let count = counted(verdict.records.len() as u64, "transaction", "transactions");
     let mut text = format!(
         "accepted: each transaction is mined under a trusted root or spends what earlier ones of \
@@ -46,7 +54,15 @@ pub fn judge(words: &[OsString]) -> Answer {
         text += &row(number, record);
     }
     let records = verdict.records.iter().map(record_json).collect();
-    Ok(Told::text(text, vec![("transactions", Json::List(records))]))
+    let fields = vec![("transactions", Json::List(records))];
+    Ok(if cost { with_cost(text, fields, verdict.work) } else { Told::text(text, fields) })
+}
+
+/// What is told, and the hash work that it took.
+fn with_cost(mut text: String, mut fields: Fields, work: u64) -> Told {
+    text += &format!("SHA-256 compressions: {work}\n");
+    fields.push(("compressions", work.into()));
+    Told::text(text, fields)
 }
 
 fn row(number: usize, record: &Record) -> String {
@@ -404,6 +420,43 @@ fn to_bump(path: &OsStr, height: &OsStr) -> Answer {
     let data = input::bytes(path)?;
     let made = barrowtide::tsc_to_bump(&data, height);
     bytes(made.map_err(refused(Asked::ToBump, &data))?)
+}
+
+pub fn index(words: &[OsString]) -> Answer {
+    let [path] = words else { return Err(Failure::Misused) };
+    let data = input::bytes(path)?;
+    let list = LeafList::build(&data).map_err(refused(Asked::Read(Form::Bump), &data))?;
+    let count = counted(list.len() as u64, "leaf", "leaves");
+    let mut text = format!(
+        "accepted: a BUMP; each leaf with the place of its first byte, by level and offset; {count}\n"
+    );
+    text += " level                offset     place\n";
+    let mut leaves = Vec::new();
+    for ListedLeaf { level, offset, place } in list.iter() {
+        text += &format!("{level:6}  {offset:20}  {place:8}\n");
+        leaves.push(Json::Object(vec![
+            ("level", level.into()),
+            ("offset", offset.into()),
+            ("place", place.into()),
+        ]));
+    }
+    Ok(Told::text(text, vec![("leaves", Json::List(leaves))]))
+}
+
+pub fn merge(words: &[OsString]) -> Answer {
+    let [first, second] = words else { return Err(Failure::Misused) };
+    let (first, second) = (input::bytes(first)?, input::bytes(second)?);
+    let merged = LeafList::merge(&first, &second).map_err(|refusal| {
+        let of = |data| Refused::of(data, refusal, Asked::Clients);
+        Failure::Refused(if barrowtide::check_clients(&first).is_err() {
+            of(&first).which("first")
+        } else if barrowtide::check_clients(&second).is_err() {
+            of(&second).which("second")
+        } else {
+            Refused::new(refusal, Asked::Merge)
+        })
+    })?;
+    bytes(merged.bump)
 }
 
 pub fn order(words: &[OsString]) -> Answer {

@@ -17,7 +17,7 @@ pub struct Command {
     pub about: &'static str,
     /// An example, to be run at the top of the repository.
     pub example: &'static str,
-    /// Options of its own, each with a value after it.
+    /// Options of its own.
     pub options: &'static [&'static str],
     /// Whether it gives bytes.
     pub gives_bytes: bool,
@@ -40,10 +40,10 @@ const PLAIN: Command = Command {
 };
 
 /// All commands, in the order of the help.
-pub const COMMANDS: [Command; 12] = [
+pub const COMMANDS: [Command; 14] = [
     Command {
         name: "judge",
-        usage: "judge BEEF ROOTS [--fee N]",
+        usage: "judge BEEF ROOTS [--fee N] [--cost]",
         brief: "judge a BEEF bundle against trusted roots",
         about: "\
 BEEF is a file with the bundle. ROOTS is a file with a trusted Merkle root on each
@@ -57,6 +57,11 @@ spent already by itself or by another such one, and take in more than it pays ou
 and N satoshi of fee besides. N is 0 if it is not given: then one satoshi that is
 left is enough.
 
+With --cost the last line says how many SHA-256 compressions judging takes, whether
+the bundle is accepted or refused: the hash work by which a terminal's battery is
+planned. It is counted by rules, not by what the library saves: ids of all
+transactions, and each join of each climb up to the verdict.
+
 What acceptance does not say:
 - Scripts and signatures are not run.
 - What mined transactions spend is not looked at: a payment may spend it again.
@@ -64,8 +69,8 @@ What acceptance does not say:
 - A BUMP's block height is the sender's word.
 - Which transaction is the payment, and whom it pays, is not asked.",
         example: "    ./barrowtide judge bindings/rust/tests/data/004-bundle.hex bindings/rust/tests/data/004-roots.txt
-    ./barrowtide judge bindings/rust/tests/data/004-bundle.hex bindings/rust/tests/data/004-roots.txt --fee 1",
-        options: &["--fee"],
+    ./barrowtide judge bindings/rust/tests/data/004-bundle.hex bindings/rust/tests/data/004-roots.txt --fee 1 --cost",
+        options: &["--fee", "--cost"],
         run: commands::judge,
         ..PLAIN
     },
@@ -107,6 +112,19 @@ transaction is read in parts: it may have up to 4294967295 bytes, whatever the m
     ./barrowtide list beef bindings/rust/tests/data/004-bundle.hex
     ./barrowtide list transaction - < bindings/rust/tests/data/004-transaction.hex",
         run: commands::list,
+        ..PLAIN
+    },
+    Command {
+        name: "index",
+        usage: "index BUMP",
+        brief: "where each leaf of a BUMP stands",
+        about: "\
+Lists the leaves by level and offset, whatever the order in which they are written,
+each with the place of its first byte in the file, counted from 0: of its offset,
+after which come its flags and its hash. A program keeps such a list beside a BUMP
+that it searches often. Nothing is proved.",
+        example: "    ./barrowtide index bindings/rust/tests/data/004-bump.hex",
+        run: commands::index,
         ..PLAIN
     },
     Command {
@@ -216,6 +234,22 @@ equally long; standard error says which it is.",
       3ecead27a44d013ad1aae40038acbb1883ac9242406808bb4667c15b4f164eac",
         gives_bytes: true,
         run: commands::shorter,
+        ..PLAIN
+    },
+    Command {
+        name: "merge",
+        usage: "merge BUMP BUMP",
+        brief: "two BUMPs of one block as one",
+        about: "\
+Both must have one block height, one tree height and one root, which all their
+clients lead to. The BUMP made has every leaf of either once, offsets rising, and
+proves what either proves. Where both have a leaf they must agree; a client's mark is
+kept, and a hash rather than the copy that stands for it.",
+        example: "    ./barrowtide write 814435 bindings/rust/tests/data/ids.txt 1 |
+      ./barrowtide merge - bindings/rust/tests/data/ids-bump.hex |
+      ./barrowtide clients -",
+        gives_bytes: true,
+        run: commands::merge,
         ..PLAIN
     },
     Command {

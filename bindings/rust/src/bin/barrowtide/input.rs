@@ -266,6 +266,13 @@ pub fn option<'a>(
     Ok((value, others))
 }
 
+/// Whether an option without a value is given, which is taken out.
+pub fn flag(name: &str, words: &mut Vec<&OsStr>) -> bool {
+    let before = words.len();
+    words.retain(|word| *word != name);
+    words.len() < before
+}
+
 /// A number given on the command line.
 pub fn number(what: &str, word: &OsStr) -> Result<u64, Failure> {
     let text = word.to_string_lossy();

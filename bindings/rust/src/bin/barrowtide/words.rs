@@ -2,8 +2,8 @@
 
 use std::fmt;
 
-use barrowtide::MAX_TRANSACTIONS;
 use barrowtide::{Blames, Reason, Refusal, MAX_IDS, MAX_INPUT, MAX_PAGE, MAX_PARTS, MAX_TOTAL};
+use barrowtide::{MAX_LEAVES, MAX_TRANSACTIONS};
 
 use crate::json::Json;
 use crate::looks;
@@ -58,6 +58,8 @@ pub enum Asked {
     CompareDepths,
     /// Which of two BUMPs that prove an id is the shorter.
     Shorter,
+    /// To merge two BUMPs whose clients each lead to one root.
+    Merge,
     /// To write a BUMP.
     Write,
     /// To take a page of so many ids.
@@ -73,7 +75,7 @@ impl Asked {
     fn form(self) -> Option<Form> {
         match self {
             Asked::Read(form) | Asked::Prove(form) => Some(form),
-            Asked::Clients | Asked::Shorter => Some(Form::Bump),
+            Asked::Clients | Asked::Shorter | Asked::Merge => Some(Form::Bump),
             Asked::Judge => Some(Form::Beef),
             Asked::ToBump => Some(Form::Tsc),
             Asked::Order => Some(Form::Transaction),
@@ -187,6 +189,10 @@ impl Refused {
             (Reason::OverLimit, Asked::Page) => {
                 format!("you may ask about {MAX_PAGE} ids at once, not more.")
             }
+            (Reason::OverLimit, Asked::Merge) => format!(
+                "a level of the merged BUMP would have more than {MAX_LEAVES} leaves. Keep both, or \
+                 ask for BUMPs of fewer transactions."
+            ),
             (Reason::OverLimit, Asked::Order) => {
                 format!("you may put {MAX_TRANSACTIONS} transactions in order at once, not more.")
             }
@@ -236,6 +242,11 @@ impl Refused {
                  BUMP of the block that it is in."
                     .to_string()
             }
+            (Reason::NotListed, Asked::Clients) if self.which.is_some() => {
+                "no leaf is marked as a client's, so there is no root to merge by. Ask the sender \
+                 for a BUMP with its clients marked."
+                    .to_string()
+            }
             (Reason::NotListed, Asked::Clients) => {
                 "no leaf is marked as a client's, so there is nothing to check. Ask about an id \
                  with prove."
@@ -254,6 +265,12 @@ impl Refused {
                 "{node}, equals the hash that it is paired with on its right, which no sound block \
                  shows. Don't accept it; ask the sender for a proof from another source."
             ),
+            (Reason::RootsDiffer, Asked::Merge) => {
+                "the two contradict each other: at one place they have different leaves, or a leaf \
+                 of one is wrong that only the other's clients need. diff shows where they differ; \
+                 keep both, and ask the sender of the wrong one for one without it."
+                    .to_string()
+            }
             (Reason::RootsDiffer, Asked::Clients) => {
                 "the client leaves lead to different roots, so they are not all in one block. Ask \
                  the sender for a BUMP of one block."
@@ -289,6 +306,11 @@ impl Refused {
             (Reason::Unlike, Asked::Shorter) => {
                 "the two lead to different roots, so one of them is not of this block. Compare both \
                  roots with the block's header."
+                    .to_string()
+            }
+            (Reason::Unlike, Asked::Merge) => {
+                "the two differ in block height, tree height or root, so they are not of one block, \
+                 or one of them is wrong. Compare both roots with the block's header."
                     .to_string()
             }
             (Reason::Unlike, Asked::CompareDepths) => {

@@ -1,6 +1,7 @@
 //! BUMP (003).
 
 use crate::fields::Cursor;
+use crate::generate::draft::varint;
 use crate::path::{read_level, Node, Path};
 use crate::refusal::{refuse, Refusal, BAD_FLAG, BAD_HEIGHT, OVER_LIMIT};
 
@@ -50,4 +51,23 @@ fn node(cursor: &mut Cursor, level: u32, offset: u64) -> Result<Node, Refusal> {
         2 if level == 0 => Ok(Node::Client(cursor.hash()?)),
         _ => refuse(BAD_FLAG, flags_place),
     }
+}
+
+/// A BUMP's bytes.
+pub fn bytes(bump: &Bump) -> Vec<u8> {
+    let mut bytes = varint(bump.block_height);
+    bytes.push(bump.path.levels.len() as u8);
+    for level in &bump.path.levels {
+        bytes.extend(varint(level.len() as u64));
+        for leaf in level {
+            bytes.extend(varint(leaf.offset));
+            bytes.push(match leaf.node {
+                Node::Plain(_) => 0,
+                Node::Copy => 1,
+                Node::Client(_) => 2,
+            });
+            bytes.extend(leaf.node.hash().into_iter().flatten());
+        }
+    }
+    bytes
 }

@@ -17,7 +17,7 @@ pub fn tsc_to_bump(data: &[u8], block_height: u32, room: usize) -> Result<Vec<u8
         return refuse(BAD_HEIGHT, proof.count_place);
     }
     let bump = Bump { block_height: u64::from(block_height), path: path(&proof) };
-    fitting(bump_bytes(&bump), room)
+    fitting(bump::bytes(&bump), room)
 }
 
 /// The TSC proof, with id and root target, of an id's climb in a BUMP, for a room of so many bytes.
@@ -61,25 +61,6 @@ fn nodes(path: &Path, climb: &Climb) -> Vec<tsc::Node> {
         tsc::Node::Hash(std::array::from_fn(|i| layer.string[start + i]))
     };
     climb.layers.iter().enumerate().map(node).collect()
-}
-
-/// A BUMP's bytes (003).
-fn bump_bytes(bump: &Bump) -> Vec<u8> {
-    let mut bytes = varint(bump.block_height);
-    bytes.push(bump.path.levels.len() as u8);
-    for level in &bump.path.levels {
-        bytes.extend(varint(level.len() as u64));
-        for leaf in level {
-            bytes.extend(varint(leaf.offset));
-            bytes.push(match leaf.node {
-                Node::Plain(_) => 0,
-                Node::Copy => 1,
-                Node::Client(_) => 2,
-            });
-            bytes.extend(leaf.node.hash().into_iter().flatten());
-        }
-    }
-    bytes
 }
 
 /// The bytes (000) of a proof with the id and the root.

@@ -1,4 +1,4 @@
-//! "The bundle rule", and amounts along the bundle (02, Item 9).
+//! "The bundle rule", amounts along the bundle (02, Item 9) and its hash work (Item 11).
 
 use std::collections::BTreeSet;
 
@@ -9,6 +9,7 @@ use crate::refusal::{
     refuse, Refusal, BAD_ROOTS, NO_OUTPUT, NO_PARENT, SAME_TX, SPENT_TWICE, TOO_LITTLE, UNTRUSTED,
 };
 use crate::transaction::Transaction;
+use crate::work;
 use crate::Hash;
 
 /// A record of the lent table.
@@ -32,33 +33,49 @@ pub struct Record {
     pub total: u64,
 }
 
-/// Judges a bundle against a list of roots and a fee: the number of transactions, and the table of
-/// `room` records as it is left.
-pub fn judge(
+/// What judging comes to.
+#[derive(Debug, Clone, PartialEq, Eq)]
+pub struct Judged {
+    /// The number of transactions.
+    pub answer: Result<u64, Refusal>,
+    /// The table as it is left.
+    pub table: Vec<Record>,
+    /// The compressions.
+    pub work: u64,
+}
+
+/// Judges a bundle against a list of roots and a fee, with a table of `room` records.
+pub fn judge(data: &[u8], roots: &[u8], fee: u64, room: usize) -> Judged {
+    let mut table = vec![Record::default(); room];
+    // "1, 21 and a refusal in reading report 0."
+    let mut work = 0;
+    let answer = records(data, roots, fee, room, &mut work).map(|records| {
+        table[..records.len()].copy_from_slice(&records);
+        records.len() as u64
+    });
+    Judged { answer, table, work }
+}
+
+/// The records of an accepted bundle.
+fn records(
     data: &[u8],
     roots: &[u8],
     fee: u64,
     room: usize,
-) -> (Result<u64, Refusal>, Vec<Record>) {
-    let mut table = vec![Record::default(); room];
-    let answer = records(data, roots, fee, room).map(|records| {
-        table[..records.len()].copy_from_slice(&records);
-        records.len() as u64
-    });
-    (answer, table)
-}
-
-/// The records of an accepted bundle.
-fn records(data: &[u8], roots: &[u8], fee: u64, room: usize) -> Result<Vec<Record>, Refusal> {
+    work: &mut u64,
+) -> Result<Vec<Record>, Refusal> {
     let cursor = Cursor::new(data)?;
     if roots.len() % 32 != 0 {
         return refuse(BAD_ROOTS, 0);
     }
     let beef = beef::read_into(cursor, room)?;
+    // "Ids of all transactions are worked out before judging, each once."
+    let lengths = beef.entries.iter().map(|entry| entry.transaction.length);
+    *work += lengths.map(work::of_transaction).sum::<u64>();
     let mut records = Vec::new();
     let mut spent = BTreeSet::new();
     for number in 0..beef.entries.len() {
-        let judged = judge_one(&beef, roots, fee, &mut spent, number);
+        let judged = judge_one(&beef, roots, fee, &mut spent, number, work);
         let carried = number as u64;
         records.push(judged.map_err(|refusal| Refusal { carried, ..refusal })?);
     }
@@ -75,6 +92,7 @@ fn judge_one(
     fee: u64,
     spent: &mut Spent,
     number: usize,
+    work: &mut u64,
 ) -> Result<Record, Refusal> {
     let entry = &beef.entries[number];
     let transaction = &entry.transaction;
@@ -93,7 +111,10 @@ fn judge_one(
         ..Record::default()
     };
     if let Some(bump) = entry.anchor {
-        let climb = climb_path(&beef.bumps[bump as usize].path, &transaction.id)?;
+        let path = &beef.bumps[bump as usize].path;
+        let climb = climb_path(path, &transaction.id);
+        *work += work::of_climb(path, &transaction.id, &climb);
+        let climb = climb?;
         if !roots.chunks_exact(32).any(|root| root == climb.root()) {
             return refuse(UNTRUSTED, 0);
         }

@@ -20,6 +20,8 @@ pub mod fields;
 pub mod generate;
 pub mod hex;
 pub mod judge;
+pub mod leaves;
+pub mod merge;
 pub mod order;
 pub mod page;
 pub mod parts;
@@ -30,6 +32,7 @@ pub mod sha256;
 pub mod transaction;
 pub mod tsc;
 pub mod values;
+pub mod work;
 pub mod write;
 
 /// 32 bytes in stored order: an id, a node or a root.

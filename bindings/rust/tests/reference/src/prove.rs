@@ -61,7 +61,8 @@ pub fn climb_tsc(proof: &Tsc) -> Result<Climb, Refusal> {
     }
 }
 
-fn clients_root(path: &Path) -> Result<Hash, Refusal> {
+/// The one root that all clients of a path lead to.
+pub fn clients_root(path: &Path) -> Result<Hash, Refusal> {
     let mut first = None;
     for leaf in &path.levels[0] {
         if let Node::Client(id) = leaf.node {

@@ -1,5 +1,5 @@
 use lib.ListN.{length}
-use mathlib.Core.Path.{sym, _∙_}
+use mathlib.Core.Path.{refl, sym, _∙_}
 use Rattle.barrowtide.specs.InterfaceLaws.{refused-number, refused-blame, refused-taken, given-number, given-blame, given-taken}
 use Rattle.barrowtide.specs.AnswersLaws.{verdict-refused, verdict-accepted}
 use borrow.Author.Needs.{needs}
@@ -19,15 +19,21 @@ cast-result : tie.Need-cast-result
 cast-result c = search needs
 
 returns : tie.Need-returns
-returns c = λ v h.
-    let t = verdict-accepted v _ (sym (c .before .verdict .given .1) ∙ h) in
-    let e = t .1 in
-    (given-number v e, given-blame v _ e, sym (t .2) ∙ given-taken v length _ e)
+returns c = (
+  refl,
+  λ v h.
+      let t = verdict-accepted v _ (sym (c .before .verdict .given .1) ∙ h) in
+      let e = t .1 in
+      (given-number v e, given-blame v _ e, sym (t .2) ∙ given-taken v length _ e),
+)
 
 returns-2 : tie.Need-returns-2
-returns-2 c = λ v h.
-    let e = verdict-refused v _ (sym (c .before .before .before .verdict2 .given .1) ∙ h) in
-    (refused-number v e, c .before .blame-of .ensures ∙ refused-blame v _ e, refused-taken v _ _ e)
+returns-2 c = (
+  refl,
+  λ v h.
+      let e = verdict-refused v _ (sym (c .before .before .before .verdict2 .given .1) ∙ h) in
+      (refused-number v e, c .before .blame-of .ensures ∙ refused-blame v _ e, refused-taken v _ _ e),
+)
 
 pub tell-spec : {M : Type 1} → statement M
 tell-spec =

@@ -15,18 +15,18 @@ slice-relend-prefix-climb-rows c = search needs
 slice-aggregate-climb-rows : tie.Need-slice-aggregate-climb-rows
 slice-aggregate-climb-rows c =
     let few = c .before .before .before .before .before .before .gather .ensures .few in
-    let room = c .before .before .before .before .before .before .before .before .before .before .before .before .before .before .before .before .before .before .pre .1 .1 .1 .0 in
-    sym (length-take-le (c .before .before .before .before .before .before .gather .result) (c .before .before .before .before .before .before .before .before .before .before .before .before .before .before .before .before .before .before .args .starts .now) (omega arith))
+    let room = c .before .before .before .before .before .before .before .before .before .before .before .before .before .before .before .before .before .before .before .pre .1 .1 .1 .0 in
+    sym (length-take-le (c .before .before .before .before .before .before .gather .result) (c .before .before .before .before .before .before .before .before .before .before .before .before .before .before .before .before .before .before .before .args .starts .now) (omega arith))
 
 climb-rows-requires : tie.Need-climb-rows-requires
 climb-rows-requires c κs =
-    let p = c .before .before .before .before .before .before .before .before .before .before .before .before .before .before .before .before .before .before .before .before .before .pre in
-    let g = c .before .before .before .before .before .before .before .before .before .gather .ensures in
+    let p = c .before .before .before .before .before .before .before .before .before .before .before .before .before .before .before .before .before .before .before .before .before .before .before .pre in
+    let g = c .before .before .before .before .before .before .before .before .before .before .gather .ensures in
     let few = g .few in
-    let long = length-take-le (c .before .before .before .before .before .before .before .before .before .gather .result) (c .before .before .before .before .before .before .before .before .before .before .before .before .before .before .before .before .before .before .before .before .before .args .starts .now) (omega arith) in
-    let slots = c .before .before .before .before .before .before .before .before .before .gather .kept .1 .1 .1 .1 .0 in
-    let hashes = c .before .before .before .before .before .before .before .before .before .gather .kept .1 .1 .1 .1 .1 .0 in
-    (omega arith, (omega arith, (omega arith, (omega arith, (p .1 .1 .1 .1 .1 .1, rw long (g .held))))))
+    let long = length-take-le (c .before .before .before .before .before .before .before .before .before .before .gather .result) (c .before .before .before .before .before .before .before .before .before .before .before .before .before .before .before .before .before .before .before .before .before .before .before .args .starts .now) (omega arith) in
+    let slots = c .before .before .before .before .before .before .before .before .before .before .gather .kept .1 .1 .1 .1 .0 in
+    let hashes = c .before .before .before .before .before .before .before .before .before .before .gather .kept .1 .1 .1 .1 .1 .0 in
+    (omega arith, (omega arith, (omega arith, (omega arith, (omega arith, (p .1 .1 .1 .1 .1 .1 .1, rw long (g .held)))))))
 
 same-length : tie.Need-same-length
 same-length c = search needs
@@ -43,13 +43,16 @@ same-length-4 c = search needs
 same-length-5 : tie.Need-same-length-5
 same-length-5 c = search needs
 
+same-length-6 : tie.Need-same-length-6
+same-length-6 c = search needs
+
 returns : tie.Need-returns
 returns c =
-    let p = c .before .before .before .before .before .before .before .before .before .before .before .before .before .before .before .before .before .before .before .before .before .before .before .before .before .before .before .before .before .before .pre in
-    let g = c .before .before .before .before .before .before .before .before .before .before .before .before .before .before .before .before .before .before .gather .ensures in
+    let p = c .before .before .before .before .before .before .before .before .before .before .before .before .before .before .before .before .before .before .before .before .before .before .before .before .before .before .before .before .before .before .before .before .before .before .pre in
+    let g = c .before .before .before .before .before .before .before .before .before .before .before .before .before .before .before .before .before .before .before .before .before .gather .ensures in
     let few = g .few in
-    let long = length-take-le (c .before .before .before .before .before .before .before .before .before .before .before .before .before .before .before .before .before .before .gather .result) (c .before .before .before .before .before .before .before .before .before .before .before .before .before .before .before .before .before .before .before .before .before .before .before .before .before .before .before .before .before .before .args .starts .now) (omega arith) in
-    risen-settled _ _ _ _ _ _ _ _ g _ _ long (c .before .before .before .before .before .before .before .before .climb-rows .ensures)
+    let long = length-take-le (c .before .before .before .before .before .before .before .before .before .before .before .before .before .before .before .before .before .before .before .before .before .gather .result) (c .before .before .before .before .before .before .before .before .before .before .before .before .before .before .before .before .before .before .before .before .before .before .before .before .before .before .before .before .before .before .before .before .before .before .args .starts .now) (omega arith) in
+    risen-settled _ _ _ _ _ _ _ _ g _ _ long (c .before .before .before .before .before .before .before .before .before .before .climb-rows .ensures)
 
 pub climb-named-spec : {M : Type 1} → statement M
 climb-named-spec =
@@ -64,4 +67,5 @@ climb-named-spec =
     same-length-3
     same-length-4
     same-length-5
+    same-length-6
     returns)

@@ -7,39 +7,39 @@ use Rattle.bundle.proofs.anchored.put_end.Tie as tie
 enum-known-standing : tie.Need-enum-known-standing
 enum-known-standing c = search needs
 
-cast-put-three : tie.Need-cast-put-three
-cast-put-three c = search needs
+cast-put-four : tie.Need-cast-put-four
+cast-put-four c = search needs
 
-put-three-requires : tie.Need-put-three-requires
-put-three-requires c κs = search needs
+put-four-requires : tie.Need-put-four-requires
+put-four-requires c κs = search needs
 
 enum-known-standing-2 : tie.Need-enum-known-standing-2
 enum-known-standing-2 c = search needs
 
-put-three-requires-2 : tie.Need-put-three-requires-2
-put-three-requires-2 c κs = search needs
+put-four-requires-2 : tie.Need-put-four-requires-2
+put-four-requires-2 c κs = search needs
 
 same-length : tie.Need-same-length
 same-length c = search needs
 
 returns : tie.Need-returns
-returns c = c .before .before .put-three .ensures ∙ put-refuses _ _ (c .before .before .before .before .before .before .standing .given .1)
+returns c = c .before .before .put-four .ensures ∙ put-refuses _ _ _ (c .before .before .before .before .before .before .standing .given .1)
 
 same-length-2 : tie.Need-same-length-2
 same-length-2 c = search needs
 
 returns-2 : tie.Need-returns-2
-returns-2 c = c .before .before .put-three2 .ensures ∙ put-passes _ _ (c .before .before .before .before .before .standing2 .given .1)
+returns-2 c = c .before .before .put-four2 .ensures ∙ put-passes _ _ _ (c .before .before .before .before .before .standing2 .given .1)
 
 pub put-end-spec : {M : Type 1} → statement M
 put-end-spec =
     tie.close
     (tie.spec
     enum-known-standing
-    cast-put-three
-    put-three-requires
+    cast-put-four
+    put-four-requires
     enum-known-standing-2
-    put-three-requires-2
+    put-four-requires-2
     same-length
     returns
     same-length-2

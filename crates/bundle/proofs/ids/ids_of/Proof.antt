@@ -1,41 +1,29 @@
 use borrow.Author.Needs.{needs}
+use Rattle.bundle.specs.AheadLaws.{ids-made}
 use Rattle.bundle.proofs.ids.ids_of.Statement.{statement}
 use Rattle.bundle.proofs.ids.ids_of.Tie as tie
 
-fits-requires : tie.Need-fits-requires
-fits-requires c κs = search needs
+plain-requires : tie.Need-plain-requires
+plain-requires c κs = search needs
 
-fits-requires-2 : tie.Need-fits-requires-2
-fits-requires-2 c κs = search needs
+plain-requires-2 : tie.Need-plain-requires-2
+plain-requires-2 c κs = search needs
 
-fits-requires-3 : tie.Need-fits-requires-3
-fits-requires-3 c κs = search needs
+plain-requires-3 : tie.Need-plain-requires-3
+plain-requires-3 c κs = search needs
 
-fits-requires-4 : tie.Need-fits-requires-4
-fits-requires-4 c κs = search needs
+plain-requires-4 : tie.Need-plain-requires-4
+plain-requires-4 c κs = search needs
 
-four-at-once-requires : tie.Need-four-at-once-requires
-four-at-once-requires c κs =
-    (c .before .before .before .before .before .before .before .fits2 .ensures (c .before .before .before .before .before .before .if1 .taken), (c .before .before .before .before .before .fits3 .ensures (c .before .before .before .before .if2 .taken), (c .before .before .before .fits4 .ensures (c .before .before .if3 .taken), c .before .fits5 .ensures (c .if4 .taken))))
+span-hashes-requires : tie.Need-span-hashes-requires
+span-hashes-requires c κs = search needs
 
 returns : tie.Need-returns
-returns c = search needs
-
-one-by-one-requires : tie.Need-one-by-one-requires
-one-by-one-requires c κs = search needs
-
-returns-2 : tie.Need-returns-2
-returns-2 c = search needs
+returns c =
+    ids-made _ _ _
+    (rw (← c .before .before .before .before .plain .ensures, ← c .before .before .before .plain2 .ensures, ← c .before .before .plain3 .ensures, ← c .before .plain4 .ensures) (c .span-hashes .ensures))
 
 pub ids-of-spec : {M : Type 1} → statement M
 ids-of-spec =
     tie.close
-    (tie.spec
-    fits-requires
-    fits-requires-2
-    fits-requires-3
-    fits-requires-4
-    four-at-once-requires
-    returns
-    one-by-one-requires
-    returns-2)
+    (tie.spec plain-requires plain-requires-2 plain-requires-3 plain-requires-4 span-hashes-requires returns)

@@ -3,9 +3,11 @@ use native.Mathlib.Omega.{arith}
 use borrow.Author.Needs.{needs}
 use Rattle.format.specs.ParseLaws.{answered}
 use Rattle.format.specs.BeefAnswer.{beefAnswer}
-use Rattle.bundle.specs.AnchoredLaws.{ends-from}
+use Rattle.bundle.specs.AnchoredLaws.{ends-from, joins-from}
 use Rattle.bundle.specs.BundleAnswer.{judgementOf}
 use Rattle.bundle.specs.BundleRead.{judge-long, judge-roots, judge-refused, judge-read, read-few, read-low, read-every, answers-at}
+use Rattle.bundle.specs.WorkMadeLaws.{made-low}
+use Rattle.bundle.specs.WorkRead.{work-long, work-roots, work-refused, work-read}
 use Rattle.bundle.proofs.judging.judge_flat.Statement.{statement}
 use Rattle.bundle.proofs.judging.judge_flat.Tie as tie
 
@@ -26,14 +28,16 @@ refused-requires-3 c κs = search needs
 
 returns-3 : tie.Need-returns-3
 unfolding judgementOf
-returns-3 c = λ wide long. rw (c .refused3 .ensures) (judge-long _ _ _ _ (c .before .if3 .taken))
+returns-3 c = λ wide long.
+    (rw (c .refused3 .ensures .0) (judge-long _ _ _ _ (c .before .if3 .taken)), c .refused3 .ensures .1 ∙ work-long _ _ _ _ (c .before .if3 .taken))
 
 refused-requires-4 : tie.Need-refused-requires-4
 refused-requires-4 c κs = search needs
 
 returns-4 : tie.Need-returns-4
 unfolding judgementOf
-returns-4 c = λ wide long. rw (c .refused4 .ensures) (judge-roots _ _ _ _ (c .before .before .if3 .left) (c .before .if4 .taken))
+returns-4 c = λ wide long.
+    (rw (c .refused4 .ensures .0) (judge-roots _ _ _ _ (c .before .before .if3 .left) (c .before .if4 .taken)), c .refused4 .ensures .1 ∙ work-roots _ _ _ _ (c .before .before .if3 .left) (c .before .if4 .taken))
 
 read-bundle-requires : tie.Need-read-bundle-requires
 read-bundle-requires c κs = search needs
@@ -95,27 +99,48 @@ judge-amounts-requires c κs = search needs
 settle-requires : tie.Need-settle-requires
 settle-requires c κs = search needs
 
+slice-aggregate-work-made : tie.Need-slice-aggregate-work-made
+slice-aggregate-work-made c = search needs
+
+slice-aggregate-work-made-2 : tie.Need-slice-aggregate-work-made-2
+slice-aggregate-work-made-2 c = search needs
+
+work-made-requires : tie.Need-work-made-requires
+work-made-requires c κs =
+    let few = read-few _ _ _ _ (answered beefAnswer (c .before .before .before .before .before .before .before .before .before .before .before .before .before .before .before .before .before .before .before .before .before .before .before .before .before .before .before .before .before .before .before .before .before .read-bundle .ensures .0) (c .before .before .before .before .before .before .before .before .before .before .before .before .before .before .before .before .before .before .before .before .before .before .before .before .before .before .before .before .before .before .before .answer2 .given .1)) in
+    let w = c .before .before .before .before .before .before .before .before .before .before .before .before .before .before .before .before .before .before .before .before .before .before .before .before .before .write-ids in
+    let anchors = w .kept .1 .1 .1 .1 .1 .0 in
+    let ends = c .before .before .before .before .before .before .before .before .before .before .before .before .before .before .before .before .before .before .climb-bumps .kept .1 .1 .1 .1 .1 .1 .1 .0 in
+    (made-low _ _ _ _ (w .ensures .2) few, (few, (omega arith, omega arith)))
+
 returns-5 : tie.Need-returns-5
 unfolding judgementOf
-returns-5 c = λ wide long. rw (c .reject-reading .ensures) (judge-refused _ _ _ _ (c .before .before .before .before .before .before .if3 .left) (c .before .before .before .before .before .if4 .left) _ (answered beefAnswer (c .before .before .before .before .read-bundle .ensures .0) (c .before .before .answer .given .1)))
+returns-5 c = λ wide long.
+    let read = answered beefAnswer (c .before .before .before .before .read-bundle .ensures .0) (c .before .before .answer .given .1) in
+    (rw (c .reject-reading .ensures) (judge-refused _ _ _ _ (c .before .before .before .before .before .before .if3 .left) (c .before .before .before .before .before .if4 .left) _ read), work-refused _ _ _ _ (c .before .before .before .before .before .before .if3 .left) (c .before .before .before .before .before .if4 .left) _ read)
 
 same-length : tie.Need-same-length
-same-length c = c .before .before .before .before .before .before .before .before .before .before .before .before .before .before .before .before .before .before .before .before .before .before .before .write-ids .kept .1 .1 .1 .1 .0
+same-length c = c .before .before .before .before .before .before .before .before .before .before .before .before .before .before .before .before .before .before .before .before .before .before .before .before .before .before .write-ids .kept .1 .1 .1 .1 .0
 
 same-length-2 : tie.Need-same-length-2
 same-length-2 c = search needs
 
 returns-6 : tie.Need-returns-6
 returns-6 c = λ wide long.
-    let read = answered beefAnswer (c .before .before .before .before .before .before .before .before .before .before .before .before .before .before .before .before .before .before .before .before .before .before .before .before .before .before .before .before .before .before .before .read-bundle .ensures .0) (c .before .before .before .before .before .before .before .before .before .before .before .before .before .before .before .before .before .before .before .before .before .before .before .before .before .before .before .before .before .answer2 .given .1) in
+    let read = answered beefAnswer (c .before .before .before .before .before .before .before .before .before .before .before .before .before .before .before .before .before .before .before .before .before .before .before .before .before .before .before .before .before .before .before .before .before .before .read-bundle .ensures .0) (c .before .before .before .before .before .before .before .before .before .before .before .before .before .before .before .before .before .before .before .before .before .before .before .before .before .before .before .before .before .before .before .before .answer2 .given .1) in
+    let found = c .before .before .before .before .before .before .before .before .before .before .before .before .before .before .before .before .before .before .before .before .before .before .before .before .before .before .before .before .before .before .before .before .before .before .read-bundle .ensures .1 in
+    let fits = c .before .before .before .before .before .before .before .before .before .before .before .before .before .before .before .before .before .before .before .before .before .before .before .before .before .before .before .before .before .before .before .before .before .before .before .before .if3 .left in
+    let even = c .before .before .before .before .before .before .before .before .before .before .before .before .before .before .before .before .before .before .before .before .before .before .before .before .before .before .before .before .before .before .before .before .before .before .before .if4 .left in
     let few = read-few _ _ _ _ read in
-    let w = c .before .before .before .before .before .before .before .before .before .before .before .before .before .before .before .before .before .before .before .before .before .before .before .write-ids in
+    let w = c .before .before .before .before .before .before .before .before .before .before .before .before .before .before .before .before .before .before .before .before .before .before .before .before .before .before .write-ids in
     let ids = w .kept .1 .1 .1 .1 .0 in
     let anchors = w .kept .1 .1 .1 .1 .1 .0 in
-    let ends = ends-from _ _ _ _ _ _ _ _ _ (w .ensures .0) (w .ensures .1) (omega arith) (omega arith) (c .before .before .before .before .before .before .before .before .before .before .before .before .before .before .before .before .climb-bumps .ensures) in
-    let e = c .before .before .before .before .before .before .before .before .judge-entries .ensures _ _ ends in
-    c .settle .ensures _ _
-    ∙ judge-read _ _ _ _ (c .before .before .before .before .before .before .before .before .before .before .before .before .before .before .before .before .before .before .before .before .before .before .before .before .before .before .before .before .before .before .before .before .before .if3 .left) (c .before .before .before .before .before .before .before .before .before .before .before .before .before .before .before .before .before .before .before .before .before .before .before .before .before .before .before .before .before .before .before .before .if4 .left) _ _ read (c .before .before .before .before .before .before .before .before .before .before .before .before .before .before .before .before .before .before .before .before .before .before .before .before .before .before .before .before .before .before .before .read-bundle .ensures .1) _ _ _ _ (e .0) (e .1) (answers-at _ _ _ _ _ (c .before .before .reached .ensures) (c .before .judge-amounts .ensures))
+    let risen = c .before .before .before .before .before .before .before .before .before .before .before .before .before .before .before .before .before .before .before .climb-bumps .ensures in
+    let ends = ends-from _ _ _ _ _ _ _ _ _ (w .ensures .0) (w .ensures .1) (omega arith) (omega arith) risen in
+    let joins = joins-from _ _ _ _ _ _ _ _ _ (w .ensures .0) (w .ensures .1) (omega arith) (omega arith) risen in
+    let e = c .before .before .before .before .before .before .before .before .before .before .before .judge-entries .ensures _ _ ends in
+    let judged = c .before .before .before .settle .ensures _ _ ∙ judge-read _ _ _ _ fits even _ _ read found _ _ _ _ (e .0) (e .1) (answers-at _ _ _ _ _ (c .before .before .before .before .before .reached .ensures) (c .before .before .before .before .judge-amounts .ensures)) in
+    (judged, c .work-made .ensures ∙ work-read _ _ _ _ fits even _ _ read found _ _ _ _ _ judged (w .ensures .1) joins (omega arith) (w .ensures .2))
 
 pub judge-flat-spec : {M : Type 1} → statement M
 judge-flat-spec =
@@ -146,6 +171,9 @@ judge-flat-spec =
     reached-requires
     judge-amounts-requires
     settle-requires
+    slice-aggregate-work-made
+    slice-aggregate-work-made-2
+    work-made-requires
     returns-5
     same-length
     same-length-2

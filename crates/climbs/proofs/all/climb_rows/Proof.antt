@@ -1,25 +1,19 @@
+use mathlib.Core.Path.{subst}
 use native.Mathlib.Omega.{arith}
-use mathlib.Core.Path.{_∙_}
-use Rattle.climbs.proofs.RowLaws.{moved-on}
-use Rattle.climbs.proofs.OrderLaws.{placed-rows, placed-sorted}
-use Rattle.climbs.proofs.TogetherLaws.{all-climbed}
 use borrow.Author.Needs.{needs}
+use Rattle.spv.specs.Climb.{Siblings}
+use Rattle.spv.specs.Values.{workedOut}
+use Rattle.climbs.specs.Spent.{Settled}
+use Rattle.climbs.specs.Together.{Climbed}
+use Rattle.climbs.proofs.LookUpLaws.{one-path}
 use Rattle.climbs.proofs.all.climb_rows.Statement.{statement}
 use Rattle.climbs.proofs.all.climb_rows.Tie as tie
-use Rattle.climbs.proofs.all.climb_rows.Reads as reads
-use Rattle.climbs.proofs.all.climb_rows.Lts as lts
-use Rattle.climbs.proofs.all.visit_trees.Reads as visit-trees-reads
-use Rattle.climbs.proofs.order.order_rows.Reads as order-rows-reads
-use Rattle.climbs.proofs.rise.rise_rows.Reads as rise-rows-reads
 
-rise-rows-requires : tie.Need-rise-rows-requires
-rise-rows-requires c κs = let p = c .before .before .before .before .before .before .before .before .pre in (p .0, record { levels = p .1; few = p .2 .few; each = p .2 .each; room = p .2 .room })
+slice-aggregate-climb-both : tie.Need-slice-aggregate-climb-both
+slice-aggregate-climb-both c = search needs
 
-order-rows-requires : tie.Need-order-rows-requires
-order-rows-requires c κs = let p = c .before .before .before .before .before .before .before .before .before .before .before .before .before .before .pre in (p .2 .few, p .2 .places)
-
-visit-trees-requires : tie.Need-visit-trees-requires
-visit-trees-requires c κs = let p = c .before .before .before .before .before .before .before .before .before .before .before .before .before .before .before .before .before .before .before .before .pre in let o = c .before .before .before .before .before .order-rows .ensures in let e = c .before .before .before .before .before .order-rows .kept .1 .0 ∙ c .before .before .before .before .before .before .before .before .before .before .before .before .before .before .before .before .before .before .before .before .pre .2 .places in let k = c .before .before .before .before .before .before .before .before .before .before .before .rise-rows .kept .1 .1 .1 .0 in let m = c .before .before .before .before .before .before .before .before .before .before .before .rise-rows .kept .1 .1 .1 .1 .0 in (p .0, record { levels = p .1; rows = placed-rows (c .before .before .before .before .before .before .before .before .before .before .before .before .before .before .before .before .before .before .before .before .args .starts .now) (c .before .before .before .before .before .order-rows .last .1 .0) _ o e; sorted = placed-sorted (c .before .before .before .before .before .before .before .before .before .before .before .before .before .before .before .before .before .before .before .before .args .starts .now) (c .before .before .before .before .before .order-rows .last .1 .0) _ o e; each = omega (arith, k, p .2 .each); room = omega (arith, m, p .2 .room) })
+climb-both-requires : tie.Need-climb-both-requires
+climb-both-requires c κs = search needs
 
 same-length : tie.Need-same-length
 same-length c = search needs
@@ -30,17 +24,25 @@ same-length-2 c = search needs
 same-length-3 : tie.Need-same-length-3
 same-length-3 c = search needs
 
+same-length-4 : tie.Need-same-length-4
+same-length-4 c = search needs
+
 returns : tie.Need-returns
-returns c = let v = c .before .before .before .before .visit-trees .ensures in let e = c .before .before .before .before .before .before .before .before .before .before .order-rows .kept .1 .0 ∙ c .before .before .before .before .before .before .before .before .before .before .before .before .before .before .before .before .before .before .before .before .before .before .before .before .before .pre .2 .places in all-climbed _ _ (c .before .before .before .before .before .before .before .before .before .before .before .before .before .before .before .before .before .before .before .before .before .before .before .before .before .args .starts .now) (c .before .before .before .before .before .before .before .before .before .before .order-rows .last .1 .0) (c .before .before .before .before .before .before .before .before .before .before .before .before .before .before .before .before .before .before .before .before .before .before .before .before .before .args .states .now) (c .before .before .before .before .before .before .before .before .before .before .before .before .before .before .before .before .before .before .before .before .before .before .before .before .before .args .hashes .now) _ _ (c .before .before .before .before .before .before .before .before .before .before .order-rows .ensures) e (moved-on _ _ _ _ _ (c .before .before .before .before .before .before .before .before .before .before .before .before .before .before .before .before .rise-rows .last .1 .1 .1 .0) (c .before .before .before .before .before .before .before .before .before .before .before .before .before .before .before .before .rise-rows .last .1 .1 .1 .1 .0) _ _ (c .before .before .before .before .before .before .before .before .before .before .before .before .before .before .before .before .rise-rows .ensures) (v .0)) (v .1)
+returns c =
+    let a = c .before .before .before .before .before .before .before .before .before .before .before .before .before .before .before .before .before .before .before .before .before .args in
+    let m = c .before .before .before .before .before .before .before .before .climb-both .last in
+    subst
+    (λ (w : Siblings). Climbed (workedOut w) (a .layers) (a .starts .now) (a .states .now) (a .hashes .now) (m .1 .1 .1 .1 .1 .1 .1 .0) (m .1 .1 .1 .1 .1 .1 .1 .1 .0) × Settled w (a .layers) (a .starts .now) (a .states .now) (a .hashes .now) (a .costs .now) (m .1 .1 .1 .1 .1 .1 .1 .1 .1 .0))
+    (one-path (a .s .now) (a .places .now) (a .s .now) _ (omega arith)) (c .before .before .before .before .before .before .before .before .climb-both .ensures)
 
 pub climb-rows-spec : {M : Type 1} → statement M
 climb-rows-spec =
     tie.close
     (tie.spec
-    rise-rows-requires
-    order-rows-requires
-    visit-trees-requires
+    slice-aggregate-climb-both
+    climb-both-requires
     same-length
     same-length-2
     same-length-3
+    same-length-4
     returns)

@@ -24,7 +24,7 @@ same-length-3 c = search needs
 
 returns-2 : tie.Need-returns-2
 returns-2 c =
-    (c .before .before .before .before .before .before .before .before .before .before .before .before .before .before .before .before .pre .1 .some, rows-none _ _ _ _ _ ∙ c .before .before .before .before .before .before .settle-rows .ensures)
+    (c .before .before .before .before .before .before .before .before .before .before .before .before .before .before .before .before .before .before .pre .1 .some, rows-none _ _ _ _ _ ∙ c .before .before .before .before .before .before .settle-rows .ensures)
 
 pub make-room-spec : {M : Type 1} → statement M
 make-room-spec =

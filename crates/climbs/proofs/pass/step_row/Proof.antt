@@ -1,17 +1,12 @@
 use native.Mathlib.Omega.{arith}
-use mathlib.Core.Path.{_≡_, refl, sym, ap, _∙_, subst}
-use mathlib.Core.List.{List}
-use Rattle.climbs.specs.Row.{statesAfter}
-use Rattle.climbs.specs.Pass.{Stepped}
 use borrow.Author.Tests.{not-true, not-false}
-use Prim.Native.Nat.{ℕ, _+_, _*_, _≤_}
-use lib.ListN.{length}
-use Rattle.climbs.proofs.PassLaws.{stepped-not, stepped-unknown, stepped-on}
+use Rattle.climbs.proofs.PassLaws.{stepped-not, stepped-unknown, stepped-both, charged-none}
 use borrow.Author.Needs.{needs}
 use Rattle.climbs.proofs.pass.step_row.Statement.{statement}
 use Rattle.climbs.proofs.pass.step_row.Tie as tie
 use Rattle.climbs.proofs.pass.step_row.Reads as reads
 use Rattle.climbs.proofs.pass.step_row.Lts as lts
+use Rattle.climbs.proofs.count.charge.Reads as charge-reads
 use Rattle.climbs.proofs.pass.beside.Reads as beside-reads
 use Rattle.climbs.proofs.row.above.Reads as above-reads
 use Rattle.climbs.proofs.row.advance.Reads as advance-reads
@@ -25,11 +20,10 @@ slice-read-state : tie.Need-slice-read-state
 slice-read-state c = search needs
 
 cast-state : tie.Need-cast-state
-cast-state c = omega (arith, c .slice-known3 .given (c .before .before .before .before .args .row))
+cast-state c = omega (arith, c .slice-known4 .given (c .before .before .before .before .before .args .row))
 
 returns : tie.Need-returns
-returns c =
-    let a = c .before .before .before .before .before .args in stepped-not (a .starts .now) (a .states .now) (a .hashes .now) (a .row) (a .layer) (a .left) (a .l) (a .r) (c .if1 .taken)
+returns c = let a = c .before .before .before .before .before .before .args in (stepped-not (a .starts .now) (a .states .now) (a .hashes .now) (a .row) (a .layer) (a .left) (a .l) (a .r) (c .if1 .taken), charged-none (a .starts .now) (a .layer) (a .left) (a .l) (a .r) (a .states .now) (a .hashes .now) (a .costs .now))
 
 mul-above : tie.Need-mul-above
 mul-above c = search needs
@@ -44,8 +38,7 @@ beside-requires : tie.Need-beside-requires
 beside-requires c κs = search needs
 
 returns-2 : tie.Need-returns-2
-returns-2 c =
-    let a = c .before .before .before .before .before .before .before .before .before .before .args in stepped-unknown (a .starts .now) (a .states .now) (a .hashes .now) (a .row) (a .layer) (a .left) (a .l) (a .r) (c .before .before .before .before .before .if1 .left) _ _ (c .before .before .before .above .ensures) (c .before .before .beside .ensures) (not-true _ (c .if2 .taken))
+returns-2 c = let a = c .before .before .before .before .before .before .before .before .before .before .before .args in (stepped-unknown (a .starts .now) (a .states .now) (a .hashes .now) (a .row) (a .layer) (a .left) (a .l) (a .r) (c .before .before .before .before .before .if1 .left) _ _ (c .before .before .before .above .ensures) (c .before .before .beside .ensures) (not-true _ (c .if2 .taken)), charged-none (a .starts .now) (a .layer) (a .left) (a .l) (a .r) (a .states .now) (a .hashes .now) (a .costs .now))
 
 turn-requires : tie.Need-turn-requires
 turn-requires c κs = search needs
@@ -53,8 +46,11 @@ turn-requires c κs = search needs
 join-requires : tie.Need-join-requires
 join-requires c κs = search needs
 
+charge-requires : tie.Need-charge-requires
+charge-requires c κs = let p = c .before .before .before .before .before .before .before .before .before .before .before .before .before .before .before .before .before .before .before .pre in omega (arith, p .0, p .1)
+
 advance-requires : tie.Need-advance-requires
-advance-requires c κs = search needs
+advance-requires c κs = let p = c .before .before .before .before .before .before .before .before .before .before .before .before .before .before .before .before .before .before .before .before .before .before .before .before .pre in (omega (arith, p .0, p .1), p .3)
 
 same-length : tie.Need-same-length
 same-length c = search needs
@@ -62,14 +58,11 @@ same-length c = search needs
 same-length-2 : tie.Need-same-length-2
 same-length-2 c = search needs
 
+same-length-3 : tie.Need-same-length-3
+same-length-3 c = search needs
+
 returns-3 : tie.Need-returns-3
-returns-3 c =
-    let a = c .before .before .before .before .before .before .before .before .before .before .before .before .before .before .before .before .before .before .before .before .before .before .before .args in
-    let p = c .before .before .before .before .before .before .before .before .before .before .before .before .before .before .before .before .before .before .before .before .before .before .before .pre in
-    let n = stepped-on (a .starts .now) (a .states .now) (a .hashes .now) (a .row) (a .layer) (a .left) (a .l) (a .r) (c .before .before .before .before .before .before .before .before .before .before .before .before .before .before .before .before .before .before .if1 .left) _ _ (c .before .before .before .before .before .before .before .before .before .before .before .before .before .before .before .before .above .ensures) (c .before .before .before .before .before .before .before .before .before .before .before .before .before .before .before .beside .ensures) (not-false _ (c .before .before .before .before .before .before .before .before .before .before .before .before .before .if2 .left)) _ _ (p .3) (omega arith) (omega arith) (c .before .before .before .before .before .before .before .before .before .before .turn .ensures) (c .before .before .before .before .before .before .before .join .ensures) in
-    let e = c .before .before .before .before .advance .ensures in
-    subst (λ (x : List ℕ). Stepped (a .starts .now) (a .states .now) (a .hashes .now) x (c .before .before .before .before .advance .last .1 .0) (a .row) (a .layer) (a .left) (a .l) (a .r)) (sym (e .0))
-    (subst (λ (x : List ℕ). Stepped (a .starts .now) (a .states .now) (a .hashes .now) (statesAfter (a .states .now) (a .row) (a .layer) (c .before .before .before .before .before .before .before .before .before .before .turn .result .kind)) x (a .row) (a .layer) (a .left) (a .l) (a .r)) (sym (e .1)) n)
+returns-3 c = let a = c .before .before .before .before .before .before .before .before .before .before .before .before .before .before .before .before .before .before .before .before .before .before .before .before .before .before .before .before .before .args in let p = c .before .before .before .before .before .before .before .before .before .before .before .before .before .before .before .before .before .before .before .before .before .before .before .before .before .before .before .before .before .pre in let e = c .before .before .before .before .advance .ensures in stepped-both (a .starts .now) (a .states .now) (a .hashes .now) (a .row) (a .layer) (a .left) (a .l) (a .r) (c .before .before .before .before .before .before .before .before .before .before .before .before .before .before .before .before .before .before .before .before .before .before .before .if1 .left) _ _ (c .before .before .before .before .before .before .before .before .before .before .before .before .before .before .before .before .before .before .before .before .before .above .ensures) (c .before .before .before .before .before .before .before .before .before .before .before .before .before .before .before .before .before .before .before .before .beside .ensures) (not-false _ (c .before .before .before .before .before .before .before .before .before .before .before .before .before .before .before .before .before .before .if2 .left)) _ _ (p .3) (omega arith) (omega arith) (c .before .before .before .before .before .before .before .before .before .before .before .before .before .before .before .turn .ensures) (c .before .before .before .before .before .before .before .before .before .before .before .before .join .ensures) _ _ (a .costs .now) _ (e .0) (e .1) (c .before .before .before .before .before .before .before .before .before .charge .ensures)
 
 pub step-row-spec : {M : Type 1} → statement M
 step-row-spec =
@@ -86,7 +79,9 @@ step-row-spec =
     returns-2
     turn-requires
     join-requires
+    charge-requires
     advance-requires
     same-length
     same-length-2
+    same-length-3
     returns-3)

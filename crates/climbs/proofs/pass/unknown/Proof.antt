@@ -19,7 +19,7 @@ returns c =
     ap made (c .absent-node .ensures)
   where
     made : Node → Known
-    made n = record { known = false; node = n }
+    made n = record { known = false; node = n; joins = 0 }
 
 pub unknown-spec : {M : Type 1} → statement M
 unknown-spec = tie.close (tie.spec absent-node-requires returns)

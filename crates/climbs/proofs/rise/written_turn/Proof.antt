@@ -1,8 +1,7 @@
 use native.Mathlib.Omega.{arith}
 use borrow.Author.Tests.{not-false}
-use Rattle.spv.specs.Siblings.{writtenBy, findAt}
-use Rattle.spv.specs.Values.{workedOut}
-use Rattle.climbs.proofs.RiseLaws.{stays-right, seen-worked, moves-right}
+use Rattle.climbs.specs.LookUp.{lookedUp}
+use Rattle.climbs.proofs.RiseLaws.{stays-right, moves-right}
 use borrow.Author.Needs.{needs}
 use Rattle.climbs.proofs.rise.written_turn.Statement.{statement}
 use Rattle.climbs.proofs.rise.written_turn.Tie as tie
@@ -22,7 +21,7 @@ shared-slice-read-state c = search needs
 
 cast-state : tie.Need-cast-state
 cast-state c =
-    omega (arith, c .shared-slice-known6 .given (c .before .before .before .before .before .before .args .row))
+    omega (arith, c .shared-slice-known8 .given (c .before .before .before .before .before .before .before .before .args .row))
 
 stay-requires : tie.Need-stay-requires
 stay-requires c κs = search needs
@@ -56,7 +55,8 @@ turn-requires c κs = search needs
 
 returns-3 : tie.Need-returns-3
 returns-3 c =
-    moves-right (workedOut (writtenBy (c .before .before .before .before .before .before .before .before .before .before .before .before .before .before .before .args .s .now) (findAt (c .before .before .before .before .before .before .before .before .before .before .before .before .before .before .before .args .layout) (c .before .before .before .before .before .before .before .before .before .before .before .before .before .before .before .args .s .now) (c .before .before .before .before .before .before .before .before .before .before .before .before .before .before .before .args .places .now)))) (c .before .before .before .before .before .before .before .before .before .before .before .before .before .before .before .args .starts .now) (c .before .before .before .before .before .before .before .before .before .before .before .before .before .before .before .args .states .now) (c .before .before .before .before .before .before .before .before .before .before .before .before .before .before .before .args .hashes .now) (c .before .before .before .before .before .before .before .before .before .before .before .before .before .before .before .args .row) (c .before .before .before .before .before .before .before .before .before .before .before .before .before .before .before .args .layer) _ _ _ _ (c .before .before .before .before .before .before .before .before .if1 .left) (c .before .before .before .before .before .before .above .ensures) (c .before .before .before .before .before .sibling-position .ensures) (seen-worked _ _ _ _ (c .before .before .before .before .written-at .ensures) (not-false _ (c .before .before .if2 .left))) (c .turn .ensures)
+    let a = c .before .before .before .before .before .before .before .before .before .before .before .before .before .before .before .before .before .args in
+    moves-right (lookedUp (a .s .now) (a .places .now) (a .t .now) (a .others .now)) (a .starts .now) (a .states .now) (a .hashes .now) (a .row) (a .layer) _ _ _ _ (c .before .before .before .before .before .before .above .ensures) (c .before .before .before .before .before .sibling-position .ensures) (c .before .before .before .before .written-at .ensures) (not-false _ (c .before .before .if2 .left)) (c .turn .ensures)
 
 pub written-turn-spec : {M : Type 1} → statement M
 written-turn-spec =

@@ -1,7 +1,8 @@
 use borrow.Author.Needs.{needs}
-use Rattle.difference.specs.MergeLaws.{least, told-there, merge-stop, merge-on, merge-end}
+use Rattle.difference.specs.MergeLaws.{told-there, merge-stop, merge-on, merge-end}
+use Rattle.levels.proofs.FrontsLaws.{least}
 use Rattle.difference.specs.Merge.{merged}
-use Rattle.difference.specs.Sorted.{entries}
+use Rattle.levels.specs.Places.{entries}
 use Rattle.difference.specs.Filling.{filling, putAll}
 use lib.ListN.{length, drop}
 use Prim.Native.Nat.{_-_, _≤_}

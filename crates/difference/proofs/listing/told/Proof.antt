@@ -1,4 +1,4 @@
-use Rattle.difference.specs.Merge.{standingOf}
+use Rattle.levels.specs.Fronts.{standingOf}
 use Rattle.difference.specs.Filling.{toldWord}
 use Rattle.difference.specs.Differences.{told, alike, differ, both}
 use Rattle.difference.specs.Listing.{sideWord}

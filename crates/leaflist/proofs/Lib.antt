@@ -1,0 +1,5 @@
+mod LeafListLaws
+pub mod LeafListTheorems
+mod RowsLaws
+mod SearchLaws
+mod Examples

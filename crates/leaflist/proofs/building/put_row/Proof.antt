@@ -1,0 +1,74 @@
+use lib.ListN.{length-set}
+use Rattle.leaflist.specs.Rows.{store}
+use Rattle.leaflist.proofs.RowsLaws.{row-full, row-put}
+use mathlib.Core.Path.{sym}
+use native.Mathlib.Omega.{arith}
+use borrow.Author.Needs.{needs}
+use Rattle.leaflist.proofs.building.put_row.Statement.{statement}
+use Rattle.leaflist.proofs.building.put_row.Tie as tie
+
+returns : tie.Need-returns
+returns c = sym (row-full _ _ _ _ _ (c .if1 .taken))
+
+mul-out : tie.Need-mul-out
+mul-out c = search needs
+
+mul-out-2 : tie.Need-mul-out-2
+mul-out-2 c = search needs
+
+slice-write-out : tie.Need-slice-write-out
+slice-write-out c = search needs
+
+mul-out-3 : tie.Need-mul-out-3
+mul-out-3 c = search needs
+
+add-out : tie.Need-add-out
+add-out c = search needs
+
+mul-out-4 : tie.Need-mul-out-4
+mul-out-4 c = search needs
+
+slice-write-out-2 : tie.Need-slice-write-out-2
+slice-write-out-2 c = simp length-set (omega arith)
+
+mul-out-5 : tie.Need-mul-out-5
+mul-out-5 c = search needs
+
+add-out-2 : tie.Need-add-out-2
+add-out-2 c = search needs
+
+mul-out-6 : tie.Need-mul-out-6
+mul-out-6 c = search needs
+
+slice-write-out-3 : tie.Need-slice-write-out-3
+slice-write-out-3 c = simp length-set (omega arith)
+
+add-result : tie.Need-add-result
+add-result c = search needs
+
+same-length : tie.Need-same-length
+same-length c = search needs
+
+returns-2 : tie.Need-returns-2
+unfolding store
+returns-2 c = sym (row-put _ _ _ _ _ (c .if1 .left))
+
+pub put-row-spec : {M : Type 1} → statement M
+put-row-spec =
+    tie.close
+    (tie.spec
+    returns
+    mul-out
+    mul-out-2
+    slice-write-out
+    mul-out-3
+    add-out
+    mul-out-4
+    slice-write-out-2
+    mul-out-5
+    add-out-2
+    mul-out-6
+    slice-write-out-3
+    add-result
+    same-length
+    returns-2)

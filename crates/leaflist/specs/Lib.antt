@@ -1,0 +1,2 @@
+pub mod LeafList
+pub mod Rows

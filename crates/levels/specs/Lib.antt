@@ -1,0 +1,6 @@
+pub mod Standing
+pub mod Places
+pub mod Order
+pub mod Ordered
+pub mod Runs
+pub mod Fronts

@@ -1,0 +1,21 @@
+-- What stands in a BUMP at a level and offset.
+use mathlib.Core.List.{List, [], _∷_}
+use Prim.Native.Nat.{ℕ}
+use lib.Dec.{eqb}
+use lib.ListN.{getD}
+use Rattle.format.specs.Parse.{pick}
+use Rattle.encoding.specs.BumpBytes.{Carried, Entry, Content}
+
+-- what stands at a place
+pub data Standing : Type 0 where
+  stands : Carried → Standing
+  nothing : Standing
+
+-- what stands at an offset of a level
+unfoldable pub at : ℕ → List Entry → Standing
+at o [] = nothing
+at o (e ∷ l) = pick (eqb (e .offset) o) (stands (e .carried)) (at o l)
+
+-- what stands at a level and offset
+unfoldable pub standing : Content → ℕ → ℕ → Standing
+standing x k o = at o (getD (x .levels) k [])
