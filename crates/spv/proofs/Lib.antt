@@ -3,3 +3,5 @@ pub mod Traces
 pub mod Pairs
 pub mod Filled
 pub mod Local
+pub mod OddCopies
+pub mod CanBeHad
