@@ -103,12 +103,12 @@ module _ (chosen : List ℕ) (k o : ℕ) (u : under chosen (suc k) o ≡ true) w
 -- ---- what is asked for near a chosen climb
 
 module _ (ids : List (List ℕ)) (chosen : List ℕ) (o : ℕ) where
-  asked-client : under chosen 0 o ≡ true → asked ids chosen 0 o ≡ some (client (node ids 0 o))
+  pub asked-client : under chosen 0 o ≡ true → asked ids chosen 0 o ≡ some (client (node ids 0 o))
   unfolding asked
   asked-client u = rw u
 
   -- over a chosen position it is left out
-  asked-over : (k : ℕ) → under chosen (suc k) o ≡ true → asked ids chosen (suc k) o ≡ none
+  pub asked-over : (k : ℕ) → under chosen (suc k) o ≡ true → asked ids chosen (suc k) o ≡ none
   unfolding asked leftOut
   asked-over k u = rw (ne-eqb (suc k) 0 (λ q. omega arith), u, lt-ltb 0 (suc k) (zero-lt-suc k)) (go (under chosen (suc k) (siblingPosition o)))
     where
@@ -116,7 +116,7 @@ module _ (ids : List (List ℕ)) (chosen : List ℕ) (o : ℕ) where
       go true = refl
       go false = refl
 
-  asked-sibling : (k : ℕ) → under chosen k o ≡ false → under chosen k (siblingPosition o) ≡ true → asked ids chosen k o ≡ some (siblingAt ids k o)
+  pub asked-sibling : (k : ℕ) → under chosen k o ≡ false → under chosen k (siblingPosition o) ≡ true → asked ids chosen k o ≡ some (siblingAt ids k o)
   unfolding asked leftOut
   asked-sibling k u v = go (eqb k 0) refl (ltb 0 k)
     where
@@ -144,7 +144,7 @@ module _ {block : ℕ} {ids : List (List ℕ)} {chosen s : List ℕ} (g : Sizes 
       let below : t .0 < 2 ^ height ids = (let a = g .below (t .0) (t .1) in let l = height-holds (length ids) in omega arith) in
       rw (← (t .2)) (shr-lt (height ids - k) k (rw back below))
 
-  sibling-in : (k o : ℕ) → k < height ids → under chosen k (siblingPosition o) ≡ true → o < 2 ^ (height ids - k)
+  pub sibling-in : (k o : ℕ) → k < height ids → under chosen k (siblingPosition o) ≡ true → o < 2 ^ (height ids - k)
   sibling-in k o b u =
       let up : suc (height ids - k - 1) ≡ height ids - k = omega arith in
       rw (← up) (rw (sibling-twice o) at (sibling-below (siblingPosition o) (height ids - k - 1) (rw up (under-in k (siblingPosition o) b u))))

@@ -9,6 +9,7 @@ pub mod BlockValues
 pub mod BlockProved
 pub mod IdsLaws
 pub mod Written
+pub mod LeftOut
 pub mod HeapLaws
 pub mod MarksLaws
 pub mod ClimbsLaws

@@ -94,12 +94,12 @@ module _ (block : ℕ) (list chosen : List ℕ) (room : ℕ) (bytes : List ℕ) 
   written-only s b m = only-bytes block (hashesOf list) chosen s b m ∙ found .is
 
   module _ (all : AllBytes list) where
-    good : Sizes block (hashesOf list) chosen
-    good = sizes-of block list chosen all (found .sizes) (found .below)
+    pub written-sizes : Sizes block (hashesOf list) chosen
+    written-sizes = sizes-of block list chosen all (found .sizes) (found .below)
 
     -- they meet the rules
     pub written-meets : Meets block (hashesOf list) chosen bytes
-    written-meets = rw (← found .is) (bump-meets good)
+    written-meets = rw (← found .is) (bump-meets written-sizes)
 
     no-twin-told : (i : ℕ) → holds i chosen ≡ true → reaches (treeClimb (hashesOf list) i) ≡ true
     no-twin-told i m =
@@ -109,4 +109,4 @@ module _ (block : ℕ) (list chosen : List ℕ) (room : ℕ) (bytes : List ℕ) 
     -- read back, they prove each chosen id at its position, over the least height, to the list's root
     pub written-proves : (i : ℕ) → holds i chosen ≡ true
         → prove (bumpReading bytes (node (hashesOf list) 0 i)) ≡ accepted (proofOf (treeSiblings (hashesOf list)) (height (hashesOf list)) i (node (hashesOf list) 0 i) (root (hashesOf list)))
-    written-proves i m = rw (← found .is) (chosen-proved good (read-back good) i m (found .different) (no-twin-told i m))
+    written-proves i m = rw (← found .is) (chosen-proved written-sizes (read-back written-sizes) i m (found .different) (no-twin-told i m))
