@@ -1,6 +1,7 @@
 pub mod MergingTheorems
 pub mod MergedCheck
 pub mod MergeTheorems
+pub mod Answered
 mod MergedBytes
 mod BothLaws
 mod ChoiceLaws
