@@ -10,6 +10,7 @@ pub mod BlockProved
 pub mod IdsLaws
 pub mod Written
 pub mod LeftOut
+pub mod Answered
 pub mod HeapLaws
 pub mod MarksLaws
 pub mod ClimbsLaws

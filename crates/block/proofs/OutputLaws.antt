@@ -1,10 +1,10 @@
 -- Laws of a writer's answer and of the memory lent to it.
-use mathlib.Core.Path.{_≡_, refl, ap, _∙_}
+use mathlib.Core.Path.{_≡_, refl, sym, ap, _∙_}
 use mathlib.Core.Bool.{Bool, true, false}
 use mathlib.Core.List.{List, _++_}
 use Prim.Native.Nat.{ℕ, _≤_, _<_, min}
-use lib.ListN.{length, drop}
-use lib.Seq.{take-all}
+use lib.ListN.{length, take, drop}
+use lib.Seq.{take-all, take-append-seam}
 use lib.Dec.{leb}
 use native.Mathlib.Omega.{arith}
 use borrow.Author.Tests.{le-leb, lt-leb, leb-true}
@@ -48,3 +48,17 @@ unfolding writtenOf outputAfter
 written-whole out text fits {w} {out′} {next} e f =
     let end : buffer out′ next ≡ buffer (filled out text) (min (length out) (length text)) = f ∙ write-whole out text in
     rw e (ap Bytes (ap (λ (x : Buffer). x .at) end ∙ omega arith), ap (λ (x : Buffer). x .room) end ∙ ap (λ (x : List ℕ). x ++ drop (length text) out) (take-all (length out) text fits))
+
+-- an answer of n bytes: they stand at the start of what is left in the memory lent
+pub bytes-told : (w : Result (List ℕ)) (out left : List ℕ) (n : ℕ) → Bytes n ≡ writtenOf w → left ≡ outputAfter w out → w ≡ accepted (take n left)
+unfolding writtenOf outputAfter
+bytes-told (accepted bytes) out left n e f =
+    let l : n ≡ length bytes = cc in
+    ap accepted (sym (take-append-seam bytes (drop (length bytes) out)) ∙ ap (λ (m : ℕ). take m (bytes ++ drop (length bytes) out)) (sym l) ∙ ap (take n) (sym f))
+bytes-told (refused why) out left n e f = absurd (let z : _≡_ {A = ℕ} 0 1 = cc in omega arith)
+
+-- and where bytes are accepted, the answer and the memory tell them
+pub accepted-told : {w : Result (List ℕ)} {r : Written} {left : List ℕ} (out bytes : List ℕ) → w ≡ accepted bytes → r ≡ writtenOf w → left ≡ outputAfter w out → (r ≡ Bytes (length bytes)) × (take (length bytes) left ≡ bytes)
+unfolding writtenOf outputAfter
+accepted-told out bytes e a l =
+    (a ∙ ap writtenOf e, ap (take (length bytes)) (l ∙ ap (λ (x : Result (List ℕ)). outputAfter x out) e) ∙ take-append-seam bytes (drop (length bytes) out))
