@@ -7,3 +7,4 @@ pub mod ToTsc
 pub mod ToBumpLaws
 pub mod ToBump
 pub mod RoundTrip
+pub mod Answered

@@ -3,6 +3,8 @@ use Prim.Native.Nat.{ℕ, _^_, _≤_, _<_}
 use mathlib.Core.Path.{_≡_, sym, ap, _∙_, subst}
 use mathlib.Core.List.{List, []}
 use lib.ListN.{length, getD}
+use native.Mathlib.Omega.{arith}
+use borrow.Author.Tests.{ne-eqb}
 use Rattle.path.specs.declared.path.Form.{Form}
 use Rattle.format.specs.Parse.{got}
 use Rattle.format.specs.Refusals.{MAX-BLOCK}
@@ -18,14 +20,15 @@ use Rattle.spv.specs.Climb.{Siblings}
 use Rattle.spv.specs.Compare.{any, Proof, proofOf, prove}
 use Rattle.spv.specs.CompareLaws.{prove-accepted}
 use Rattle.spv.specs.Position.{position-exists}
-use Rattle.spv.specs.Readings.{bumpReading, tscTarget, reading}
-use Rattle.spv.specs.ReadingsLaws.{tsc-read}
+use Rattle.spv.specs.Readings.{bumpReading, tscReading, tscTarget, reading}
+use Rattle.spv.specs.ReadingsLaws.{read-proved, tsc-read}
 use Rattle.spv.specs.Siblings.{levelSiblings, nodeSiblings}
+use Rattle.block.proofs.OutputLaws.{room-enough}
 use Rattle.conversion.specs.Convert.{clientBump, tscToBump, bumpToTsc}
 use Rattle.conversion.proofs.Taken.{proof-id, proof-layers, proof-position}
-use Rattle.conversion.proofs.TakenLaws.{bump-climb}
+use Rattle.conversion.proofs.TakenLaws.{bump-climb, siblings-whole}
 use Rattle.conversion.proofs.HashFits.{level-siblings-fit, start-fits}
-use Rattle.conversion.proofs.ToBump.{content-fits, back-proves, to-bump-is, to-bump-proves}
+use Rattle.conversion.proofs.ToBump.{content-fits, back-proves, to-bump-proves}
 use Rattle.conversion.proofs.ToTsc.{to-tsc-proves, tsc-round-trip-by}
 
 -- a TSC proof with id and root target, to BUMP and back by its id
@@ -58,14 +61,32 @@ climb-alone s id block p all b e =
     below : {i j h g : ℕ} → j ≡ i → g ≡ h → j < 2 ^ g → i < 2 ^ h
     below e f b = rw (← e, ← f) b
 
--- one id's climb in a BUMP, to TSC and back: the id is proved again, at the same position over the same layers to the same root
-pub bump-round-trip : (s id : List ℕ) (room block back : ℕ) (tsc bumped : List ℕ) → AllBytes s → block ≤ MAX-BLOCK → bumpToTsc s id room ≡ accepted tsc → tscToBump tsc block back ≡ accepted bumped
-    → (p : Proof) × (prove (bumpReading s id) ≡ accepted p) × (prove (bumpReading bumped id) ≡ accepted p)
-bump-round-trip s id room block back tsc bumped all b there again =
+-- a TSC proof with nodes becomes the BUMP of its climb wherever that has room
+to-bump-of : (s : List ℕ) (block room : ℕ) (t : Tsc) (q : ℕ) (p : Proof) → tscWhole s ≡ got t q → prove (tscReading s) ≡ accepted p → 1 ≤ p .layers → length (bumpBytes (clientBump block p)) ≤ room
+    → tscToBump s block room ≡ accepted (bumpBytes (clientBump block p))
+unfolding tscToBump
+to-bump-of s block room t q p w e some enough =
+    let ne : p .layers ≡ 0 → ⊥ = λ z. omega arith in
+    rw (w, e, ne-eqb (p .layers) 0 ne) (room-enough room (bumpBytes (clientBump block p)) enough)
+
+-- one id's climb in a BUMP, to TSC and back: the bytes that the way back writes wherever they have room prove the id again, at the same position over the
+-- same layers to the same root
+pub record ThereAndBack (s id tsc : List ℕ) (block : ℕ) : Type 0 where
+  pub proof : Proof
+  pub bumped : List ℕ
+  pub proves : prove (bumpReading s id) ≡ accepted proof
+  pub writes : (room : ℕ) → length bumped ≤ room → tscToBump tsc block room ≡ accepted bumped
+  pub again : prove (bumpReading bumped id) ≡ accepted proof
+
+pub bump-round-trip : (s id : List ℕ) (room block : ℕ) (tsc : List ℕ) → AllBytes s → block ≤ MAX-BLOCK → bumpToTsc s id room ≡ accepted tsc → ThereAndBack s id tsc block
+unfolding tscReading
+bump-round-trip s id room block tsc all b there =
     let x = to-tsc-proves s id room tsc all there in
-    let y = to-bump-is tsc block back bumped again in
-    let same : y .2 ≡ x .0 = proof-same (sym (y .4) ∙ x .2) in
-    (x .0, x .1, ap (λ (l : List ℕ). prove (bumpReading l id)) (y .6 ∙ ap (λ (p : Proof). bumpBytes (clientBump block p)) same) ∙ climb-alone s id block (x .0) all b (x .1))
-  where
-    proof-same : {p q : Proof} → accepted p ≡ accepted q → p ≡ q
-    proof-same e = cc
+    let r = read-proved (tscWhole tsc) _ (x .0) (x .2) in
+    record {
+      proof = x .0;
+      bumped = bumpBytes (clientBump block (x .0));
+      proves = x .1;
+      writes = λ back enough. to-bump-of tsc block back (r .0) (r .1) (x .0) (r .2) (x .2) (siblings-whole s id (x .0) (x .1) .some) enough;
+      again = climb-alone s id block (x .0) all b (x .1);
+    }

@@ -173,10 +173,6 @@ told s block room bytes e = of-tsc (tscWhole s) refl e
     of-tsc (got t q) w f = of-proof t q w (prove (tscReading s)) refl f
     of-tsc (bad number place) w f = let z : _≡_ {A = ℕ} 0 1 = cc in absurd (omega arith)
 
-pub to-bump-is : (s : List ℕ) (block room : ℕ) (bytes : List ℕ) → tscToBump s block room ≡ accepted bytes
-    → (t : Tsc) × (q : ℕ) × (p : Proof) × (tscWhole s ≡ got t q) × (prove (tscReading s) ≡ accepted p) × (p .layers ≡ 0 → ⊥) × (bytes ≡ bumpBytes (clientBump block p))
-to-bump-is s block room bytes e = let x = told s block room bytes e in (x .tsc, x .end, x .proof, x .whole, x .proves, x .layered, x .is)
-
 pub to-bump-fits : (s : List ℕ) (block room : ℕ) (bytes : List ℕ) → tscToBump s block room ≡ accepted bytes → length bytes ≤ room
 to-bump-fits s block room bytes e = told s block room bytes e .fits
 
