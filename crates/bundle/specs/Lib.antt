@@ -47,6 +47,7 @@ pub mod OneMoreBump
 pub mod BundleParts
 pub mod BundlePartsRead
 pub mod UnusedBump
+pub mod EveryBundle
 pub mod Work
 pub mod WorkLaws
 pub mod WorkFits

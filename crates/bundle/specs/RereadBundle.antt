@@ -1,10 +1,10 @@
 -- What a BUMP and a transaction say: the same wherever their bytes stand.
-use Prim.Native.Nat.{ℕ, _+_, _-_}
+use Prim.Native.Nat.{ℕ, _+_, _-_, _≤_}
 use mathlib.Core.Path.{_≡_, refl, sym, ap, ap₂, _∙_}
 use mathlib.Core.Bool.{Bool, true, not, _&&_}
 use mathlib.Core.List.{List, [], _∷_, _++_, map, map-id}
 use native.Mathlib.Omega.{arith}
-use lib.ListN.{take, drop}
+use lib.ListN.{length, take, drop}
 use lib.Dec.{ltb, leb, eqb}
 use Rattle.format.specs.declared.level.Layout.{Layout}
 use Rattle.format.specs.declared.level.Kind.the-variants.{Plain, Copy, Client}
@@ -21,7 +21,7 @@ use Rattle.format.specs.Beef.{Entry, bumpNumberField, anchorField, entryField}
 use Rattle.format.specs.Refusals.{OVER-LIMIT, BAD-HEIGHT, BAD-OFFSET, BAD-FLAG, REPEATED, BAD-TX, BAD-INDEX, BAD-AMOUNT, MAX-LEAVES, MAX-BLOCK, MAX-HEIGHT}
 use Rattle.spv.specs.Climb.{Sibling, value}
 use Rattle.spv.specs.Siblings.{written}
-use Rattle.bundle.specs.Reread.{StandsIn, Again, pure-again, here-again, then-again, then-same, passing-again, given-again, pick-again, many-again, bytes-again, byte-again, varint-again, run-again, hash-again, number-again, le4-again, le8-again}
+use Rattle.bundle.specs.Reread.{StandsIn, Again, on-pure, on-here, on-then, pure-again, here-again, then-again, then-same, passing-again, given-again, pick-again, many-again, bytes-again, byte-again, varint-again, run-again, hash-again, number-again, le4-again, le8-again}
 use Rattle.bundle.specs.Amounts.{Outpoint, outpointOf}
 
 -- a leaf: its offset, and its 32 bytes or a copy
@@ -61,24 +61,24 @@ module _ {u t : List ℕ} {base : ℕ} (stands : StandsIn u t base) where
   carried-again : (level offset : ℕ) → Same (carriedField Layout.Bump level offset) (carriedField Layout.Bump level offset) (written u) (written t)
   unfolding carriedField flagField
   carried-again level offset =
-      then-same (passing-again byte byte (flagAllowed level offset) (flagAllowed level offset) BAD-FLAG BAD-FLAG (byte-again stands) (λ x h. h)) kind-again
+      then-same (passing-again byte byte (flagAllowed level offset) (flagAllowed level offset) BAD-FLAG BAD-FLAG (byte-again stands) (λ x. refl)) kind-again
 
   offset-again : (limit : ℕ) (seen : List ℕ) → Equal (offsetField limit seen)
   unfolding offsetField
   offset-again limit seen =
       passing-again (varint passing (λ o. ltb o limit) else BAD-OFFSET) (varint passing (λ o. ltb o limit) else BAD-OFFSET) (λ o. not (holds o seen)) (λ o. not (holds o seen)) REPEATED REPEATED
-      (passing-again varint varint (λ o. ltb o limit) (λ o. ltb o limit) BAD-OFFSET BAD-OFFSET (varint-again stands) (λ x h. h)) (λ x h. h)
+      (passing-again varint varint (λ o. ltb o limit) (λ o. ltb o limit) BAD-OFFSET BAD-OFFSET (varint-again stands) (λ x. refl)) (λ x. refl)
 
   leaf-again : (limit level : ℕ) (seen : List ℕ) → Same (leafField Layout.Bump limit level seen) (leafField Layout.Bump limit level seen) (leafSaid u) (leafSaid t)
   unfolding leafField
   leaf-again limit level seen =
-      then-same (offset-again limit seen) (λ offset. then-again (carried-again level offset)
+      then-same (offset-again limit seen) (λ offset. then-again (carried-again level offset) (λ _. on-pure)
       (λ k l e. pure-again (record { offset = offset; kind = k }) (record { offset = offset; kind = l }) (leafSaid u) (leafSaid t) (ap (λ (x : Sibling). (offset, x)) e)))
 
   level-again : (limit level : ℕ) → Same (levelField Layout.Bump limit level) (levelField Layout.Bump limit level) (map (leafSaid u)) (map (leafSaid t))
   unfolding levelField
   level-again limit level =
-      then-same (passing-again varint varint (λ n. leb n MAX-LEAVES) (λ n. leb n MAX-LEAVES) OVER-LIMIT OVER-LIMIT (varint-again stands) (λ x h. h))
+      then-same (passing-again varint varint (λ n. leb n MAX-LEAVES) (λ n. leb n MAX-LEAVES) OVER-LIMIT OVER-LIMIT (varint-again stands) (λ x. refl))
       (λ n. many-again (leafField Layout.Bump limit level) (leafField Layout.Bump limit level) andOffset andOffset (leafSaid u) (leafSaid t) (leaf-again limit level)
       (λ seen a b e. ap (λ (x : ℕ × Sibling). seen ++ (x .0 ∷ [])) e) n [])
 
@@ -89,9 +89,9 @@ module _ {u t : List ℕ} {base : ℕ} (stands : StandsIn u t base) where
   pub bump-again : Same bumpField bumpField (bumpSaid u) (bumpSaid t)
   unfolding bumpField blockField heightField
   bump-again =
-      then-same (passing-again varint varint (λ b. leb b MAX-BLOCK) (λ b. leb b MAX-BLOCK) OVER-LIMIT OVER-LIMIT (varint-again stands) (λ x h. h))
-      (λ block. then-same (passing-again byte byte (λ h. leb 1 h && leb h MAX-HEIGHT) (λ h. leb 1 h && leb h MAX-HEIGHT) BAD-HEIGHT BAD-HEIGHT (byte-again stands) (λ x h. h))
-      (λ height. then-again here-again (λ p q _. then-again (levels-again height)
+      then-same (passing-again varint varint (λ b. leb b MAX-BLOCK) (λ b. leb b MAX-BLOCK) OVER-LIMIT OVER-LIMIT (varint-again stands) (λ x. refl))
+      (λ block. then-same (passing-again byte byte (λ h. leb 1 h && leb h MAX-HEIGHT) (λ h. leb 1 h && leb h MAX-HEIGHT) BAD-HEIGHT BAD-HEIGHT (byte-again stands) (λ x. refl))
+      (λ height. then-again here-again (λ _. on-then (levels-again height .onwards) (λ _. on-pure)) (λ p q _. then-again (levels-again height) (λ _. on-pure)
       (λ l m e. pure-again (record { block = block; height = height; start = p; levels = l }) (record { block = block; height = height; start = q; levels = m }) (bumpSaid u) (bumpSaid t)
       (ap (λ (x : List (List (ℕ × Sibling))). (height, x)) e)))))
 
@@ -111,14 +111,16 @@ module _ {u t : List ℕ} {base : ℕ} (stands : StandsIn u t base) where
   input-again : Same inputField inputField (outpointOf u) (outpointOf t)
   unfolding inputField
   input-again =
-      then-again (bytes-again stands 32 (hashAt u) (hashAt t) (hash-again stands)) (λ p q e. then-again (bytes-again stands 4 (le4 u) (le4 t) (λ o h. le4-again stands o (base + o) h refl)) (λ o w f. then-again script-again (λ _ _ _. then-again (skip-again 4)
+      then-again (bytes-again stands 32 (hashAt u) (hashAt t) (hash-again stands)) (λ _. on-then (skip-again 4 .onwards) (λ _. on-then (script-again .onwards) (λ _. on-then (skip-again 4 .onwards) (λ _. on-pure))))
+      (λ p q e. then-again (bytes-again stands 4 (le4 u) (le4 t) (λ o h. le4-again stands o (base + o) h refl)) (λ _. on-then (script-again .onwards) (λ _. on-then (skip-again 4 .onwards) (λ _. on-pure)))
+      (λ o w f. then-again script-again (λ _. on-then (skip-again 4 .onwards) (λ _. on-pure)) (λ _ _ _. then-again (skip-again 4) (λ _. on-pure)
       (λ _ _ _. pure-again (record { parent = p; output = o }) (record { parent = q; output = w }) (outpointOf u) (outpointOf t) (ap₂ (λ (x : List ℕ) (n : ℕ). record { parent = x; output = n }) e f)))))
 
   output-again : (taken : ℕ → Bool) → Equal (outputField taken)
   unfolding outputField
   output-again taken =
-      then-same (passing-again (number le8 8) (number le8 8) taken taken BAD-AMOUNT BAD-AMOUNT (number-again stands le8 8 (λ p h. le8-again stands p (base + p) h refl)) (λ x h. h))
-      (λ amount. then-again script-again (λ _ _ _. pure-again amount amount (λ x. x) (λ x. x) refl))
+      then-same (passing-again (number le8 8) (number le8 8) taken taken BAD-AMOUNT BAD-AMOUNT (number-again stands le8 8 (λ p h. le8-again stands p (base + p) h refl)) (λ x. refl))
+      (λ amount. then-again script-again (λ _. on-pure) (λ _ _ _. pure-again amount amount (λ x. x) (λ x. x) refl))
 
   spends-again : (n : ℕ) → Same (times inputField n) (times inputField n) (map (outpointOf u)) (map (outpointOf t))
   spends-again n = many-again {S = Unit {0}} (λ _. inputField) (λ _. inputField) (λ x _. x) (λ x _. x) (outpointOf u) (outpointOf t) (λ _. input-again) (λ _ _ _ _. refl) n tt
@@ -130,8 +132,8 @@ module _ {u t : List ℕ} {base : ℕ} (stands : StandsIn u t base) where
   list-again : {A C : Type 0} (list : ℕ → Reader (List A)) (c d : List A → C) → ((n : ℕ) → Same (list n) (list n) c d) → Same (listField list) (listField list) (λ l. c (l .items)) (λ l. d (l .items))
   unfolding listField someField
   list-again list c d f =
-      then-same (passing-again varint varint (λ n. leb 1 n) (λ n. leb 1 n) BAD-TX BAD-TX (varint-again stands) (λ x h. h))
-      (λ n. then-again here-again (λ p q _. then-again (f n)
+      then-same (passing-again varint varint (λ n. leb 1 n) (λ n. leb 1 n) BAD-TX BAD-TX (varint-again stands) (λ x. refl))
+      (λ n. then-again here-again (λ _. on-then (f n .onwards) (λ _. on-pure)) (λ p q _. then-again (f n) (λ _. on-pure)
       (λ l m e. pure-again (record { at = p; items = l }) (record { at = q; items = m }) (λ l. c (l .items)) (λ l. d (l .items)) e)))
 
   -- what its inputs spend, and the amounts of its outputs
@@ -144,14 +146,18 @@ module _ {u t : List ℕ} {base : ℕ} (stands : StandsIn u t base) where
   moves-again : (limited : Bool) → Same (fieldsBy limited) (fieldsBy limited) (movedOf u) (movedOf t)
   unfolding fieldsBy
   moves-again limited =
-      then-again (skip-again 4) (λ p q _. then-again (list-again (times inputField) (map (outpointOf u)) (map (outpointOf t)) spends-again) (λ i j e. then-again (list-again (outputsField limited) (map (λ x. x)) (map (λ x. x)) (outputs-again limited))
-      (λ o w f. then-again (skip-again 4) (λ _ _ _. then-again here-again
+      let inputs = list-again (times inputField) (map (outpointOf u)) (map (outpointOf t)) spends-again in
+      let outputs = list-again (outputsField limited) (map (λ x. x)) (map (λ x. x)) (outputs-again limited) in
+      then-again (skip-again 4) (λ _. on-then (inputs .onwards) (λ _. on-then (outputs .onwards) (λ _. on-then (skip-again 4 .onwards) (λ _. on-then on-here (λ _. on-pure)))))
+      (λ p q _. then-again inputs (λ _. on-then (outputs .onwards) (λ _. on-then (skip-again 4 .onwards) (λ _. on-then on-here (λ _. on-pure))))
+      (λ i j e. then-again outputs (λ _. on-then (skip-again 4 .onwards) (λ _. on-then on-here (λ _. on-pure)))
+      (λ o w f. then-again (skip-again 4) (λ _. on-then on-here (λ _. on-pure)) (λ _ _ _. then-again here-again (λ _. on-pure)
       (λ n m _. pure-again (record { start = p; end = n; inputsAt = i .at; inputs = i .items; outputsAt = o .at; outputs = o .items })
       (record { start = q; end = m; inputsAt = j .at; inputs = j .items; outputsAt = w .at; outputs = w .items }) (movedOf u) (movedOf t)
       (ap₂ (λ (x : List Outpoint) (y : List ℕ). (x, y)) e f))))))
 
   pub tx-again : (limited : Bool) → Same (txFieldBy limited) (txFieldBy limited) (txSaid u) (txSaid t)
-  tx-again limited = record { again = moved }
+  tx-again limited = record { again = moved; within = back; onwards = record { forth = λ at q b e. let x = tx-told t at e .forward in omega arith } }
     where
       -- its bytes are those from its start to its end
       run : (a b : Transaction) (at q : ℕ) → TxRead limited u at q a → TxRead limited t (base + at) (base + q) b → map (outpointOf u) (a .inputs) ≡ map (outpointOf t) (b .inputs) → a .outputs ≡ b .outputs → txSaid u a ≡ txSaid t b
@@ -168,17 +174,23 @@ module _ {u t : List ℕ} {base : ℕ} (stands : StandsIn u t base) where
           let y = tx-read limited t (base + at) (x .1) (λ z. tx-size limited u at e (omega arith)) in
           (x .0, y, run a (x .0) at q (tx-told u at e) (tx-told t (base + at) y) (ap (λ (z : Moved). z .0) (x .2)) (sym (map-id (a .outputs)) ∙ ap (λ (z : Moved). z .1) (x .2) ∙ map-id (x .0 .outputs)))
 
+      back : (at q : ℕ) (b : Transaction) → txFieldBy limited t (base + at) ≡ got b (base + q) → q ≤ length u → (a : Transaction) × (txFieldBy limited u at ≡ got a q) × (txSaid u a ≡ txSaid t b)
+      back at q b e low =
+          let x = moves-again limited .within at q b (tx-fields limited t (base + at) e .0) low in
+          let y = tx-read limited u at (x .1) (λ z. tx-size limited t (base + at) e (omega arith)) in
+          (x .0, y, run (x .0) b at q (tx-told u at y) (tx-told t (base + at) e) (ap (λ (z : Moved). z .0) (x .2)) (sym (map-id (x .0 .outputs)) ∙ ap (λ (z : Moved). z .1) (x .2) ∙ map-id (b .outputs)))
+
   -- ---- a bundle's transaction
 
   pub anchor-again : (bumps : ℕ) → Same (anchorField bumps) (anchorField bumps) (λ x. x) (λ x. x)
   unfolding anchorField bumpNumberField
   anchor-again bumps =
-      then-same (passing-again byte byte (λ b. leb b 1) (λ b. leb b 1) BAD-FLAG BAD-FLAG (byte-again stands) (λ x h. h))
+      then-same (passing-again byte byte (λ b. leb b 1) (λ b. leb b 1) BAD-FLAG BAD-FLAG (byte-again stands) (λ x. refl))
       (λ mark. pick-again (eqb mark 0) (pure-again Anchor.Unanchored Anchor.Unanchored (λ x. x) (λ x. x) refl)
-      (given-again Anchor.Bump Anchor.Bump (λ x. x) (λ x. x) (passing-again varint varint (λ n. ltb n bumps) (λ n. ltb n bumps) BAD-INDEX BAD-INDEX (varint-again stands) (λ x h. h)) (λ a b e. ap Anchor.Bump e)))
+      (given-again Anchor.Bump Anchor.Bump (λ x. x) (λ x. x) (passing-again varint varint (λ n. ltb n bumps) (λ n. ltb n bumps) BAD-INDEX BAD-INDEX (varint-again stands) (λ x. refl)) (λ a b e. ap Anchor.Bump e)))
 
   pub entry-again : (bumps : ℕ) → Same (entryField bumps) (entryField bumps) (entrySaid u) (entrySaid t)
   unfolding entryField
   entry-again bumps =
-      then-again (tx-again true) (λ x y e. then-same (anchor-again bumps)
+      then-again (tx-again true) (λ _. on-then (anchor-again bumps .onwards) (λ _. on-pure)) (λ x y e. then-same (anchor-again bumps)
       (λ a. pure-again (record { transaction = x; anchor = a }) (record { transaction = y; anchor = a }) (entrySaid u) (entrySaid t) (ap (λ (z : TxSaid). (z, a)) e)))
