@@ -1,24 +1,27 @@
 -- Laws of two levels in order, from the least offset up.
 use mathlib.Core.Path.{_≡_, refl, ap, sym, _∙_}
 use mathlib.Core.List.{List, [], _∷_}
-use mathlib.Core.Bool.{Bool, true, false}
+use mathlib.Core.Bool.{Bool, true, false, _&&_}
 use Prim.Native.Nat.{ℕ, suc, _+_, _<_, _≤_}
 use lib.ListN.{length, getD, drop, drop-of-length-le}
 use lib.Seq.{drop-cons}
-use lib.Dec.{eqb}
+use lib.Dec.{eqb, ltb}
 use native.Mathlib.Omega.{arith}
 use native.Mathlib.Numerals.{add-one}
-use borrow.Author.Tests.{eq-eqb, ne-eqb, eqb-true, eqb-false, lt-ltb, le-ltb}
+use borrow.Author.Tests.{eq-eqb, ne-eqb, eqb-true, eqb-false, lt-ltb, le-ltb, ltb-true, ltb-false}
+use Rattle.format.specs.declared.level.Kind.the-variants.{Copy}
 use Rattle.format.specs.declared.level.Layout.{Layout}
 use Rattle.format.specs.declared.level.Leaf.{Leaf}
-use Rattle.format.specs.Parse.{pick, got, bad}
+use Rattle.format.specs.Parse.{Parse, pick, otherwise, got, bad}
 use Rattle.path.specs.Loose.{looseLeaf}
 use Rattle.encoding.specs.BumpBytes.{Entry, copy, carriedOf}
 use Rattle.levels.specs.declared.level.Next.{Next}
 use Rattle.levels.specs.declared.level.Next.the-variants.{Offset, End}
+use Rattle.levels.specs.declared.level.Spot.{Spot}
+use Rattle.levels.specs.declared.level.Spot.the-variants.{Stands, Nothing}
 use Rattle.levels.specs.Standing.{stands, nothing, at}
 use Rattle.levels.specs.Places.{offsetAt, carriedAt, entries}
-use Rattle.levels.specs.Fronts.{nextOf, lesser, front, past}
+use Rattle.levels.specs.Fronts.{nextOf, lesser, front, past, standingOf, kindAt, hasOffset, spotOf, indexPast}
 use Rattle.levels.proofs.InOrder.{From, Under, InOrder, from-weaken, at-below}
 
 -- ---- what the code finds at the front
@@ -31,38 +34,83 @@ module _ (s l : List ℕ) (i : ℕ) where
   unfolding nextOf
   next-end h = rw (none-left h)
 
-  pub front-end : (o : ℕ) → length l ≤ i → front o (entries s (drop i l)) ≡ nothing
-  unfolding front
-  front-end o h = rw (none-left h)
+  module _ (o : ℕ) (h : length l ≤ i) where
+    pub spot-end : spotOf s l i o ≡ Nothing
+    unfolding spotOf hasOffset
+    spot-end = rw (le-ltb i (length l) h)
 
-  pub past-end : (o : ℕ) → length l ≤ i → entries s (drop i l) ≡ past o (entries s (drop i l))
-  unfolding past
-  past-end o h = rw (none-left h) refl
+    pub index-end : indexPast s l i o ≡ i
+    unfolding indexPast hasOffset
+    index-end = rw (le-ltb i (length l) h)
 
   module _ (h : i < length l) {a : ℕ} (e : a ≡ offsetAt s (getD l i 0)) where
     pub next-here : nextOf (entries s (drop i l)) ≡ Offset a
     unfolding nextOf
     next-here = rw (drop-cons l i 0 h, e)
 
-    pub front-other : (o : ℕ) → (a ≡ o → ⊥) → front o (entries s (drop i l)) ≡ nothing
-    unfolding front
-    front-other o f = rw (drop-cons l i 0 h, ← e, ne-eqb a o f)
+    module _ (o : ℕ) (f : a ≡ o → ⊥) where
+      pub spot-other : spotOf s l i o ≡ Nothing
+      unfolding spotOf hasOffset
+      spot-other = rw (lt-ltb i (length l) h, ← e, ne-eqb a o f)
 
-    pub front-stuck : (o : ℕ) {k q : ℕ} → a ≡ o → looseLeaf Layout.Bump s (getD l i 0) ≡ bad k q → front o (entries s (drop i l)) ≡ stands copy
-    unfolding front carriedAt
-    front-stuck o f g = rw (drop-cons l i 0 h, ← e, eq-eqb a o f, g)
+      pub index-other : indexPast s l i o ≡ i
+      unfolding indexPast hasOffset
+      index-other = rw (lt-ltb i (length l) h, ← e, ne-eqb a o f)
 
-    pub front-here : (o : ℕ) {leaf : Leaf} {q : ℕ} → a ≡ o → looseLeaf Layout.Bump s (getD l i 0) ≡ got leaf q → front o (entries s (drop i l)) ≡ stands (carriedOf s (leaf .kind))
-    unfolding front carriedAt
-    front-here o f g = rw (drop-cons l i 0 h, ← e, eq-eqb a o f, g)
+    module _ (o : ℕ) (f : a ≡ o) where
+      pub spot-stuck : {k q : ℕ} → looseLeaf Layout.Bump s (getD l i 0) ≡ bad k q → spotOf s l i o ≡ Stands Copy
+      unfolding spotOf hasOffset kindAt
+      spot-stuck g = rw (lt-ltb i (length l) h, ← e, eq-eqb a o f, g)
 
-    pub past-other : (o : ℕ) → (a ≡ o → ⊥) → entries s (drop i l) ≡ past o (entries s (drop i l))
-    unfolding past
-    past-other o f = rw (drop-cons l i 0 h, ← e, ne-eqb a o f) refl
+      pub spot-here : {leaf : Leaf} {q : ℕ} → looseLeaf Layout.Bump s (getD l i 0) ≡ got leaf q → spotOf s l i o ≡ Stands (leaf .kind)
+      unfolding spotOf hasOffset kindAt
+      spot-here g = rw (lt-ltb i (length l) h, ← e, eq-eqb a o f, g)
 
-    pub past-here : (o : ℕ) → a ≡ o → entries s (drop (i + 1) l) ≡ past o (entries s (drop i l))
-    unfolding past
-    past-here o f = rw (drop-cons l i 0 h, ← e, eq-eqb a o f, add-one) refl
+      pub index-here : indexPast s l i o ≡ i + 1
+      unfolding indexPast hasOffset
+      index-here = rw (lt-ltb i (length l) h, ← e, eq-eqb a o f)
+
+  -- ---- what it means
+
+  kind-carried : (p : ℕ) → carriedOf s (kindAt s p) ≡ carriedAt s p
+  unfolding kindAt carriedAt carriedOf
+  kind-carried p = go (looseLeaf Layout.Bump s p)
+    where
+      go : (x : Parse Leaf) → carriedOf s (otherwise x Copy (λ leaf _. leaf .kind)) ≡ otherwise x copy (λ leaf _. carriedOf s (leaf .kind))
+      go (got leaf q) = refl
+      go (bad k q) = refl
+
+  spot-stands : (o : ℕ) → standingOf s (spotOf s l i o) ≡ front o (entries s (drop i l))
+  unfolding standingOf spotOf hasOffset front
+  spot-stands o = go (ltb i (length l)) refl
+    where
+      here : (b : Bool) → standingOf s (pick b (Stands (kindAt s (getD l i 0))) Nothing) ≡ pick b (stands (carriedAt s (getD l i 0))) nothing
+      here true = ap stands (kind-carried (getD l i 0))
+      here false = refl
+
+      go : (b : Bool) → ltb i (length l) ≡ b → standingOf s (pick (b && eqb (offsetAt s (getD l i 0)) o) (Stands (kindAt s (getD l i 0))) Nothing) ≡ front o (entries s (drop i l))
+      go false e = rw (drop-of-length-le l {i = i} (ltb-false i (length l) e)) refl
+      go true e = rw (drop-cons l i 0 (ltb-true i (length l) e)) (here (eqb (offsetAt s (getD l i 0)) o))
+
+  -- the code's answer is what stands at the front
+  pub front-told : (o : ℕ) {r : Spot} → r ≡ spotOf s l i o → standingOf s r ≡ front o (entries s (drop i l))
+  front-told o e = ap (standingOf s) e ∙ spot-stands o
+
+  index-past : (o : ℕ) → entries s (drop (indexPast s l i o) l) ≡ past o (entries s (drop i l))
+  unfolding past indexPast hasOffset
+  index-past o = go (ltb i (length l)) refl
+    where
+      here : i < length l → (b : Bool) → entries s (drop (pick b (i + 1) i) l) ≡ pick b (entries s (drop (suc i) l)) (entries s (getD l i 0 ∷ drop (suc i) l))
+      here h true = ap (λ (n : ℕ). entries s (drop n l)) (add-one i)
+      here h false = ap (entries s) (drop-cons l i 0 h)
+
+      go : (b : Bool) → ltb i (length l) ≡ b → entries s (drop (pick (b && eqb (offsetAt s (getD l i 0)) o) (i + 1) i) l) ≡ past o (entries s (drop i l))
+      go false e = let z = none-left (ltb-false i (length l) e) in z ∙ ap (past o) (sym z)
+      go true e = let h = ltb-true i (length l) e in here h (eqb (offsetAt s (getD l i 0)) o) ∙ ap (λ (v : List ℕ). past o (entries s v)) (sym (drop-cons l i 0 h))
+
+  -- at the code's index are those behind the offset
+  pub past-told : (o : ℕ) {r : ℕ} → r ≡ indexPast s l i o → entries s (drop r l) ≡ past o (entries s (drop i l))
+  past-told o e = ap (λ (n : ℕ). entries s (drop n l)) e ∙ index-past o
 
 -- the least of the two offsets, by the parts that code works out
 pub least : (x y : List Entry) {a b c d : Next} → a ≡ nextOf x → b ≡ nextOf y → c ≡ lesser a b → c ≡ d → lesser (nextOf x) (nextOf y) ≡ d

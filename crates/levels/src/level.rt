@@ -7,7 +7,7 @@ use path::LeafAnswer;
 ghost use mathlib.Core.Path.{_≡_};
 ghost use lib.ListN.{drop};
 ghost use Rattle.levels.specs.Places.{entries};
-ghost use Rattle.levels.specs.Fronts.{nextOf, lesser, front, past, flagsOf, placeOf, standingOf};
+ghost use Rattle.levels.specs.Fronts.{nextOf, lesser, flagsOf, placeOf, spotOf, indexPast};
 
 // The offset of the next leaf.
 pub enum Next {
@@ -77,7 +77,7 @@ pub fn lesser(a: Next, b: Next) -> Next
 
 // What stands at the offset, if the leaf at the index has it.
 pub fn front(s: &[u8], places: &[usize], i: usize, offset: u64) -> Spot
-    ensures { λ r. ⌜ standingOf (now (s .entry)) r ≡ front offset (entries (now (s .entry)) (drop i (now (places .entry)))) ⌝ }
+    ensures { λ r. ⌜ r ≡ spotOf (now (s .entry)) (now (places .entry)) i offset ⌝ }
 {
     if places.len() <= i {
         return Spot::Nothing;
@@ -96,7 +96,7 @@ pub fn front(s: &[u8], places: &[usize], i: usize, offset: u64) -> Spot
 
 // The index behind the offset.
 pub fn past(s: &[u8], places: &[usize], i: usize, offset: u64) -> usize
-    ensures { λ r. ⌜ entries (now (s .entry)) (drop r (now (places .entry))) ≡ past offset (entries (now (s .entry)) (drop i (now (places .entry)))) ⌝ }
+    ensures { λ r. ⌜ r ≡ indexPast (now (s .entry)) (now (places .entry)) i offset ⌝ }
 {
     if places.len() <= i {
         return i;

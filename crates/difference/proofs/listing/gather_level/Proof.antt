@@ -1,5 +1,6 @@
 use Rattle.difference.specs.Merge.{gathering}
 use Rattle.difference.specs.MergeLaws.{level-above, level-here}
+use Rattle.levels.proofs.OrderedLaws.{level-told}
 use native.Mathlib.Omega.{arith}
 use mathlib.Core.Path.{sym, ap₂, _∙_}
 use borrow.Author.Needs.{needs}
@@ -19,7 +20,7 @@ same-length-2 : tie.Need-same-length-2
 same-length-2 c = search needs
 
 returns-2 : tie.Need-returns-2
-returns-2 c = let g = c .before .before .before .before .order-level .ensures in (ap₂ gathering (g .0) (g .1) ∙ sym (level-here _ _ _ _ _ (c .before .before .before .before .before .before .before .if1 .left)), g .2)
+returns-2 c = let g = level-told _ _ _ _ _ (c .before .before .before .before .order-level .ensures) (omega arith) in (ap₂ gathering (g .0) (g .1) ∙ sym (level-here _ _ _ _ _ (c .before .before .before .before .before .before .before .if1 .left)), g .2)
 
 pub gather-level-spec : {M : Type 1} → statement M
 gather-level-spec =

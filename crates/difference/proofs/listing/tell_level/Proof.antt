@@ -1,6 +1,6 @@
 use borrow.Author.Needs.{needs}
 use Rattle.difference.specs.MergeLaws.{told-there, merge-stop, merge-on, merge-end}
-use Rattle.levels.proofs.FrontsLaws.{least}
+use Rattle.levels.proofs.FrontsLaws.{least, front-told, past-told}
 use Rattle.difference.specs.Merge.{merged}
 use Rattle.levels.specs.Places.{entries}
 use Rattle.difference.specs.Filling.{filling, putAll}
@@ -75,9 +75,9 @@ loop-again c =
     let i = c .before .before .before .before .before .before .before .before .before .before .before .before .before .before .before .before .loop .inv in
     let below = c .before .before .before .before .before .before .before .before .before .before .before .before .before .before .before .loop-test .taken in
     let next = least _ _ (c .before .before .before .before .before .before .before .before .before .before .before .before .before .before .next-offset .ensures) (c .before .before .before .before .before .before .before .before .before .before .before .before .before .next-offset2 .ensures) (c .before .before .before .before .before .before .before .before .before .before .before .before .lesser .ensures) (c .before .before .before .before .before .before .before .before .before .before .next .given .1) in
-    let what = told-there _ _ _ (c .before .before .before .before .before .before .before .before .front .ensures) (c .before .before .before .before .before .before .before .front2 .ensures) (c .before .before .before .before .before .before .told .ensures) in
+    let what = told-there _ _ _ (front-told _ _ _ _ (c .before .before .before .before .before .before .before .before .front .ensures)) (front-told _ _ _ _ (c .before .before .before .before .before .before .before .front2 .ensures)) (c .before .before .before .before .before .before .told .ensures) in
     let put = c .before .before .before .before .put-place in
-    (i .0 ∙ merge-on _ _ _ _ _ _ _ below next what (put .ensures) (c .before .past .ensures) (c .past2 .ensures), omega (arith, below), put .kept .0 ∙ i .2)
+    (i .0 ∙ merge-on _ _ _ _ _ _ _ below next what (put .ensures) (past-told _ _ _ _ (c .before .past .ensures)) (past-told _ _ _ _ (c .past2 .ensures)), omega (arith, below), put .kept .0 ∙ i .2)
 
 same-length-2 : tie.Need-same-length-2 Inv-loop μ-loop
 same-length-2 c = c .before .loop .inv .2

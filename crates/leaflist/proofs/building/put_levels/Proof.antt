@@ -5,6 +5,7 @@ use Prim.Native.Nat.{_-_, _≤_, min}
 use Rattle.levels.specs.Ordered.{holding}
 use Rattle.leaflist.specs.Rows.{filling, putRows, listedIn}
 use Rattle.leaflist.proofs.RowsLaws.{levels-on, levels-end}
+use Rattle.levels.proofs.OrderedLaws.{level-told}
 use mathlib.Core.Path.{_≡_, refl, sym, ap₂, _∙_}
 use native.Mathlib.Omega.{arith}
 use borrow.Author.Needs.{needs}
@@ -26,14 +27,14 @@ order-level-requires c κs = search needs
 slice-reshare-prefix-put-rows : tie.Need-slice-reshare-prefix-put-rows Inv-loop μ-loop
 slice-reshare-prefix-put-rows c =
     let g = c .before .before .before .before .order-level in
-    let l = g .ensures .2 in
+    let l = level-told _ _ _ _ _ (g .ensures) (omega arith) .2 in
     let m = g .kept .1 .1 .0 in
     omega (arith, l, m)
 
 slice-aggregate-put-rows : tie.Need-slice-aggregate-put-rows Inv-loop μ-loop
 slice-aggregate-put-rows c =
     let g = c .before .before .before .before .before .order-level in
-    let l = g .ensures .2 in
+    let l = level-told _ _ _ _ _ (g .ensures) (omega arith) .2 in
     let m = g .kept .1 .1 .0 in
     sym (length-take-le _ _ (omega (arith, l, m)))
 
@@ -51,8 +52,9 @@ loop-again c =
     let i = c .before .before .before .before .before .before .before .before .before .before .before .before .before .before .loop .inv in
     let h = c .before .before .before .before .before .before .before .before .before .before .before .before .before .loop-test .taken in
     let g = c .before .before .before .before .before .before .before .before .before .before .order-level in
+    let x = level-told _ _ _ _ _ (g .ensures) (omega arith) in
     let p = c .before .before .before .put-rows in (
-      i .0 ∙ levels-on _ _ _ _ _ _ h (ap₂ min (i .3) (i .4)) (g .ensures .0) (g .ensures .1) (p .ensures),
+      i .0 ∙ levels-on _ _ _ _ _ _ h (ap₂ min (i .3) (i .4)) (x .0) (x .1) (p .ensures),
       omega (arith, h),
       p .kept .1 .1 .1 .0 ∙ i .2,
       g .kept .1 .1 .0 ∙ i .3,

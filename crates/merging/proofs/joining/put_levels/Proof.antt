@@ -8,6 +8,7 @@ use Rattle.encoding.specs.Spells.{spells}
 use Rattle.merging.specs.Merging.{Spot}
 use Rattle.merging.specs.Levels.{walkLevels, levelText}
 use Rattle.merging.proofs.LevelsLaws.{levels-end, levels-on, write-level, write-levels-end}
+use Rattle.levels.proofs.OrderedLaws.{level-told}
 use mathlib.Core.Path.{_≡_, refl, sym, ap, ap₂, _∙_}
 use native.Mathlib.Omega.{arith}
 use borrow.Author.Needs.{needs}
@@ -34,28 +35,28 @@ order-level-requires-2 c κs = search needs
 slice-reshare-prefix-put-level : tie.Need-slice-reshare-prefix-put-level Inv-loop μ-loop
 slice-reshare-prefix-put-level c =
     let g = c .before .before .before .before .before .before .before .before .before .before .before .order-level in
-    let l = g .ensures .2 in
+    let l = level-told _ _ _ _ _ (g .ensures) (omega arith) .2 in
     let m = g .kept .1 .1 .0 in
     omega (arith, l, m)
 
 slice-aggregate-put-level : tie.Need-slice-aggregate-put-level Inv-loop μ-loop
 slice-aggregate-put-level c =
     let g = c .before .before .before .before .before .before .before .before .before .before .before .before .order-level in
-    let l = g .ensures .2 in
+    let l = level-told _ _ _ _ _ (g .ensures) (omega arith) .2 in
     let m = g .kept .1 .1 .0 in
     sym (length-take-le _ _ (omega (arith, l, m)))
 
 slice-reshare-prefix-put-level-2 : tie.Need-slice-reshare-prefix-put-level-2 Inv-loop μ-loop
 slice-reshare-prefix-put-level-2 c =
     let g = c .before .before .before .before .before .order-level2 in
-    let l = g .ensures .2 in
+    let l = level-told _ _ _ _ _ (g .ensures) (omega arith) .2 in
     let m = g .kept .1 .1 .0 in
     omega (arith, l, m)
 
 slice-aggregate-put-level-2 : tie.Need-slice-aggregate-put-level-2 Inv-loop μ-loop
 slice-aggregate-put-level-2 c =
     let g = c .before .before .before .before .before .before .order-level2 in
-    let l = g .ensures .2 in
+    let l = level-told _ _ _ _ _ (g .ensures) (omega arith) .2 in
     let m = g .kept .1 .1 .0 in
     sym (length-take-le _ _ (omega (arith, l, m)))
 
@@ -80,8 +81,10 @@ loop-again c =
     let h = c .before .before .before .before .before .before .before .before .before .before .before .before .before .before .before .before .before .before .before .before .before .before .loop-test .taken in
     let g = c .before .before .before .before .before .before .before .before .before .before .before .before .before .before .before .before .before .before .before .order-level in
     let k = c .before .before .before .before .before .before .before .before .before .before .before .before .order-level2 in
+    let x = level-told _ _ _ _ _ (g .ensures) (omega arith) in
+    let y = level-told _ _ _ _ _ (k .ensures) (omega arith) in
     let w = c .before .before .before .before .put-level in
-    let on = levels-on _ _ _ _ _ _ h (ap₂ min (i .3) (i .5)) (ap₂ min (i .4) (g .kept .1 .1 .1 .0 ∙ i .5)) (g .ensures .0) (g .ensures .1) (k .ensures .0) (k .ensures .1) in (
+    let on = levels-on _ _ _ _ _ _ h (ap₂ min (i .3) (i .5)) (ap₂ min (i .4) (g .kept .1 .1 .1 .0 ∙ i .5)) (x .0) (x .1) (y .0) (y .1) in (
       i .0 ∙ ap (λ (v : List (List Spot)). writeOn (buffer (ll .out) (ll .at)) (spells levelText v)) on ∙ write-level _ _ _ (w .ensures),
       omega (arith, h),
       w .kept .1 .1 .1 .1 .0 ∙ i .2,

@@ -4,6 +4,7 @@ use native.Mathlib.Nat.{sub-zero}
 use Prim.Native.Nat.{_-_, _*_, _≤_, min}
 use Rattle.merging.specs.Levels.{walkLevels}
 use Rattle.merging.proofs.LevelsLaws.{Summing, sum-start, sum-on, sum-end, levels-end, levels-on}
+use Rattle.levels.proofs.OrderedLaws.{level-told}
 use mathlib.Core.Path.{_≡_, sym, ap₂, _∙_}
 use native.Mathlib.Omega.{arith}
 use borrow.Author.Needs.{needs}
@@ -30,28 +31,28 @@ order-level-requires-2 c κs = search needs
 slice-reshare-prefix-tally-level : tie.Need-slice-reshare-prefix-tally-level Inv-loop μ-loop
 slice-reshare-prefix-tally-level c =
     let g = c .before .before .before .before .before .before .before .before .before .before .before .order-level in
-    let l = g .ensures .2 in
+    let l = level-told _ _ _ _ _ (g .ensures) (omega arith) .2 in
     let m = g .kept .1 .1 .0 in
     omega (arith, l, m)
 
 slice-aggregate-tally-level : tie.Need-slice-aggregate-tally-level Inv-loop μ-loop
 slice-aggregate-tally-level c =
     let g = c .before .before .before .before .before .before .before .before .before .before .before .before .order-level in
-    let l = g .ensures .2 in
+    let l = level-told _ _ _ _ _ (g .ensures) (omega arith) .2 in
     let m = g .kept .1 .1 .0 in
     sym (length-take-le _ _ (omega (arith, l, m)))
 
 slice-reshare-prefix-tally-level-2 : tie.Need-slice-reshare-prefix-tally-level-2 Inv-loop μ-loop
 slice-reshare-prefix-tally-level-2 c =
     let g = c .before .before .before .before .before .order-level2 in
-    let l = g .ensures .2 in
+    let l = level-told _ _ _ _ _ (g .ensures) (omega arith) .2 in
     let m = g .kept .1 .1 .0 in
     omega (arith, l, m)
 
 slice-aggregate-tally-level-2 : tie.Need-slice-aggregate-tally-level-2 Inv-loop μ-loop
 slice-aggregate-tally-level-2 c =
     let g = c .before .before .before .before .before .before .order-level2 in
-    let l = g .ensures .2 in
+    let l = level-told _ _ _ _ _ (g .ensures) (omega arith) .2 in
     let m = g .kept .1 .1 .0 in
     sym (length-take-le _ _ (omega (arith, l, m)))
 
@@ -82,9 +83,11 @@ loop-again c =
     let h = c .before .before .before .before .before .before .before .before .before .before .before .before .before .before .before .before .before .before .before .before .loop-test .taken in
     let g = c .before .before .before .before .before .before .before .before .before .before .before .before .before .before .before .before .before .order-level in
     let k = c .before .before .before .before .before .before .before .before .before .before .order-level2 in
+    let x = level-told _ _ _ _ _ (g .ensures) (omega arith) in
+    let y = level-told _ _ _ _ _ (k .ensures) (omega arith) in
     let l = c .before .before .before .tally-level .ensures in
     let a = c .before .before .add-level .ensures in
-    let on = levels-on _ _ _ _ _ _ h (ap₂ min (i .3) (i .5)) (ap₂ min (i .4) (g .kept .1 .1 .1 .0 ∙ i .5)) (g .ensures .0) (g .ensures .1) (k .ensures .0) (k .ensures .1) in (
+    let on = levels-on _ _ _ _ _ _ h (ap₂ min (i .3) (i .5)) (ap₂ min (i .4) (g .kept .1 .1 .1 .0 ∙ i .5)) (x .0) (x .1) (y .0) (y .1) in (
       sum-on _ _ _ _ _ _ (i .0) on (a .0 _ (l .0)),
       omega (arith, h),
       i .2,

@@ -3,7 +3,7 @@ use Prim.Native.Nat.{_-_, _≤_}
 use mathlib.Core.Path.{ap₂, _≡_, refl, sym, ap, _∙_}
 use mathlib.Core.List.{List}
 use Rattle.merging.specs.Merging as M
-use Rattle.levels.proofs.FrontsLaws.{least}
+use Rattle.levels.proofs.FrontsLaws.{least, front-told, past-told}
 use Rattle.levels.specs.Fronts.{standingOf}
 use Rattle.levels.specs.Places.{entries}
 use Rattle.levels.specs.Standing.{Standing, nothing}
@@ -95,7 +95,7 @@ loop-again c =
     let next = least _ _ (c .before .before .before .before .before .before .before .before .before .before .before .before .before .before .before .before .next-offset .ensures) (c .before .before .before .before .before .before .before .before .before .before .before .before .before .before .before .next-offset2 .ensures) (c .before .before .before .before .before .before .before .before .before .before .before .before .before .before .lesser .ensures) (c .before .before .before .before .before .before .before .before .before .before .before .before .next .given .1) in
     let h = c .before .before .before .before .before .before .before .before .before .before .before .before .before .before .before .before .before .loop-test .taken in
     let i = ll .inv in
-    let on = spots-on _ _ _ _ _ _ _ h next (c .before .before .before .before .before .before .before .before .before .before .front .ensures) (c .before .before .before .before .before .before .before .before .before .front2 .ensures) kept (c .before .past .ensures) (c .past2 .ensures) in (
+    let on = spots-on _ _ _ _ _ _ _ h next (front-told _ _ _ _ (c .before .before .before .before .before .before .before .before .before .before .front .ensures)) (front-told _ _ _ _ (c .before .before .before .before .before .before .before .before .before .front2 .ensures)) kept (past-told _ _ _ _ (c .before .past .ensures)) (past-told _ _ _ _ (c .past2 .ensures)) in (
       i .0 ∙ ap (λ (l : List M.Spot). writeOn (buffer (ll .out) (ll .at)) (spells entryBytes (keptOf l))) on ∙ write-spot _ _ _ _ (c .before .before .before .before .put-kept .ensures),
       omega (arith, h),
       c .before .before .before .before .put-kept .kept .1 .1 .1 .1 .0 ∙ i .2,

@@ -2,7 +2,7 @@ use lib.ListN.{drop}
 use Prim.Native.Nat.{_-_, _*_, _≤_}
 use mathlib.Core.Path.{ap₂, ap, _∙_}
 use Rattle.merging.specs.Merging as M
-use Rattle.levels.proofs.FrontsLaws.{least}
+use Rattle.levels.proofs.FrontsLaws.{least, front-told, past-told}
 use Rattle.levels.specs.Fronts.{standingOf}
 use Rattle.levels.specs.Places.{entries}
 use Rattle.levels.specs.Standing.{Standing, nothing}
@@ -110,7 +110,7 @@ loop-again c =
     let h = c .before .before .before .before .before .before .before .before .before .before .before .before .before .before .before .before .before .loop-test .taken in
     let i = ll .inv in
     let k = c .before .before .before .before .kept-size .ensures in
-    let on = spots-on _ _ _ _ _ _ _ h next (c .before .before .before .before .before .before .before .before .before .before .front .ensures) (c .before .before .before .before .before .before .before .before .before .front2 .ensures) kept (c .before .past .ensures) (c .past2 .ensures) in (
+    let on = spots-on _ _ _ _ _ _ _ h next (front-told _ _ _ _ (c .before .before .before .before .before .before .before .before .before .before .front .ensures)) (front-told _ _ _ _ (c .before .before .before .before .before .before .before .before .before .front2 .ensures)) kept (past-told _ _ _ _ (c .before .past .ensures)) (past-told _ _ _ _ (c .past2 .ensures)) in (
       tally-on _ _ _ _ _ _ (i .0) on (k .0 (a .s .now) (a .t .now)) (c .before .before .clashes-with .ensures (a .s .now) (a .t .now)),
       omega (arith, h),
       omega (arith, i .2),
