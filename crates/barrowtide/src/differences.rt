@@ -1,16 +1,15 @@
 // Two BUMPs side by side.
 use super::blame::blame_of;
 use difference::Listed;
-use difference::Weighed;
 ghost use mathlib.Core.Path.{_≡_};
 ghost use mathlib.Core.List.{List};
 ghost use lib.ListN.{length};
 ghost use Rattle.spv.specs.Result.{Result};
 ghost use Rattle.difference.specs.Differences.{Difference};
 ghost use Rattle.difference.specs.Listing.{listing, listedOf, wordsIn, roomIn};
-ghost use Rattle.difference.specs.Shorter.{weighing, choiceOf, handed};
+ghost use Rattle.difference.specs.Shorter.{weighing, handed};
 ghost use Rattle.barrowtide.specs.Interface as I;
-ghost use Rattle.barrowtide.specs.Choices.{whichOf};
+ghost use Rattle.barrowtide.specs.Choices.{whichOf, whichBy};
 
 // The number of an answer; what a refusal blames, or how many entries there are, is written.
 fn tell(answer: Listed, blame: &mut [u64; 3], entries: &mut u64) -> u32
@@ -49,44 +48,23 @@ pub extern "C" fn barrowtide_differences(
     tell(answer, blame, entries)
 }
 
-// The number of a weighing; what a refusal blames is written.
-fn weighed_number(weighed: Weighed, blame: &mut [u64; 3]) -> u32
-    ensures { λ r. ⌜ (r ≡ I.refusal (choiceOf weighed)) × (now (blame .exit) ≡ I.blame (choiceOf weighed) (now (blame .entry))) ⌝ }
+// Which of two is handed back, by the part's length and the first one's: a refusal hands back nothing, and the second is handed back where it is shorter.
+fn which(part: usize, first: usize) -> u64
+    ensures { λ r. ⌜ r ≡ whichBy part first ⌝ }
 {
-    match weighed {
-        Weighed::First => 0,
-        Weighed::Second => 0,
-        Weighed::Refused(rejection) => {
-            *blame = blame_of(rejection);
-            rejection.number as u32
-        }
+    if part == 0 {
+        return 0;
     }
-}
-
-fn which(weighed: Weighed) -> u64
-    ensures { λ r. ⌜ r ≡ whichOf (choiceOf weighed) ⌝ }
-{
-    match weighed {
-        Weighed::First => 0,
-        Weighed::Second => 1,
-        Weighed::Refused(_) => 0,
+    if part == first {
+        return 0;
     }
-}
-
-fn part_length(weighed: Weighed, first: &[u8], second: &[u8]) -> u64
-    ensures { λ r. ⌜ r ≡ length (handed (choiceOf weighed) (first .entry) (second .entry) .1) ⌝ }
-{
-    match weighed {
-        Weighed::First => first.len() as u64,
-        Weighed::Second => second.len() as u64,
-        Weighed::Refused(_) => 0,
-    }
+    1
 }
 
 #[no_mangle]
-pub extern "C" fn barrowtide_shorter(
-    first: &[u8],
-    second: &[u8],
+pub extern "C" fn barrowtide_shorter<'a>(
+    first: &'a [u8],
+    second: &'a [u8],
     id: &[u8; 32],
     blame: &mut [u64; 3],
     chosen: &mut u64,
@@ -98,8 +76,14 @@ pub extern "C" fn barrowtide_shorter(
         × (now (chosen .exit) ≡ whichOf v)
         × (now (part .exit) ≡ length (handed v (first .entry) (second .entry) .1))) ⌝ }
 {
-    let weighed = difference::weigh(first, second, *id);
-    *chosen = which(weighed);
-    *part = part_length(weighed, first, second);
-    weighed_number(weighed, blame)
+    let mut why = [0u64; 4];
+    let handed = difference::shorter(first, second, *id, &mut why);
+    let size = handed.len();
+    *chosen = which(size, first.len());
+    *part = size as u64;
+    if size != 0 {
+        return 0;
+    }
+    *blame = [why[1], why[2], why[3]];
+    why[0] as u32
 }

@@ -1,6 +1,6 @@
 -- The shorter of two BUMPs that prove an id to one root (02, Item 7, its second call).
 use Prim.Native.Nat.{ℕ}
-use mathlib.Core.List.{List, []}
+use mathlib.Core.List.{List, [], _∷_}
 use lib.ListN.{length}
 use lib.Dec.{leb}
 use denote.Ref.{RefT}
@@ -48,3 +48,8 @@ unfoldable pub handed : Result Choice → RefT (List ℕ) → RefT (List ℕ) �
 handed (accepted first) a b = part a
 handed (accepted second) a b = part b
 handed (refused why) a b = (a .ptr, [])
+
+-- a refusal in four numbers, as in memory that is lent for it: its number, what it carries, the layer and the sibling's position there; 0 where nothing is refused
+unfoldable pub whyOf : Result Choice → List ℕ
+whyOf (accepted x) = 0 ∷ 0 ∷ 0 ∷ 0 ∷ []
+whyOf (refused why) = why .number ∷ why .carried ∷ why .layer ∷ why .sibling ∷ []

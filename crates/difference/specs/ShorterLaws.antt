@@ -1,22 +1,25 @@
 -- Laws of the weighing, one for each answer.
 use Prim.Native.Nat.{ℕ, _≤_, _<_}
 use mathlib.Core.Path.{_≡_, refl, ap, sym, _∙_}
-use mathlib.Core.List.{List}
+use mathlib.Core.List.{List, [], _∷_}
 use mathlib.Core.Bool.{Bool, true, false}
 use lib.ListN.{length}
-use borrow.Author.Tests.{le-leb, lt-leb}
+use lib.Dec.{leb}
+use borrow.Author.Tests.{le-leb, lt-leb, leb-false}
 use native.Mathlib.Omega.{arith}
 use Rattle.format.specs.Bytes.{same}
-use Rattle.format.specs.Parse.{pick}
+use Rattle.format.specs.Parse.{pick, whole}
+use Rattle.format.specs.Field.{byte, varint}
+use Rattle.format.specs.Bump.{blockField, bumpField}
 use Rattle.format.specs.Refusals.{UNLIKE}
-use Rattle.spv.specs.Result.{Result, accepted, refused, carrying}
-use Rattle.spv.specs.Compare.{Proof, prove}
+use Rattle.spv.specs.Result.{Result, accepted, refused, carrying, follow}
+use Rattle.spv.specs.Compare.{Proof, proveBy, prove}
 use Rattle.spv.specs.Readings.{bumpReading}
 use Rattle.spv.specs.Shapes.{provedOf, acceptedOf}
 use Rattle.spv.specs.declared.prove.Outcome.the-variants.{Accepted, Refused}
 use Rattle.spv.specs.declared.prove.Proved.{Proved}
 use Rattle.spv.specs.declared.rejection.Rejection.{Rejection}
-use Rattle.difference.specs.Shorter.{first, second, shorterOf, settled, weighing}
+use Rattle.difference.specs.Shorter.{Choice, first, second, shorterOf, settled, weighing}
 
 -- what a proof's answer says of its result
 module _ (r : Proved) where
@@ -65,3 +68,39 @@ module _ (a b : List ℕ) where
   pub takes-second : length b < length a → shorterOf a b ≡ second
   unfolding shorterOf
   takes-second h = rw (lt-leb (length a) (length b) h)
+
+-- ---- what is handed back tells which it is
+
+-- nothing is proved by an empty input
+proved-some : (a id : List ℕ) {p : Proof} → prove (bumpReading a id) ≡ accepted p → 0 < length a
+unfolding proveBy bumpReading whole bumpField blockField varint byte
+proved-some [] id e = let z : _≡_ {A = ℕ} 0 1 = cc in absurd (omega arith)
+proved-some (x ∷ a) id e = omega arith
+
+module _ (a b : List ℕ) where
+  -- neither that is handed back is empty, and the second is the shorter
+  pub data Weighs (v : Result Choice) : Type 0 where
+    the-first : v ≡ accepted first → 0 < length a → Weighs v
+    the-second : v ≡ accepted second → 0 < length b → length b < length a → Weighs v
+    neither : (why : Rejection) → v ≡ refused why → Weighs v
+
+  by-length : 0 < length a → 0 < length b → Weighs (accepted (shorterOf a b))
+  unfolding shorterOf
+  by-length h k = go (leb (length a) (length b)) refl
+    where
+      go : (t : Bool) → leb (length a) (length b) ≡ t → Weighs (accepted (pick t first second))
+      go true e = the-first refl h
+      go false e = the-second refl k (leb-false (length a) (length b) e)
+
+  by-roots : (t : Bool) → 0 < length a → 0 < length b → Weighs (pick t (accepted (shorterOf a b)) (refused (carrying UNLIKE 0)))
+  by-roots true h k = by-length h k
+  by-roots false h k = neither (carrying UNLIKE 0) refl
+
+  pub weighs : (id : List ℕ) → Weighs (weighing a b id)
+  unfolding weighing settled
+  weighs id = go (prove (bumpReading a id)) refl (prove (bumpReading b id)) refl
+    where
+      go : (p : Result Proof) → prove (bumpReading a id) ≡ p → (q : Result Proof) → prove (bumpReading b id) ≡ q → Weighs (follow p (λ x. follow q (λ y. settled a b x y)))
+      go (refused x) e q f = neither x refl
+      go (accepted x) e (refused y) f = neither y refl
+      go (accepted x) e (accepted y) f = by-roots (same (x .root) (y .root)) (proved-some a id e) (proved-some b id f)

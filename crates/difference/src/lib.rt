@@ -4,6 +4,4 @@ mod weighing;
 
 pub use listing::Listed;
 pub use listing::list_differences;
-pub use weighing::Weighed;
 pub use weighing::shorter;
-pub use weighing::weigh;

@@ -4,9 +4,11 @@ use spv::Outcome;
 use spv::Rejection;
 ghost use mathlib.Core.Path.{_≡_};
 ghost use Rattle.spv.specs.Result.{accepted};
-ghost use Rattle.difference.specs.Shorter.{weighing, choiceOf, handed, part, shorterOf};
+ghost use Prim.Native.Nat.{_≤_};
+ghost use lib.ListN.{getD};
+ghost use Rattle.difference.specs.Shorter.{weighing, choiceOf, handed, part, shorterOf, whyOf};
 
-pub enum Weighed {
+enum Weighed {
     First,
     Second,
     Refused(Rejection),
@@ -22,7 +24,7 @@ fn shorter_of(first: &[u8], second: &[u8]) -> Weighed
 }
 
 // Which of two BUMPs is the shorter, where both prove the id to one root.
-pub fn weigh(first: &[u8], second: &[u8], id: [u8; 32]) -> Weighed
+fn weigh(first: &[u8], second: &[u8], id: [u8; 32]) -> Weighed
     ensures { λ r. ⌜ choiceOf r ≡ weighing (now (first .entry)) (now (second .entry)) id ⌝ }
 {
     let p = spv::prove_bump(first, id);
@@ -64,10 +66,30 @@ fn part_of<'a>(weighed: Weighed, first: &'a [u8], second: &'a [u8]) -> &'a [u8]
     }
 }
 
-// The shorter of two BUMPs that prove the id to one root, the first if they are equally long; an empty part of the first if refused.
-pub fn shorter<'a>(first: &'a [u8], second: &'a [u8], id: [u8; 32]) -> &'a [u8]
+// A refusal in four numbers, 0 where there is none. Its number is a byte.
+fn why_of(weighed: Weighed) -> [u64; 4]
+    ensures { λ r. ⌜ (r ≡ whyOf (choiceOf weighed)) × (getD r 0 0 ≤ 255) ⌝ }
+{
+    match weighed {
+        Weighed::First => [0u64; 4],
+        Weighed::Second => [0u64; 4],
+        Weighed::Refused(rejection) => [
+            rejection.number as u64,
+            rejection.carried as u64,
+            rejection.layer as u64,
+            rejection.sibling,
+        ],
+    }
+}
+
+// The shorter of two BUMPs that prove the id to one root, the first if they are equally long; an empty part of the first if refused. Why it was refused is
+// written to `why`: the number, what it carries, the layer and the sibling's position there; all 0 if it was not.
+pub fn shorter<'a>(first: &'a [u8], second: &'a [u8], id: [u8; 32], why: &mut [u64; 4]) -> &'a [u8]
     ensures { λ r. ⌜ part r ≡ handed (weighing (now (first .entry)) (now (second .entry)) id) (first .entry) (second .entry) ⌝ }
+    ensures { λ _. ⌜ now (why .exit) ≡ whyOf (weighing (now (first .entry)) (now (second .entry)) id) ⌝ }
+    ensures { λ _. ⌜ getD (now (why .exit)) 0 0 ≤ 255 ⌝ }
 {
     let weighed = weigh(first, second, id);
+    *why = why_of(weighed);
     part_of(weighed, first, second)
 }

@@ -1,33 +1,55 @@
-use Rattle.barrowtide.specs.Choices.{whichOf}
-use Rattle.barrowtide.specs.Interface.{refusal, blame}
-use Rattle.difference.specs.Shorter.{Choice, handed}
-use Rattle.spv.specs.Result.{Result}
+use Rattle.barrowtide.specs.ChoicesLaws.{handed-some, handed-none}
+use Rattle.difference.specs.Shorter.{Part}
+use Rattle.difference.specs.ShorterLaws.{weighs}
 use lib.ListN.{length}
-use mathlib.Core.Path.{ap, _∙_}
+use mathlib.Core.Path.{ap}
 use borrow.Author.Needs.{needs}
 use Rattle.barrowtide.proofs.differences.barrowtide_shorter.Statement.{statement}
 use Rattle.barrowtide.proofs.differences.barrowtide_shorter.Tie as tie
 
-weigh-requires : tie.Need-weigh-requires
-weigh-requires c κs = search needs
+shorter-requires : tie.Need-shorter-requires
+shorter-requires c κs = search needs
 
 which-requires : tie.Need-which-requires
 which-requires c κs = search needs
 
-part-length-requires : tie.Need-part-length-requires
-part-length-requires c κs = search needs
-
-weighed-number-requires : tie.Need-weighed-number-requires
-weighed-number-requires c κs = search needs
-
 returns : tie.Need-returns
 returns c =
+    let a = c .before .before .before .before .before .before .before .args in
+    let e = c .before .before .shorter .ensures in
+    handed-some (a .first) (a .second) _ (weighs _ _ _) (ap (λ (p : Part). length (p .1)) (e .0)) (c .before .which .ensures) _ (c .if1 .taken)
+
+array-read-result : tie.Need-array-read-result
+array-read-result c = search needs
+
+array-read-t19 : tie.Need-array-read-t19
+array-read-t19 c = search needs
+
+array-read-t22 : tie.Need-array-read-t22
+array-read-t22 c = search needs
+
+array-read-result-2 : tie.Need-array-read-result-2
+array-read-result-2 c = search needs
+
+cast-result : tie.Need-cast-result
+cast-result c = search needs
+
+returns-2 : tie.Need-returns-2
+returns-2 c =
     let a = c .before .before .before .before .before .before .before .before .args in
-    let e = c .before .before .before .before .weigh .ensures in
-    let n = c .weighed-number .ensures in
-    (n .0 ∙ ap refusal e, n .1 ∙ ap (λ (v : Result Choice). blame v (a .blame .now)) e, c .before .before .before .which .ensures ∙ ap whichOf e, c .before .before .part-length .ensures ∙ ap (λ (v : Result Choice). length (handed v (a .first) (a .second) .1)) e)
+    let e = c .before .before .before .shorter .ensures in
+    handed-none (a .first) (a .second) _ (weighs _ _ _) (ap (λ (p : Part). length (p .1)) (e .0)) (c .before .before .which .ensures) _ (c .before .if1 .left) (e .1 .0)
 
 pub barrowtide-shorter-spec : {M : Type 1} → statement M
 barrowtide-shorter-spec =
     tie.close
-    (tie.spec weigh-requires which-requires part-length-requires weighed-number-requires returns)
+    (tie.spec
+    shorter-requires
+    which-requires
+    returns
+    array-read-result
+    array-read-t19
+    array-read-t22
+    array-read-result-2
+    cast-result
+    returns-2)

@@ -1,30 +1,24 @@
-use Rattle.barrowtide.specs.Choices.{whichOf}
-use Rattle.difference.specs.Shorter.{choiceOf}
+use Rattle.barrowtide.specs.Choices.{whichBy}
+use borrow.Author.Tests.{eq-eqb, ne-eqb}
 use mathlib.Core.Path.{refl}
-use borrow.Author.Needs.{needs}
 use Rattle.barrowtide.proofs.differences.which.Statement.{statement}
 use Rattle.barrowtide.proofs.differences.which.Tie as tie
 
-enum-told : tie.Need-enum-told
-enum-told c = search needs
-
-enum-told-2 : tie.Need-enum-told-2
-enum-told-2 c = search needs
-
-enum-told-3 : tie.Need-enum-told-3
-enum-told-3 c = search needs
-
 returns : tie.Need-returns
-unfolding choiceOf whichOf
-returns c = rw (c .enum-told .given .1) refl
+unfolding whichBy
+returns c = rw (eq-eqb (c .before .args .part) 0 (c .if1 .taken)) refl
 
 returns-2 : tie.Need-returns-2
-unfolding choiceOf whichOf
-returns-2 c = rw (c .enum-told2 .given .1) refl
+unfolding whichBy
+returns-2 c =
+    let a = c .before .before .args in
+    rw (ne-eqb (a .part) 0 (c .before .if1 .left), eq-eqb (a .part) (a .first) (c .if2 .taken)) refl
 
 returns-3 : tie.Need-returns-3
-unfolding choiceOf whichOf
-returns-3 c = rw (c .enum-told3 .given .1) refl
+unfolding whichBy
+returns-3 c =
+    let a = c .before .before .args in
+    rw (ne-eqb (a .part) 0 (c .before .if1 .left), ne-eqb (a .part) (a .first) (c .if2 .left)) refl
 
 pub which-spec : {M : Type 1} → statement M
-which-spec = tie.close (tie.spec enum-told enum-told-2 enum-told-3 returns returns-2 returns-3)
+which-spec = tie.close (tie.spec returns returns-2 returns-3)
