@@ -30,7 +30,7 @@ use Rattle.spv.specs.declared.node.NodeKind.the-variants.{Value, Copied, Absent
 use Rattle.climbs.specs.declared.pass.Known.{Known}
 use Rattle.climbs.specs.Row.{startOf, stateOf, Sorted, Under, NotAt, Reached, Moved, statesAfter, hashesAfter}
 use Rattle.climbs.proofs.RowLaws.{half-above, moved-none, moved-on, advance-moves}
-use Rattle.climbs.specs.Pass.{plain, joinChildren, isWritten, unknownNode, Seen, besideOf, firstKnown, Made, Feeds, Priced, Charged, Stepped, AllStepped}
+use Rattle.climbs.specs.Pass.{plain, joinChildren, isWritten, unknownNode, Seen, besideOf, Made, Feeds, Priced, Charged, Stepped, AllStepped}
 use Rattle.climbs.specs.Count.{costOf}
 use Rattle.climbs.specs.Spent.{costsAfter}
 use Rattle.climbs.proofs.SpentLaws.{spent-none, spent-on, advance-spends}
@@ -302,15 +302,6 @@ module _ (w : Siblings) (k q : ℕ) (want : Bool) (r : Known) (asked : want ≡ 
   seen-looked e g =
       record { unasked = λ f. let z : _≡_ {A = ℕ} 0 1 = cc in absurd (omega arith); told = λ f. g ∙ ap isWritten e; node = λ f. e }
 
-module _ (a b : Known) where
-  pub first-yes : a .known ≡ true → firstKnown a b ≡ a
-  unfolding firstKnown
-  first-yes e = rw e
-
-  pub first-no : a .known ≡ false → firstKnown a b ≡ b
-  unfolding firstKnown
-  first-no e = rw e
-
 -- ---- a row that took its step
 
 module _ (starts states hashes : List ℕ) (row layer left : ℕ) (l r : Known) where
@@ -424,16 +415,6 @@ module _ (starts order : List ℕ) (layer left lo : ℕ) (l r : Known) where
 
   pub all-end : (a x b y : List ℕ) (i hi : ℕ) → i ≡ hi → AllStepped starts order a x b y layer left lo i l r → AllStepped starts order a x b y layer left lo hi l r
   all-end a x b y i hi e v = rw e at v
-
--- ---- the left child's value, as it was found first or again
-
-module _ (l l′ r : Known) (e : l ≡ l′) where
-  pub stepped-known : (starts order s h c s′ h′ c′ : List ℕ) (layer left lo hi : ℕ) → AllStepped starts order s h s′ h′ layer left lo hi l r × Charged starts s h c s′ h′ c′ layer left l r
-      → AllStepped starts order s h s′ h′ layer left lo hi l′ r × Charged starts s h c s′ h′ c′ layer left l′ r
-  stepped-known starts order s h c s′ h′ c′ layer left lo hi v = subst (λ (x : Known). AllStepped starts order s h s′ h′ layer left lo hi x r × Charged starts s h c s′ h′ c′ layer left x r) e v
-
-  pub made-known : (x : Known) → Made l r x → Made l′ r x
-  made-known x v = subst (λ (y : Known). Made y r x) e v
 
 pub made-none : (l r x : Known) (need : Bool) → need ≡ false → need ≡ true → Made l r x
 made-none l r x need e f = let z : _≡_ {A = ℕ} 0 1 = cc in absurd (omega arith)

@@ -30,7 +30,7 @@ use Rattle.climbs.specs.Spent.{costsAfter, Spent}
 use Rattle.climbs.proofs.SpentLaws.{spent-none, spent-on, advance-spends, charge-stays, cost-here}
 use Rattle.climbs.specs.Pass.{isWritten, Seen}
 use Rattle.climbs.proofs.PassLaws.{worked-written}
-use Rattle.climbs.specs.Rise.{Held, TurnRight}
+use Rattle.climbs.specs.Rise.{Held, TurnRight, Parent}
 
 module _ (w : Siblings) (starts states hashes : List ℕ) (row k : ℕ) (t : Turn) where
   pub stays-right : t .moves ≡ false → TurnRight w starts states hashes row k t
@@ -122,10 +122,10 @@ module _ (w : Siblings) (k : ℕ) (starts s h c : List ℕ) (row : ℕ) (t : Joi
 
 -- one row
 module _ (w : Siblings) (k : ℕ) (starts s h c s′ h′ c′ : List ℕ) (row : ℕ) (t : Turn) (parent : List ℕ) (few : k < 64) (inside : row < length s) (room : 32 * row + 32 ≤ length h)
-    (made : parent ≡ sha256d (t .joined .left ++ t .joined .right)) (right : TurnRight w starts s h row k t) where
+    (made : Parent t parent) (right : TurnRight w starts s h row k t) where
   pub after-one : (s′ ≡ pick (t .moves) (statesAfter s row k (t .joined .kind)) s) × (h′ ≡ pick (t .moves) (hashesAfter s h row k (t .joined .kind) parent) h) × (c′ ≡ pick (t .moves) (costsAfter s c row k (t .joined .kind) 0) c)
       → After w k starts s h c s′ h′ c′
-  unfolding TurnRight
+  unfolding TurnRight Parent
   after-one e = go (t .moves) refl (e .0) (e .1) (e .2)
     where
       make : (a b d : List ℕ) → s′ ≡ a → h′ ≡ b → c′ ≡ d → After w k starts s h c a b d → After w k starts s h c s′ h′ c′
@@ -136,7 +136,7 @@ module _ (w : Siblings) (k : ℕ) (starts s h c s′ h′ c′ : List ℕ) (row 
       at true g m =
           let here = eqb-true (getD s row 0) k g in
           let v = right m in
-          after-step w k starts s h c row (t .joined) parent few inside room made here (v .0) (v .1 here)
+          after-step w k starts s h c row (t .joined) parent few inside room (made m) here (v .0) (v .1 here)
       at false g m =
           let ne = eqb-false (getD s row 0) k g in
           let v = advance-stays s h row k (t .joined) parent ne in
@@ -149,16 +149,26 @@ module _ (w : Siblings) (k : ℕ) (starts s h c s′ h′ c′ : List ℕ) (row 
       go false m p q r = make s h c p q r (after-none w k starts s h c)
 
 -- the parents in their lanes
-module _ (a b c d : Joined) (p : Nodes) (e : (i : ℕ) → L.node i p ≡ sha256d (L.inLane i (a .left) (b .left) (c .left) (d .left) ++ L.inLane i (a .right) (b .right) (c .right) (d .right))) where
-  pub parents-four : (p .a ≡ sha256d (a .left ++ a .right)) × (p .b ≡ sha256d (b .left ++ b .right)) × (p .c ≡ sha256d (c .left ++ c .right)) × (p .d ≡ sha256d (d .left ++ d .right))
-  unfolding L.node L.inLane
-  parents-four = (e 0, e 1, e 2, e 3)
+module _ (a b c d : Turn) (p : Nodes)
+    (e : (i : ℕ) → L.node i p ≡ sha256d (L.inLane i (a .joined .left) (b .joined .left) (c .joined .left) (d .joined .left) ++ L.inLane i (a .joined .right) (b .joined .right) (c .joined .right) (d .joined .right))) where
+  pub parents-four : Parent a (p .a) × Parent b (p .b) × Parent c (p .c) × Parent d (p .d)
+  unfolding L.node L.inLane Parent
+  parents-four = (λ _. e 0, λ _. e 1, λ _. e 2, λ _. e 3)
+
+module _ (t : Turn) (p : List ℕ) where
+  pub parent-none : t .moves ≡ false → Parent t p
+  unfolding Parent
+  parent-none e f = let z : _≡_ {A = ℕ} 0 1 = cc in absurd (omega arith)
+
+  pub parent-made : p ≡ sha256d (t .joined .left ++ t .joined .right) → Parent t p
+  unfolding Parent
+  parent-made e _ = e
 
 -- four rows, which need not differ
 module _ (w : Siblings) (k : ℕ) (starts : List ℕ) (a b c d : ℕ) (ta tb tc td : Turn) (pa pb pc pd s₀ h₀ c₀ s₁ h₁ c₁ s₂ h₂ c₂ s₃ h₃ c₃ s₄ h₄ c₄ : List ℕ) (few : k < 64) (rows : length starts ≤ length s₀) (room : 32 * length starts ≤ length h₀)
     (ia : a < length starts) (ib : b < length starts) (ic : c < length starts) (id : d < length starts)
     (l₁ : length s₁ ≡ length s₀) (l₂ : length s₂ ≡ length s₁) (l₃ : length s₃ ≡ length s₂) (m₁ : length h₁ ≡ length h₀) (m₂ : length h₂ ≡ length h₁) (m₃ : length h₃ ≡ length h₂)
-    (made : (pa ≡ sha256d (ta .joined .left ++ ta .joined .right)) × (pb ≡ sha256d (tb .joined .left ++ tb .joined .right)) × (pc ≡ sha256d (tc .joined .left ++ tc .joined .right)) × (pd ≡ sha256d (td .joined .left ++ td .joined .right)))
+    (made : Parent ta pa × Parent tb pb × Parent tc pc × Parent td pd)
     (ra : TurnRight w starts s₀ h₀ a k ta) (rb : TurnRight w starts s₀ h₀ b k tb) (rc : TurnRight w starts s₀ h₀ c k tc) (rd : TurnRight w starts s₀ h₀ d k td)
     (ea : (s₁ ≡ pick (ta .moves) (statesAfter s₀ a k (ta .joined .kind)) s₀) × (h₁ ≡ pick (ta .moves) (hashesAfter s₀ h₀ a k (ta .joined .kind) pa) h₀) × (c₁ ≡ pick (ta .moves) (costsAfter s₀ c₀ a k (ta .joined .kind) 0) c₀))
     (eb : (s₂ ≡ pick (tb .moves) (statesAfter s₁ b k (tb .joined .kind)) s₁) × (h₂ ≡ pick (tb .moves) (hashesAfter s₁ h₁ b k (tb .joined .kind) pb) h₁) × (c₂ ≡ pick (tb .moves) (costsAfter s₁ c₁ b k (tb .joined .kind) 0) c₁))

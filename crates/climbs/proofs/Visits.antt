@@ -1,6 +1,6 @@
 -- Laws of a visit: a node's children were visited, then each row under them took its step, and the node's own value is at hand.
 use Prim.Native.Nat.{ℕ, _+_, _-_, _*_, _/_, _^_, _≤_, _<_}
-use native.Mathlib.Nat.{le-trans, le-refl}
+use native.Mathlib.Nat.{le-trans}
 use native.Mathlib.Omega.{arith}
 use mathlib.Core.Path.{_≡_, refl, sym, ap, ap₂, _∙_, subst}
 use mathlib.Core.Bool.{Bool, true, false, not, _&&_, _||_}
@@ -16,11 +16,11 @@ use Rattle.spv.specs.LowLaws.{low-left, low-right}
 use Rattle.climbs.specs.declared.pass.Known.{Known}
 use Rattle.climbs.specs.Row.{startOf, stateOf, Rows, Sorted, Under, NotAt, Reached, Moved}
 use Rattle.climbs.proofs.RowLaws.{moved-none, moved-on, moved-up}
-use Rattle.climbs.specs.Pass.{joinChildren, isWritten, Seen, besideOf, firstKnown, Feeds, Priced, Charged, AllStepped, Setting, Spot, Visited, VisitedCost}
+use Rattle.climbs.specs.Pass.{joinChildren, isWritten, Seen, besideOf, Feeds, Charged, AllStepped, Setting, Spot, Visited, VisitedCost}
 use Rattle.climbs.specs.Count.{costOf}
 use Rattle.climbs.specs.Spent.{joinedCost, Spent}
 use Rattle.climbs.proofs.SpentLaws.{spent-none, spent-on, spent-up, cost-here, cost-bottom, cost-joined}
-use Rattle.climbs.proofs.PassLaws.{children-join, children-none, children-valued, worked-written, worked-join, nothing-written, beside-left, beside-right, first-yes, first-no, under-none, under-right, reached-both, reached-grows}
+use Rattle.climbs.proofs.PassLaws.{children-join, children-none, children-valued, worked-written, worked-join, nothing-written, beside-left, beside-right, under-right, reached-both, reached-grows}
 
 -- ---- tests
 
@@ -106,60 +106,38 @@ module _ (starts order : List ℕ) (k q lo hi : ℕ) (want : Bool) (spot : Spot 
         under = under-right starts order (k - 1) q lo m hi sorted (spot .within) a (subst (λ (n : ℕ). Under starts order n q lo hi) e (spot .under)) n;
       }
 
-  pub spot-again : (m : ℕ) (w : Bool) → m ≤ hi → Spot starts order (k - 1) (2 * q) m m w
-  spot-again m w b =
-      let l = spot .layers in
-      let n = spot .within in
-      record { layers = omega arith; below = λ e. omega arith; low = low-left k q ne l (spot .low); span = le-refl m; within = omega arith; under = under-none starts order (k - 1) (2 * q) m }
-
 -- ---- the children were visited
 
-module _ (w : Siblings) (starts order : List ℕ) (k q lo m hi : ℕ) (ne : k ≡ 0 → ⊥) (s₀ h₀ s₁ h₁ s₂ h₂ s₃ h₃ s₄ h₄ : List ℕ) (wl wr wa xr vr va : Bool) (first r again l : Known)
+module _ (w : Siblings) (starts order : List ℕ) (k q lo m hi : ℕ) (ne : k ≡ 0 → ⊥) (s₀ h₀ s₁ h₁ s₂ h₂ s₃ h₃ : List ℕ) (wl xl vl wr xr vr : Bool) (l r : Known)
     (a : lo ≤ m) (ul : Under starts order (k - 1) (2 * q) lo m) (ur : Under starts order (k - 1) (2 * q + 1) m hi)
-    (v₁ : Visited w starts order s₀ h₀ s₁ h₁ (k - 1) (2 * q) lo m wl first)
+    (v₁ : Visited w starts order s₀ h₀ s₁ h₁ (k - 1) (2 * q) lo m wl l)
     (v₂ : Visited w starts order s₁ h₁ s₂ h₂ (k - 1) (2 * q + 1) m hi wr r)
-    (v₃ : Visited w starts order s₂ h₂ s₃ h₃ (k - 1) (2 * q) m m wa again)
+    (el : wl ≡ xl || vl) (nl : vl ≡ false → Reached order s₀ k m hi)
     (er : wr ≡ xr || vr) (nr : vr ≡ false → NotAt order s₁ (k - 1) lo m)
-    (ea : wa ≡ not wl && va) (na : va ≡ false → NotAt order s₂ (k - 1) m hi)
-    (el : l ≡ firstKnown first again)
-    (st : AllStepped starts order s₃ h₃ s₄ h₄ (k - 1) (2 * q) lo hi l r) where
-  -- a row that waits at a layer waited there before
-  waited : (b c : List ℕ) (i : ℕ) → k - 1 ≤ stateOf order b i → ((n : ℕ) → getD b n 0 ≤ getD c n 0) → stateOf order c i ≡ k - 1 → stateOf order b i ≡ k - 1
-  waited b c i f g e = let z = g (getD order i 0) in omega arith
-
-  l-first : wl ≡ true → l ≡ first
-  l-first e = el ∙ first-yes first again (v₁ .known ∙ e)
-
-  l-again : wl ≡ false → l ≡ again
-  l-again e = el ∙ first-no first again (v₁ .known ∙ e)
-
+    (st : AllStepped starts order s₂ h₂ s₃ h₃ (k - 1) (2 * q) lo hi l r) where
   feeds : Feeds (workedOut w) (k - 1) (2 * q) l r
-  feeds =
-      record {
-        even = omega arith;
-        first = λ e. go wl refl e;
-        second = λ e. v₂ .value (sym (v₂ .known) ∙ e);
-      }
-    where
-      go : (t : Bool) → wl ≡ t → l .known ≡ true → siblingOf (l .node) ≡ workedOut w (k - 1) (2 * q)
-      go true e g = ap (λ (x : Known). siblingOf (x .node)) (l-first e) ∙ v₁ .value e
-      go false e g = ap (λ (x : Known). siblingOf (x .node)) (l-again e) ∙ v₃ .value (sym (v₃ .known) ∙ sym (ap (λ (x : Known). x .known) (l-again e)) ∙ g)
+  feeds = record { even = omega arith; first = λ e. v₁ .value (sym (v₁ .known) ∙ e); second = λ e. v₂ .value (sym (v₂ .known) ∙ e) }
 
-  -- a row that waits knows its sibling
-  fed : (i : ℕ) → lo ≤ i → i < hi → stateOf order s₃ i ≡ k - 1 → besideOf (startOf starts order i / 2 ^ (k - 1)) (2 * q) l r .known ≡ true
+  -- a row that waits knows its sibling: one under the left child waited there before the right one was visited, and one under the right child had not come
+  -- up to the node before the left one was
+  fed : (i : ℕ) → lo ≤ i → i < hi → stateOf order s₂ i ≡ k - 1 → besideOf (startOf starts order i / 2 ^ (k - 1)) (2 * q) l r .known ≡ true
   unfolding Under NotAt Reached
   fed i b u e = side (ltb i m) refl
     where
       right : (t : Bool) → vr ≡ t → i < m → r .known ≡ true
       right true f c = v₂ .known ∙ or-second xr vr wr er f
       right false f c =
-          let x = waited s₁ s₂ i (v₁ .reached i b c) (v₂ .moved .grows) (waited s₂ s₃ i (le-trans (v₁ .reached i b c) (v₂ .moved .grows (getD order i 0))) (v₃ .moved .grows) e) in
-          absurd (nr f i b c x)
+          let x = v₁ .reached i b c in
+          let z = v₂ .moved .grows (getD order i 0) in
+          absurd (nr f i b c (omega arith))
 
-      left : (t : Bool) → wl ≡ t → (t′ : Bool) → va ≡ t′ → m ≤ i → l .known ≡ true
-      left true f t′ g c = ap (λ (x : Known). x .known) (l-first f) ∙ v₁ .known ∙ f
-      left false f true g c = ap (λ (x : Known). x .known) (l-again f) ∙ v₃ .known ∙ and-true (not wl) va wa ea (ap not f) g
-      left false f false g c = absurd (na g i c u (waited s₂ s₃ i (v₂ .reached i c u) (v₃ .moved .grows) e))
+      left : (t : Bool) → vl ≡ t → m ≤ i → l .known ≡ true
+      left true f c = v₁ .known ∙ or-second xl vl wl el f
+      left false f c =
+          let x = nl f i c u in
+          let y = v₁ .moved .grows (getD order i 0) in
+          let z = v₂ .moved .grows (getD order i 0) in
+          absurd (ne (omega arith))
 
       side : (t : Bool) → ltb i m ≡ t → besideOf (startOf starts order i / 2 ^ (k - 1)) (2 * q) l r .known ≡ true
       side true f =
@@ -167,43 +145,33 @@ module _ (w : Siblings) (starts order : List ℕ) (k q lo m hi : ℕ) (ne : k �
           ap (λ (x : Known). x .known) (beside-left (startOf starts order i / 2 ^ (k - 1)) (2 * q) l r (ul i b c)) ∙ right vr refl c
       side false f =
           let c = ltb-false i m f in
-          ap (λ (x : Known). x .known) (beside-right (startOf starts order i / 2 ^ (k - 1)) (2 * q) l r (ur i c u)) ∙ left wl refl va refl c
+          ap (λ (x : Known). x .known) (beside-right (startOf starts order i / 2 ^ (k - 1)) (2 * q) l r (ur i c u)) ∙ left vl refl c
 
   up : (b x c y : List ℕ) → Moved (workedOut w) (k - 1) starts b x c y → Moved (workedOut w) k starts b x c y
   up b x c y v = moved-up (workedOut w) (k - 1) k starts b x c y (omega arith) v
 
-  pub pass-moved : Moved (workedOut w) k starts s₀ h₀ s₄ h₄
+  pub pass-moved : Moved (workedOut w) k starts s₀ h₀ s₃ h₃
   pass-moved =
       let f : k - 1 + 1 ≤ k = omega arith in
-      moved-on (workedOut w) k starts s₀ h₀ s₁ h₁ s₄ h₄ (up s₀ h₀ s₁ h₁ (v₁ .moved))
-      (moved-on (workedOut w) k starts s₁ h₁ s₂ h₂ s₄ h₄ (up s₁ h₁ s₂ h₂ (v₂ .moved))
-      (moved-on (workedOut w) k starts s₂ h₂ s₃ h₃ s₄ h₄ (up s₂ h₂ s₃ h₃ (v₃ .moved)) (moved-up (workedOut w) (k - 1 + 1) k starts s₃ h₃ s₄ h₄ f (st .moved (workedOut w) feeds))))
+      moved-on (workedOut w) k starts s₀ h₀ s₁ h₁ s₃ h₃ (up s₀ h₀ s₁ h₁ (v₁ .moved))
+      (moved-on (workedOut w) k starts s₁ h₁ s₂ h₂ s₃ h₃ (up s₁ h₁ s₂ h₂ (v₂ .moved)) (moved-up (workedOut w) (k - 1 + 1) k starts s₂ h₂ s₃ h₃ f (st .moved (workedOut w) feeds)))
 
-  priced : (c₀ c₁ c₂ c₃ : List ℕ) → VisitedCost w starts s₀ h₀ c₀ s₁ h₁ c₁ (k - 1) (2 * q) wl first → VisitedCost w starts s₁ h₁ c₁ s₂ h₂ c₂ (k - 1) (2 * q + 1) wr r
-      → VisitedCost w starts s₂ h₂ c₂ s₃ h₃ c₃ (k - 1) (2 * q) wa again → Priced w (k - 1) (2 * q) l r
-  priced c₀ c₁ c₂ c₃ p₁ p₂ p₃ = record { first = λ e. go wl refl e; second = λ e. p₂ .joins (sym (v₂ .known) ∙ e) }
-    where
-      go : (t : Bool) → wl ≡ t → l .known ≡ true → l .joins ≡ costOf w (k - 1) (2 * q)
-      go true e g = ap (λ (x : Known). x .joins) (l-first e) ∙ p₁ .joins e
-      go false e g = ap (λ (x : Known). x .joins) (l-again e) ∙ p₃ .joins (sym (v₃ .known) ∙ sym (ap (λ (x : Known). x .known) (l-again e)) ∙ g)
-
-  pub pass-spent : (c₀ c₁ c₂ c₃ c₄ : List ℕ) → VisitedCost w starts s₀ h₀ c₀ s₁ h₁ c₁ (k - 1) (2 * q) wl first → VisitedCost w starts s₁ h₁ c₁ s₂ h₂ c₂ (k - 1) (2 * q + 1) wr r
-      → VisitedCost w starts s₂ h₂ c₂ s₃ h₃ c₃ (k - 1) (2 * q) wa again → Charged starts s₃ h₃ c₃ s₄ h₄ c₄ (k - 1) (2 * q) l r → Spent w k starts s₀ h₀ c₀ s₄ h₄ c₄
+  pub pass-spent : (c₀ c₁ c₂ c₃ : List ℕ) → VisitedCost w starts s₀ h₀ c₀ s₁ h₁ c₁ (k - 1) (2 * q) wl l → VisitedCost w starts s₁ h₁ c₁ s₂ h₂ c₂ (k - 1) (2 * q + 1) wr r
+      → Charged starts s₂ h₂ c₂ s₃ h₃ c₃ (k - 1) (2 * q) l r → Spent w k starts s₀ h₀ c₀ s₃ h₃ c₃
   unfolding Charged
-  pass-spent c₀ c₁ c₂ c₃ c₄ p₁ p₂ p₃ ch =
+  pass-spent c₀ c₁ c₂ c₃ p₁ p₂ ch =
       let b : k - 1 ≤ k = omega arith in
       let f : k - 1 + 1 ≤ k = omega arith in
-      spent-on w k starts s₀ h₀ c₀ s₁ h₁ c₁ s₄ h₄ c₄ (spent-up w (k - 1) k starts s₀ h₀ c₀ s₁ h₁ c₁ b (p₁ .spent))
-      (spent-on w k starts s₁ h₁ c₁ s₂ h₂ c₂ s₄ h₄ c₄ (spent-up w (k - 1) k starts s₁ h₁ c₁ s₂ h₂ c₂ b (p₂ .spent))
-      (spent-on w k starts s₂ h₂ c₂ s₃ h₃ c₃ s₄ h₄ c₄ (spent-up w (k - 1) k starts s₂ h₂ c₂ s₃ h₃ c₃ b (p₃ .spent))
-      (spent-up w (k - 1 + 1) k starts s₃ h₃ c₃ s₄ h₄ c₄ f (ch w feeds (priced c₀ c₁ c₂ c₃ p₁ p₂ p₃)))))
+      spent-on w k starts s₀ h₀ c₀ s₁ h₁ c₁ s₃ h₃ c₃ (spent-up w (k - 1) k starts s₀ h₀ c₀ s₁ h₁ c₁ b (p₁ .spent))
+      (spent-on w k starts s₁ h₁ c₁ s₂ h₂ c₂ s₃ h₃ c₃ (spent-up w (k - 1) k starts s₁ h₁ c₁ s₂ h₂ c₂ b (p₂ .spent))
+      (spent-up w (k - 1 + 1) k starts s₂ h₂ c₂ s₃ h₃ c₃ f
+      (ch w feeds (record { first = λ e. p₁ .joins (sym (v₁ .known) ∙ e); second = λ e. p₂ .joins (sym (v₂ .known) ∙ e) }))))
 
-  pub pass-reached : Reached order s₄ k lo hi
+  pub pass-reached : Reached order s₃ k lo hi
   pass-reached =
       let e : k - 1 + 1 ≡ k = omega arith in
-      let g : (n : ℕ) → getD s₁ n 0 ≤ getD s₃ n 0 = (λ n. le-trans (v₂ .moved .grows n) (v₃ .moved .grows n)) in
-      let x = reached-both order s₃ (k - 1) lo m hi (reached-grows order s₁ s₃ (k - 1) lo m g (v₁ .reached)) (reached-grows order s₂ s₃ (k - 1) m hi (v₃ .moved .grows) (v₂ .reached)) in
-      subst (λ (n : ℕ). Reached order s₄ n lo hi) e (st .past fed x)
+      let x = reached-both order s₂ (k - 1) lo m hi (reached-grows order s₁ s₂ (k - 1) lo m (v₂ .moved .grows) (v₁ .reached)) (v₂ .reached) in
+      subst (λ (n : ℕ). Reached order s₃ n lo hi) e (st .past fed x)
 
 -- ---- what a visit leaves
 

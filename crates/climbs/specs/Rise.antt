@@ -2,8 +2,9 @@
 use Prim.Native.Nat.{ℕ, _*_, _/_, _^_, _≤_}
 use mathlib.Core.Path.{_≡_}
 use mathlib.Core.Bool.{true}
-use mathlib.Core.List.{List}
+use mathlib.Core.List.{List, _++_}
 use lib.ListN.{length, getD}
+use Rattle.hash.specs.Sha256.{sha256d}
 use Rattle.format.specs.Bytes.{hashAt}
 use Rattle.spv.specs.Climb.{Siblings, siblingPosition, odd, step}
 use Rattle.spv.specs.Values.{workedOut}
@@ -23,3 +24,7 @@ TurnRight w starts states hashes row k t =
     t .moves ≡ true
     → (isWritten (w k (siblingPosition (getD starts row 0 / 2 ^ k))) ≡ true)
     × (getD states row 0 ≡ k → t .joined ≡ joinedOf (step (workedOut w k (siblingPosition (getD starts row 0 / 2 ^ k))) (odd (getD starts row 0 / 2 ^ k)) (hashAt hashes (32 * row))))
+
+-- the parent of what a row hashes, if it moves
+unfoldable pub Parent : Turn → List ℕ → Type 0
+Parent t p = t .moves ≡ true → p ≡ sha256d (t .joined .left ++ t .joined .right)

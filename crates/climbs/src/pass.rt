@@ -18,7 +18,7 @@ ghost use lib.ListN.{length, getD};
 ghost use Rattle.climbs.specs.LookUp.{lookedUp};
 ghost use Rattle.spv.specs.Shapes.{siblingOf};
 ghost use Rattle.climbs.specs.Row.{Rows, NotAt, Reached, Under};
-ghost use Rattle.climbs.specs.Pass.{joinChildren, unknownNode, besideOf, firstKnown, Made, Seen, Stepped, AllStepped, Charged, Setting, Spot, Visited, VisitedCost};
+ghost use Rattle.climbs.specs.Pass.{joinChildren, unknownNode, besideOf, Made, Seen, Stepped, AllStepped, Charged, Setting, Spot, Visited, VisitedCost};
 
 // A node's value, if it was asked for, and the joins that it cost.
 pub struct Known {
@@ -37,7 +37,7 @@ fn unknown() -> Known
     }
 }
 
-fn both(a: bool, b: bool) -> bool
+pub(crate) fn both(a: bool, b: bool) -> bool
     ensures { λ r. ⌜ r ≡ a && b ⌝ }
 {
     if a { b } else { false }
@@ -232,16 +232,7 @@ fn step_rows(
     }
 }
 
-fn first_known(a: Known, b: Known) -> Known
-    ensures { λ r. ⌜ r ≡ firstKnown a b ⌝ }
-{
-    if a.known {
-        return a;
-    }
-    b
-}
-
-// The rows under two children take their step, the left child's value as it was found first or again; and the join of the two, if it is needed.
+// The rows under two children take their step; and the join of the two, if it is needed.
 // It is called from two places so that it has a frame of its own, and `visit`, which calls itself, a small one.
 fn step_children(
     starts: &[u64],
@@ -252,16 +243,14 @@ fn step_children(
     left: u64,
     lo: usize,
     hi: usize,
-    first: Known,
-    again: Known,
+    l: Known,
     r: Known,
     need: bool,
     costs: &mut [u64],
 ) -> Known
     requires { ⌜ (lo ≤ hi) × (hi ≤ length (now order)) × Rows (now order) (length (now starts)) × (length (now starts) ≤ length (now states)) × (32 * length (now starts) ≤ length (now hashes)) × (layer < 64) ⌝ }
-    ensures { λ x. ⌜ AllStepped (now (starts .entry)) (now (order .entry)) (now (states .entry)) (now (hashes .entry)) (now (states .exit)) (now (hashes .exit)) layer left lo hi (firstKnown first again) r × Charged (now (starts .entry)) (now (states .entry)) (now (hashes .entry)) (now (costs .entry)) (now (states .exit)) (now (hashes .exit)) (now (costs .exit)) layer left (firstKnown first again) r × (need ≡ true → Made (firstKnown first again) r x) ⌝ }
+    ensures { λ x. ⌜ AllStepped (now (starts .entry)) (now (order .entry)) (now (states .entry)) (now (hashes .entry)) (now (states .exit)) (now (hashes .exit)) layer left lo hi l r × Charged (now (starts .entry)) (now (states .entry)) (now (hashes .entry)) (now (costs .entry)) (now (states .exit)) (now (hashes .exit)) (now (costs .exit)) layer left l r × (need ≡ true → Made l r x) ⌝ }
 {
-    let l = first_known(first, again);
     step_rows(
         starts,
         order,
@@ -316,8 +305,8 @@ pub(crate) fn visit(
         let below = layer - 1;
         let left = 2 * position;
         let m = split(starts, order, below, left, lo, hi);
-        let want_l = either(need, both(lo < m, m < hi));
-        let first = visit(
+        let want_l = either(need, behind(order, states, layer, m, hi));
+        let l = visit(
             s,
             places,
             starts,
@@ -333,7 +322,7 @@ pub(crate) fn visit(
             want_l,
             costs,
         );
-        let l_node = first.node;
+        let l_node = l.node;
         let want_r = either(
             both(need, has_value(l_node)),
             waiting(order, states, below, lo, m),
@@ -354,23 +343,6 @@ pub(crate) fn visit(
             want_r,
             costs,
         );
-        let want_again = both(!want_l, waiting(order, states, below, m, hi));
-        let again = visit(
-            s,
-            places,
-            starts,
-            order,
-            states,
-            hashes,
-            t,
-            others,
-            below,
-            left,
-            m,
-            m,
-            want_again,
-            costs,
-        );
         if need {
             return step_children(
                 starts,
@@ -381,8 +353,7 @@ pub(crate) fn visit(
                 left,
                 lo,
                 hi,
-                first,
-                again,
+                l,
                 r,
                 true,
                 costs,
@@ -397,8 +368,7 @@ pub(crate) fn visit(
             left,
             lo,
             hi,
-            first,
-            again,
+            l,
             r,
             false,
             costs,

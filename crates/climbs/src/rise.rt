@@ -1,5 +1,6 @@
 // Rows four at a time, as long as their siblings are written: most layers of most climbs, as four joins at once take as long as two.
 use super::count::charge;
+use super::pass::both;
 use super::pass::either;
 use super::pass::written_at;
 use super::row::above;
@@ -21,7 +22,7 @@ ghost use Rattle.climbs.specs.LookUp.{lookedUp};
 ghost use Rattle.spv.specs.Values.{workedOut};
 ghost use Rattle.climbs.specs.Row.{Moved, statesAfter, hashesAfter};
 ghost use Rattle.climbs.specs.Spent.{costsAfter, Spent};
-ghost use Rattle.climbs.specs.Rise.{Held, TurnRight};
+ghost use Rattle.climbs.specs.Rise.{Held, TurnRight, Parent};
 
 // What a row hashes at a layer, if it moves.
 pub struct Turn {
@@ -71,6 +72,28 @@ fn written_turn(
     }
 }
 
+// The same of a row beside another one: it stays if it is that one.
+fn other_turn(
+    s: &[u8],
+    places: &[usize],
+    starts: &[u64],
+    states: &[u16],
+    hashes: &[u8],
+    t: &[u8],
+    others: &[usize],
+    beside: usize,
+    row: usize,
+    layer: usize,
+) -> Turn
+    requires { ⌜ (row < length (now starts)) × (layer < 64) × Held (now places) (now starts) (now states) (now hashes) ⌝ }
+    ensures { λ r. ⌜ TurnRight (lookedUp (now (s .entry)) (now (places .entry)) (now (t .entry)) (now (others .entry))) (now (starts .entry)) (now (states .entry)) (now (hashes .entry)) row layer r ⌝ }
+{
+    if row == beside {
+        return stay();
+    }
+    written_turn(s, places, starts, states, hashes, t, others, row, layer)
+}
+
 // A row that moves goes one layer on, and pays for its own join: what is written costs none.
 fn advance_if(
     states: &mut [u16],
@@ -93,8 +116,8 @@ fn advance_if(
     }
 }
 
-// The parents of what four rows hash.
-fn parents(a: Joined, b: Joined, c: Joined, d: Joined) -> Nodes
+// The parents of what four rows hash, in lanes.
+fn lane_parents(a: Joined, b: Joined, c: Joined, d: Joined) -> Nodes
     ensures { λ r. ⌜ ((i : ℕ) → L.node i r ≡ sha256d (L.inLane i (a .left) (b .left) (c .left) (d .left) ++ L.inLane i (a .right) (b .right) (c .right) (d .right))) ⌝ }
 {
     let la = a.left;
@@ -121,7 +144,40 @@ fn parents(a: Joined, b: Joined, c: Joined, d: Joined) -> Nodes
     )
 }
 
-// Four rows, one layer on; whether one of them moved. A row may be named twice: once it has moved it stands at the layer no more.
+// The parent of what a row hashes, if it moves.
+fn parent_of(t: Turn) -> [u8; 32]
+    ensures { λ r. ⌜ Parent t r ⌝ }
+{
+    if !t.moves {
+        return [0u8; 32];
+    }
+    let joined = t.joined;
+    let left = joined.left;
+    let right = joined.right;
+    hash::join(left, right)
+}
+
+// The same of four rows, in lanes or one by one.
+fn parents(lanes: bool, a: Turn, b: Turn, c: Turn, d: Turn) -> Nodes
+    ensures { λ r. ⌜ Parent a (r .a) × Parent b (r .b) × Parent c (r .c) × Parent d (r .d) ⌝ }
+{
+    if lanes {
+        let ja = a.joined;
+        let jb = b.joined;
+        let jc = c.joined;
+        let jd = d.joined;
+        return lane_parents(ja, jb, jc, jd);
+    }
+    Nodes {
+        a: parent_of(a),
+        b: parent_of(b),
+        c: parent_of(c),
+        d: parent_of(d),
+    }
+}
+
+// Four rows, one layer on; whether one of them moved. They are joined in lanes only if all move, so that none is joined in vain; the last of three rows is
+// named twice, and takes two lanes.
 fn layer4(
     s: &[u8],
     places: &[usize],
@@ -143,12 +199,10 @@ fn layer4(
     let ta = written_turn(s, places, starts, states, hashes, t, others, a, layer);
     let tb = written_turn(s, places, starts, states, hashes, t, others, b, layer);
     let tc = written_turn(s, places, starts, states, hashes, t, others, c, layer);
-    let td = written_turn(s, places, starts, states, hashes, t, others, d, layer);
-    let ja = ta.joined;
-    let jb = tb.joined;
-    let jc = tc.joined;
-    let jd = td.joined;
-    let parent = parents(ja, jb, jc, jd);
+    let td = other_turn(s, places, starts, states, hashes, t, others, c, d, layer);
+    let three = both(both(ta.moves, tb.moves), tc.moves);
+    let lanes = both(three, either(td.moves, c == d));
+    let parent = parents(lanes, ta, tb, tc, td);
     let pa = parent.a;
     let pb = parent.b;
     let pc = parent.c;
@@ -180,10 +234,7 @@ fn layer1(
     if !turn.moves {
         return false;
     }
-    let joined = turn.joined;
-    let left = joined.left;
-    let right = joined.right;
-    let parent = hash::join(left, right);
+    let parent = parent_of(turn);
     advance_if(states, hashes, row, layer, turn, parent, costs);
     true
 }
