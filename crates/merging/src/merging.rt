@@ -14,7 +14,7 @@ use leaflist::build;
 use spv::Rejection;
 ghost use mathlib.Core.Path.{_≡_};
 ghost use mathlib.Core.List.{_∷_, _++_};
-ghost use mathlib.Core.Bool.{_&&_};
+ghost use mathlib.Core.Bool.{true, false, _&&_};
 ghost use Prim.Native.Nat.{_≤_, _/_};
 ghost use lib.ListN.{length};
 ghost use lib.Dec.{eqb};
@@ -54,15 +54,51 @@ fn alike(x: BumpHead, root: [u8; 32], y: BumpHead, other: [u8; 32]) -> bool
 // The most places that a level has.
 const PLACES: usize = Layout::MAX_LEAVES;
 
-// The merged levels before they are written.
-fn tally_paths(s: &[u8], x: BumpHead, t: &[u8], y: BumpHead) -> Tally
+// What a walk over the merged levels comes to: their tally, or where they end once they are written.
+struct Walked {
+    tally: Tally,
+    end: usize,
+}
+
+// The merged levels, written from a place on or only tallied, with room for a level's places. It is called from two places so that it has a frame of its
+// own: the room is not there while clients climb.
+fn walk_paths(
+    s: &[u8],
+    x: BumpHead,
+    t: &[u8],
+    y: BumpHead,
+    write: bool,
+    out: &mut [u8],
+    at: usize,
+) -> Walked
     requires { ⌜ x .height ≤ 64 ⌝ }
-    ensures { λ r. ⌜ (r ≡ tallyAll (walkLevels (now (s .entry)) (now (t .entry)) (x .height) (x .levels .at) (y .levels .at))) × (r .bytes ≤ 8388608) ⌝ }
+    ensures { λ r. ⌜ (write ≡ false → (r .tally ≡ tallyAll (walkLevels (now (s .entry)) (now (t .entry)) (x .height) (x .levels .at) (y .levels .at))) × (r .tally .bytes ≤ 8388608)) × (write ≡ true → buffer (now (out .exit)) (r .end) ≡ writeOn (buffer (now (out .entry)) at) (spells levelText (walkLevels (now (s .entry)) (now (t .entry)) (x .height) (x .levels .at) (y .levels .at)))) ⌝ }
 {
     let mut first = [0usize; PLACES];
     let mut second = [0usize; PLACES];
     let mut room = [0usize; PLACES];
-    tally_levels(
+    if write {
+        let end = put_levels(
+            s,
+            x.levels,
+            t,
+            y.levels,
+            x.height,
+            &mut first,
+            &mut second,
+            &mut room,
+            out,
+            at,
+        );
+        let tally = Tally {
+            over: false,
+            clash: false,
+            bytes: 0,
+            leaves: 0,
+        };
+        return Walked { tally, end };
+    }
+    let tally = tally_levels(
         s,
         x.levels,
         t,
@@ -71,7 +107,18 @@ fn tally_paths(s: &[u8], x: BumpHead, t: &[u8], y: BumpHead) -> Tally
         &mut first,
         &mut second,
         &mut room,
-    )
+    );
+    Walked { tally, end: at }
+}
+
+// The merged levels before they are written.
+fn tally_paths(s: &[u8], x: BumpHead, t: &[u8], y: BumpHead) -> Tally
+    requires { ⌜ x .height ≤ 64 ⌝ }
+    ensures { λ r. ⌜ (r ≡ tallyAll (walkLevels (now (s .entry)) (now (t .entry)) (x .height) (x .levels .at) (y .levels .at))) × (r .bytes ≤ 8388608) ⌝ }
+{
+    let mut none = [0u8; 0];
+    let walked = walk_paths(s, x, t, y, false, &mut none, 0);
+    walked.tally
 }
 
 // Whether every client of either path comes to the root by what the two have written between them.
@@ -130,23 +177,10 @@ fn put_path(s: &[u8], x: BumpHead, t: &[u8], y: BumpHead, out: &mut [u8]) -> usi
     requires { ⌜ x .height ≤ 64 ⌝ }
     ensures { λ r. ⌜ buffer (now (out .exit)) r ≡ writeOn (buffer (now (out .entry)) 0) (varintBytes (x .block) ++ (x .height ∷ spells levelText (walkLevels (now (s .entry)) (now (t .entry)) (x .height) (x .levels .at) (y .levels .at)))) ⌝ }
 {
-    let mut first = [0usize; PLACES];
-    let mut second = [0usize; PLACES];
-    let mut room = [0usize; PLACES];
     let block = encoding::buffer::write_varint(out, 0, x.block);
     let height = encoding::buffer::put(out, block, x.height as u8);
-    put_levels(
-        s,
-        x.levels,
-        t,
-        y.levels,
-        x.height,
-        &mut first,
-        &mut second,
-        &mut room,
-        out,
-        height,
-    )
+    let walked = walk_paths(s, x, t, y, true, out, height);
+    walked.end
 }
 
 // Writes the merged path, of n bytes, and its list.
