@@ -1,10 +1,10 @@
--- The flat form in which the code holds the answers of a page: their roots end to end, and five numbers for each. What an
--- answer carries is left out: it is 0 for every id.
-use Prim.Native.Nat.{ℕ, _+_, _*_, _/_, _<_, _≤_}
+-- The flat form in which the code holds the answers of a page: their roots end to end, and as numbers the starts of the rows, from place 256 on their
+-- states, and at place 512 the layers.
+use Prim.Native.Nat.{ℕ, _+_, _*_, _/_, _%_, _<_, _≤_}
 use mathlib.Core.Path.{_≡_}
 use mathlib.Core.List.{List}
 use lib.Dec.{ltb}
-use lib.ListN.{length, getD}
+use lib.ListN.{length, getD, replicate}
 use Rattle.path.specs.declared.path.Form.{Form}
 use Rattle.path.specs.declared.path.Path.{Path}
 use Rattle.format.specs.Parse.{pick}
@@ -15,54 +15,33 @@ use Rattle.spv.specs.Readings.{pathReading}
 use Rattle.spv.specs.Shapes.{provedOf}
 use Rattle.climbs.specs.Proofs.{provedAt}
 use Rattle.page.specs.declared.Answer.{Answer}
-use Rattle.page.specs.Page.{blankAnswer, answerOf}
+use Rattle.page.specs.Page.{MAX-PAGE, blankAnswer, answerOf}
 
 -- the room of a flat form
 abbrev pub ROOTS-ROOM : ℕ
 ROOTS-ROOM = 8192
 
 abbrev pub NUMBERS-ROOM : ℕ
-NUMBERS-ROOM = 1280
+NUMBERS-ROOM = 513
 
--- the answer that stands at a row
+-- the answer that stands at a row: what the row's start, state and root say of any id
 unfoldable pub flatAt : List ℕ → List ℕ → ℕ → Answer
 flatAt roots numbers row =
-    record {
-      refusal = getD numbers (5 * row) 0;
-      carried = 0;
-      layer = getD numbers (5 * row + 1) 0;
-      sibling = getD numbers (5 * row + 2) 0;
-      position = getD numbers (5 * row + 3) 0;
-      layers = getD numbers (5 * row + 4) 0;
-      root = hashAt roots (32 * row);
-    }
+    answerOf (provedAt (getD numbers 512 0) (replicate 32 0) (replicate 1 (getD numbers row 0)) (replicate 1 (getD numbers (256 + row) 0 % 65536)) (hashAt roots (32 * row)) 0)
 
 -- the answer for a row, of so many that a flat form holds: blank past them
 unfoldable pub flatAnswer : List ℕ → List ℕ → ℕ → ℕ → Answer
-flatAnswer roots numbers count row = pick (ltb row count) (pick (ltb row (length numbers / 5)) (flatAt roots numbers row) blankAnswer) blankAnswer
-
--- an answer as a flat form has it
-unfoldable pub uncarried : Answer → Answer
-uncarried a =
-    record { refusal = a .refusal; carried = 0; layer = a .layer; sibling = a .sibling; position = a .position; layers = a .layers; root = a .root }
-
--- an answer is put at a row, and no other row is touched
-pub record Puts (roots numbers : List ℕ) (row : ℕ) (answer : Answer) (roots′ numbers′ : List ℕ) : Type 0 where
-  pub here : flatAt roots′ numbers′ row ≡ uncarried answer
-  pub others : (r : ℕ) → (r ≡ row → ⊥) → flatAt roots′ numbers′ r ≡ flatAt roots numbers r
+flatAnswer roots numbers count row = pick (ltb row count) (pick (ltb row MAX-PAGE) (pick (ltb (length numbers) NUMBERS-ROOM) blankAnswer (flatAt roots numbers row)) blankAnswer) blankAnswer
 
 -- the ids stand where their roots are going to be
 unfoldable pub Copied : List ℕ → ℕ → List ℕ → Type 0
 Copied ids n roots = (r : ℕ) → r < n → hashAt roots (32 * r) ≡ hashAt ids (32 * r)
 
--- the first n rows have the answers of what was proved
-unfoldable pub Answered : List ℕ → ℕ → List ℕ → List ℕ → List ℕ → ℕ → List ℕ → List ℕ → Type 0
-Answered ids layers starts states proved n roots numbers =
-    (r : ℕ) → r < n → flatAt roots numbers r ≡ uncarried (answerOf (provedAt layers (hashAt ids (32 * r)) starts states proved r))
-
--- roots from a row on are as they were
-unfoldable pub Later : List ℕ → ℕ → List ℕ → Type 0
-Later proved n roots = (r : ℕ) → n ≤ r → hashAt roots (32 * r) ≡ hashAt proved (32 * r)
+-- the states of the first n rows and the layers are noted, the starts as they were
+pub record Noted (states : List ℕ) (layers n : ℕ) (numbers numbers′ : List ℕ) : Type 0 where
+  pub state : (r : ℕ) → r < n → getD numbers′ (256 + r) 0 % 65536 ≡ getD states r 0
+  pub start : (r : ℕ) → r < 256 → getD numbers′ r 0 ≡ getD numbers r 0
+  pub top : getD numbers′ 512 0 ≡ layers
 
 -- a path as a BUMP's reading gives it
 pub record Levelled (path : Path) : Type 0 where

@@ -1,32 +1,28 @@
--- Laws of the flat form: an answer that is put, rows that were proved, and that the answers of all ids give the page.
-use Prim.Native.Nat.{ℕ, zero, suc, _+_, _*_, _/_, _≤_, _<_}
+-- Laws of the flat form: rows that were proved, what is noted of them, and that the answers of all ids give the page.
+use Prim.Native.Nat.{ℕ, _+_, _*_, _/_, _%_, _≤_, _<_}
+use native.Mathlib.Nat.{mod-eq-of-lt}
 use mathlib.Core.Path.{_≡_, refl, sym, ap, _∙_}
 use mathlib.Core.Bool.{Bool, true, false}
-use mathlib.Core.List.{List, _++_}
+use mathlib.Core.List.{List}
 use native.Mathlib.Omega.{arith}
-use lib.Dec.{ltb}
-use lib.ListN.{length, getD, set, length-set}
-use lib.Seq.{getD-set-same, getD-set-other}
+use lib.Dec.{eqb, ltb}
+use lib.ListN.{length, getD, set, take, replicate}
+use lib.Seq.{getD-set-same, getD-set-other, take-length}
 use borrow.Author.Count.{below-more}
 use borrow.Author.Tests.{lt-ltb, le-ltb, ltb-true}
 use Rattle.path.specs.declared.path.Path.{Path}
 use Rattle.format.specs.Parse.{Parse, got, bad, pick}
 use Rattle.format.specs.Bump.{Bump}
-use Rattle.path.specs.Path.{LAYERS, startIn, bumpPathOf, bumpPath}
+use Rattle.path.specs.Path.{bumpPathOf, bumpPath}
 use Rattle.format.specs.Bytes.{setHash, hashAt}
-use Rattle.format.specs.BytesLaws.{set-inside}
-use Rattle.hash.specs.Sha256.{sha256d}
-use Rattle.path.specs.declared.path.Start.{Start}
-use Rattle.path.specs.declared.path.Start.the-variants.{At, Nowhere}
-use Rattle.spv.specs.Result.{Result, accepted, refused, atSibling}
-use Rattle.spv.specs.Climb.{Siblings, Step, joins, fails, step, odd, siblingPosition, ascendBy, ascend, endBy, endOf}
-use Rattle.spv.specs.ClimbLaws.{ascend-joins, ascend-fails}
-use Rattle.spv.specs.Compare.{any, hits, settle, proofOf, proveBy, prove}
-use Rattle.spv.specs.Readings.{starting, pathReading}
+use Rattle.format.specs.BytesLaws.{set-inside, hash-there, hash-at-length}
+use Rattle.spv.specs.Result.{refused}
+use Rattle.spv.specs.Compare.{prove}
+use Rattle.spv.specs.Readings.{pathReading}
 use Rattle.spv.specs.Shapes.{acceptedOf, provedOf}
 use Rattle.spv.specs.Stored.{stored-here, stored-other}
-use Rattle.spv.specs.Siblings.{pathSiblings}
 use Rattle.climbs.specs.Proofs.{provedAt}
+use Rattle.climbs.specs.Row.{refusalOf}
 use Rattle.spv.specs.Rows.{rows}
 use Rattle.spv.specs.RowsLaws.{rows-same}
 use Rattle.spv.specs.declared.rejection.Rejection.{Rejection}
@@ -34,94 +30,10 @@ use Rattle.spv.specs.declared.prove.Proved.{Proved}
 use Rattle.page.specs.declared.Answer.{Answer}
 use Rattle.page.specs.declared.Opening.{Opening}
 use Rattle.page.specs.declared.Paged.{Paged}
-use Rattle.page.specs.Page.{MAX-PAGE, blankAnswer, answerBy, answerOf, bumpFor, page, pagedOf, rowOf}
+use Rattle.page.specs.Page.{MAX-PAGE, blankAnswer, answerOf, bumpFor, page, pagedOf, rowOf}
 use Rattle.page.specs.PageLaws.{page-few, opening-row, opening-paged}
 use Rattle.page.specs.Opening.{unopened, openingOf, answerUnder, answerAt, countOf}
-use Rattle.page.specs.Flat.{ROOTS-ROOM, NUMBERS-ROOM, flatAt, flatAnswer, Puts, uncarried, Copied, Answered, Later, Levelled, asked, Right, AllRight}
-
--- ---- an answer that is put
-
--- its five numbers from a place on
-abbrev pub five : List ℕ → ℕ → Answer → List ℕ
-five l at a = set (set (set (set (set l at (a .refusal)) (at + 1) (a .layer)) (at + 2) (a .sibling)) (at + 3) (a .position)) (at + 4) (a .layers)
-
-module _ (l : List ℕ) (at : ℕ) (a : Answer) where
-  abbrev l₁ : List ℕ
-  l₁ = set l at (a .refusal)
-
-  abbrev l₂ : List ℕ
-  l₂ = set l₁ (at + 1) (a .layer)
-
-  abbrev l₃ : List ℕ
-  l₃ = set l₂ (at + 2) (a .sibling)
-
-  abbrev l₄ : List ℕ
-  l₄ = set l₃ (at + 3) (a .position)
-
-  abbrev l₅ : List ℕ
-  l₅ = set l₄ (at + 4) (a .layers)
-
-  -- what stands elsewhere stays
-  past : (j : ℕ) → (j ≡ at → ⊥) → (j ≡ at + 1 → ⊥) → (j ≡ at + 2 → ⊥) → (j ≡ at + 3 → ⊥) → (j ≡ at + 4 → ⊥) → getD l₅ j 0 ≡ getD l j 0
-  past j n₀ n₁ n₂ n₃ n₄ =
-      getD-set-other l₄ (at + 4) j (a .layers) 0 n₄ ∙ getD-set-other l₃ (at + 3) j (a .position) 0 n₃ ∙ getD-set-other l₂ (at + 2) j (a .sibling) 0 n₂
-      ∙ getD-set-other l₁ (at + 1) j (a .layer) 0 n₁ ∙ getD-set-other l at j (a .refusal) 0 n₀
-
-  module _ (b : at + 4 < length l) where
-    m₁ : length l₁ ≡ length l
-    m₁ = length-set l at (a .refusal)
-
-    m₂ : length l₂ ≡ length l
-    m₂ = length-set l₁ (at + 1) (a .layer) ∙ m₁
-
-    m₃ : length l₃ ≡ length l
-    m₃ = length-set l₂ (at + 2) (a .sibling) ∙ m₂
-
-    m₄ : length l₄ ≡ length l
-    m₄ = length-set l₃ (at + 3) (a .position) ∙ m₃
-
-    get₄ : getD l₅ (at + 4) 0 ≡ a .layers
-    get₄ = getD-set-same l₄ (at + 4) (a .layers) 0 (let m = m₄ in omega arith)
-
-    get₃ : getD l₅ (at + 3) 0 ≡ a .position
-    get₃ =
-        getD-set-other l₄ (at + 4) (at + 3) (a .layers) 0 (λ e. omega arith) ∙ getD-set-same l₃ (at + 3) (a .position) 0 (let m = m₃ in omega arith)
-
-    get₂ : getD l₅ (at + 2) 0 ≡ a .sibling
-    get₂ =
-        getD-set-other l₄ (at + 4) (at + 2) (a .layers) 0 (λ e. omega arith) ∙ getD-set-other l₃ (at + 3) (at + 2) (a .position) 0 (λ e. omega arith)
-        ∙ getD-set-same l₂ (at + 2) (a .sibling) 0 (let m = m₂ in omega arith)
-
-    get₁ : getD l₅ (at + 1) 0 ≡ a .layer
-    get₁ =
-        getD-set-other l₄ (at + 4) (at + 1) (a .layers) 0 (λ e. omega arith) ∙ getD-set-other l₃ (at + 3) (at + 1) (a .position) 0 (λ e. omega arith)
-        ∙ getD-set-other l₂ (at + 2) (at + 1) (a .sibling) 0 (λ e. omega arith) ∙ getD-set-same l₁ (at + 1) (a .layer) 0 (let m = m₁ in omega arith)
-
-    get₀ : getD l₅ at 0 ≡ a .refusal
-    get₀ =
-        getD-set-other l₄ (at + 4) at (a .layers) 0 (λ e. omega arith) ∙ getD-set-other l₃ (at + 3) at (a .position) 0 (λ e. omega arith)
-        ∙ getD-set-other l₂ (at + 2) at (a .sibling) 0 (λ e. omega arith) ∙ getD-set-other l₁ (at + 1) at (a .layer) 0 (λ e. omega arith)
-        ∙ getD-set-same l at (a .refusal) 0 (omega arith)
-
-module _ (roots numbers : List ℕ) (row : ℕ) (a : Answer) (low : row < MAX-PAGE) (long : NUMBERS-ROOM ≤ length numbers) (wide : ROOTS-ROOM ≤ length roots) (whole : length (a .root) ≡ 32) where
-  pub put-row : Puts roots numbers row a (setHash roots row (a .root)) (five numbers (5 * row) a)
-  unfolding flatAt uncarried
-  put-row =
-      let b : 5 * row + 4 < length numbers = omega arith in
-      let e : setHash roots row (a .root) ≡ _ = set-inside roots row (a .root) (omega arith) in
-      record {
-        here = rw (get₀ numbers (5 * row) a b, get₁ numbers (5 * row) a b, get₂ numbers (5 * row) a b, get₃ numbers (5 * row) a b, get₄ numbers (5 * row) a b, e, stored-here roots (a .root) row whole (omega arith));
-        others = λ r d.
-            rw (
-              past numbers (5 * row) a (5 * r) (λ z. omega arith) (λ z. omega arith) (λ z. omega arith) (λ z. omega arith) (λ z. omega arith),
-              past numbers (5 * row) a (5 * r + 1) (λ z. omega arith) (λ z. omega arith) (λ z. omega arith) (λ z. omega arith) (λ z. omega arith),
-              past numbers (5 * row) a (5 * r + 2) (λ z. omega arith) (λ z. omega arith) (λ z. omega arith) (λ z. omega arith) (λ z. omega arith),
-              past numbers (5 * row) a (5 * r + 3) (λ z. omega arith) (λ z. omega arith) (λ z. omega arith) (λ z. omega arith) (λ z. omega arith),
-              past numbers (5 * row) a (5 * r + 4) (λ z. omega arith) (λ z. omega arith) (λ z. omega arith) (λ z. omega arith) (λ z. omega arith),
-              e,
-              stored-other roots (a .root) row whole (omega arith) r d,
-            );
-      }
+use Rattle.page.specs.Flat.{ROOTS-ROOM, NUMBERS-ROOM, flatAt, flatAnswer, Copied, Noted, Levelled, asked, Right, AllRight}
 
 -- ---- rows that were proved
 
@@ -141,81 +53,86 @@ pub copied-all : (ids : List ℕ) (n row : ℕ) (roots : List ℕ) → n ≤ row
 unfolding Copied
 copied-all ids n row roots b v r l = v r (omega arith)
 
--- a row says the same wherever its hash is the same
-proved-same : (layers : ℕ) (id starts states hashes hashes′ : List ℕ) (row : ℕ) → hashAt hashes (32 * row) ≡ hashAt hashes′ (32 * row)
-    → provedAt layers id starts states hashes row ≡ provedAt layers id starts states hashes′ row
-unfolding provedAt
-proved-same layers id starts states hashes hashes′ row e = rw e
+-- ---- what is noted of them
 
--- what is put in a row, as the code comes to it
-pub answer-told : (layers : ℕ) (ids starts states roots : List ℕ) (row : ℕ) (id : List ℕ) {p : Proved} {a : Answer} → id ≡ hashAt ids (32 * row) → p ≡ provedAt layers id starts states roots row → a ≡ answerOf p
-    → a ≡ answerOf (provedAt layers (hashAt ids (32 * row)) starts states roots row)
-answer-told layers ids starts states roots row id e f g = g ∙ ap answerOf (f ∙ ap (λ (x : List ℕ). provedAt layers x starts states roots row) e)
+module _ (states : List ℕ) where
+  pub noted-none : (numbers : List ℕ) → Noted states (getD numbers 512 0) 0 numbers numbers
+  noted-none numbers = record { state = λ r l. absurd (omega arith); start = λ r l. refl; top = refl }
 
-pub later-all : (proved : List ℕ) → Later proved 0 proved
-unfolding Later
-later-all proved r l = refl
+  pub noted-on : (numbers now : List ℕ) (layers row x : ℕ) → row < MAX-PAGE → NUMBERS-ROOM ≤ length now → x ≡ getD states row 0 → x < 65536
+      → Noted states layers row numbers now → Noted states layers (row + 1) numbers (set now (256 + row) x)
+  noted-on numbers now layers row x low long e few v =
+      record {
+        state = below-more (λ r. getD (set now (256 + row) x) (256 + r) 0 % 65536 ≡ getD states r 0) row
+            (λ r l. ap (λ (n : ℕ). n % 65536) (getD-set-other now (256 + row) (256 + r) x 0 (λ z. omega arith)) ∙ v .state r l)
+            (ap (λ (n : ℕ). n % 65536) (getD-set-same now (256 + row) x 0 (omega arith)) ∙ mod-eq-of-lt few ∙ e);
+        start = λ r l. getD-set-other now (256 + row) r x 0 (λ z. omega arith) ∙ v .start r l;
+        top = getD-set-other now (256 + row) 512 x 0 (λ z. omega arith) ∙ v .top;
+      }
 
-pub later-on : (proved : List ℕ) (row : ℕ) {a : Answer} {roots numbers roots′ numbers′ : List ℕ} → Puts roots numbers row a roots′ numbers′ → Later proved row roots → Later proved (row + 1) roots′
-unfolding Later flatAt
-later-on proved row p later r l = ap (λ (x : Answer). x .root) (p .others r (λ z. omega arith)) ∙ later r (omega arith)
+  -- the layers were noted first
+  pub noted-end : (numbers now : List ℕ) (layers n row : ℕ) → NUMBERS-ROOM ≤ length numbers → n ≤ row
+      → Noted states (getD (set numbers 512 layers) 512 0) row (set numbers 512 layers) now → Noted states layers n numbers now
+  noted-end numbers now layers n row long b v =
+      record {
+        state = λ r l. v .state r (omega arith);
+        start = λ r l. v .start r l ∙ getD-set-other numbers 512 r layers 0 (λ z. omega arith);
+        top = v .top ∙ getD-set-same numbers 512 layers 0 (omega arith);
+      }
 
-module _ (ids : List ℕ) (layers : ℕ) (starts states proved : List ℕ) where
-  pub answered-none : (roots numbers : List ℕ) → Answered ids layers starts states proved 0 roots numbers
-  unfolding Answered
-  answered-none roots numbers r l = absurd (omega arith)
+-- ---- what stands at a row
 
-  pub answered-all : (n row : ℕ) (roots numbers : List ℕ) → n ≤ row → Answered ids layers starts states proved row roots numbers → Answered ids layers starts states proved n roots numbers
-  unfolding Answered
-  answered-all n row roots numbers b v r l = v r (omega arith)
+module _ (roots numbers : List ℕ) (count row : ℕ) where
+  pub flat-past : count ≤ row → flatAnswer roots numbers count row ≡ blankAnswer
+  unfolding flatAnswer
+  flat-past b = rw (le-ltb row count b)
 
-  module _ (row : ℕ) (a : Answer) (roots numbers roots′ numbers′ : List ℕ) (p : Puts roots numbers row a roots′ numbers′) where
-    pub answered-on : a ≡ answerOf (provedAt layers (hashAt ids (32 * row)) starts states roots row) → Later proved row roots
-        → Answered ids layers starts states proved row roots numbers → Answered ids layers starts states proved (row + 1) roots′ numbers′
-    unfolding Answered Later
-    answered-on e later v =
-        below-more (λ r. flatAt roots′ numbers′ r ≡ uncarried (answerOf (provedAt layers (hashAt ids (32 * r)) starts states proved r))) row
-        (λ r l. p .others r (λ z. omega arith) ∙ v r l)
-        (p .here ∙ ap uncarried (e ∙ ap answerOf (proved-same layers (hashAt ids (32 * row)) starts states roots proved row (later row (omega arith)))))
+  module _ (low : row < count) where
+    pub flat-over : MAX-PAGE ≤ row → flatAnswer roots numbers count row ≡ blankAnswer
+    unfolding flatAnswer
+    flat-over b = rw (lt-ltb row count low, le-ltb row MAX-PAGE b)
 
--- no climb's refusal carries anything
-end-carries : (σ : Siblings) (k n j : ℕ) (c : List ℕ) (why : Rejection) → endOf c (ascend σ k n j c) ≡ refused why → why .carried ≡ 0
-unfolding ascendBy endBy
-end-carries σ k zero j c why e = let z : _≡_ {A = ℕ} 0 1 = cc in absurd (omega arith)
-end-carries σ k (suc n) j c why e = go (step (σ k (siblingPosition j)) (odd j) c) refl (λ d. end-carries σ (suc k) n (j / 2) d why)
+    module _ (few : row < MAX-PAGE) where
+      pub flat-short : length numbers < NUMBERS-ROOM → flatAnswer roots numbers count row ≡ blankAnswer
+      unfolding flatAnswer
+      flat-short b = rw (lt-ltb row count low, lt-ltb row MAX-PAGE few, lt-ltb (length numbers) NUMBERS-ROOM b)
+
+      pub flat-here : NUMBERS-ROOM ≤ length numbers → flatAnswer roots numbers count row ≡ flatAt roots numbers row
+      unfolding flatAnswer
+      flat-here b = rw (lt-ltb row count low, lt-ltb row MAX-PAGE few, le-ltb (length numbers) NUMBERS-ROOM b)
+
+-- as the code comes to it
+pub flat-row : (roots numbers : List ℕ) (row : ℕ) (root : List ℕ) {p : Proved} {a : Answer} → root ≡ hashAt roots (32 * row)
+    → p ≡ provedAt (getD numbers 512 0) (replicate 32 0) (replicate 1 (getD numbers row 0)) (replicate 1 (getD numbers (256 + row) 0 % 65536)) root 0 → a ≡ answerOf p → a ≡ flatAt roots numbers row
+unfolding flatAt
+flat-row roots numbers row root e f g =
+    g ∙ ap answerOf (f ∙ ap (λ (x : List ℕ). provedAt (getD numbers 512 0) (replicate 32 0) (replicate 1 (getD numbers row 0)) (replicate 1 (getD numbers (256 + row) 0 % 65536)) x 0) e)
+
+-- a hash by itself
+hash-own : (x : List ℕ) → length x ≡ 32 → hashAt x 0 ≡ x
+hash-own x e = hash-there x 0 (omega arith) ∙ ap (λ (n : ℕ). take n x) (sym e) ∙ take-length x
+
+-- what stands at a row is what the row says of any id
+flat-proved : (layers : ℕ) (id starts states roots numbers : List ℕ) (r : ℕ) → getD numbers 512 0 ≡ layers → getD numbers r 0 ≡ getD starts r 0 → getD numbers (256 + r) 0 % 65536 ≡ getD states r 0
+    → flatAt roots numbers r ≡ answerOf (provedAt layers id starts states roots r)
+unfolding flatAt provedAt answerOf acceptedOf
+flat-proved layers id starts states roots numbers r e f g =
+    rw (e, f, g, hash-own (hashAt roots (32 * r)) (hash-at-length roots (32 * r))) (go (eqb (getD states r 0) 0))
   where
-    go : (t : Step) → step (σ k (siblingPosition j)) (odd j) c ≡ t → ((d : List ℕ) → endOf d (ascend σ (suc k) n (j / 2) d) ≡ refused why → why .carried ≡ 0) → why .carried ≡ 0
-    go (joins a b) q above = above (sha256d (a ++ b)) (sym (ap (endOf c) (ascend-joins σ k n j c a b q)) ∙ e)
-    go (fails number) q above =
-        let w : refused (atSibling number k (siblingPosition j)) ≡ refused why = sym (ap (endOf c) (ascend-fails σ k n j c number q)) ∙ e in
-        let y : atSibling number k (siblingPosition j) ≡ why = cc in
-        ap (λ (r : Rejection). r .carried) (sym y)
-
-start-carries : (σ : Siblings) (h : ℕ) (id : List ℕ) (start : Start) → answerOf (provedOf (prove (starting σ h id start))) .carried ≡ 0
-unfolding starting proveBy settle hits provedOf acceptedOf answerOf answerBy
-start-carries σ h id Nowhere = refl
-start-carries σ h id (At i) = go (endOf id (ascend σ 0 h i id)) refl
-  where
-    go : (v : Result (List ℕ)) → endOf id (ascend σ 0 h i id) ≡ v → answerOf (provedOf (settle any (proofOf σ h i id) v)) .carried ≡ 0
-    go (accepted r) e = refl
-    go (refused why) e = end-carries σ 0 h i id why e
-
-asked-uncarried : (s ids : List ℕ) (path : Path) (row : ℕ) → uncarried (asked s ids path row) ≡ asked s ids path row
-unfolding uncarried asked pathReading
-asked-uncarried s ids path row =
-    rw (← start-carries (pathSiblings s path) (path .layers) (hashAt ids (row * 32)) (startIn s path (hashAt ids (row * 32))))
-
-right-uncarried : (s ids : List ℕ) (path : Path) (row : ℕ) (a : Answer) → a ≡ asked s ids path row → uncarried a ≡ asked s ids path row
-right-uncarried s ids path row a e = ap uncarried e ∙ asked-uncarried s ids path row
+    go : (t : Bool) → answerOf (pick t (acceptedOf (getD starts r 0) layers (replicate 32 0) (hashAt roots (32 * r))) (provedOf (refused (refusalOf (getD starts r 0) (getD states r 0)))))
+        ≡ answerOf (pick t (acceptedOf (getD starts r 0) layers id (hashAt roots (32 * r))) (provedOf (refused (refusalOf (getD starts r 0) (getD states r 0)))))
+    go true = refl
+    go false = refl
 
 -- rows that were proved by a path are right
-pub all-proved : (s ids : List ℕ) (path : Path) (n : ℕ) (starts states proved roots numbers : List ℕ) → Answered ids (path .layers) starts states proved n roots numbers
+pub all-proved : (s ids : List ℕ) (path : Path) (n : ℕ) (starts states proved numbers numbers′ : List ℕ) → n ≤ MAX-PAGE → Noted states (path .layers) n numbers numbers′ → ((r : ℕ) → r < n → getD numbers r 0 ≡ getD starts r 0)
     → ((r : ℕ) → r < n → provedAt (path .layers) (hashAt ids (32 * r)) starts states proved r ≡ provedOf (prove (pathReading s path (hashAt ids (32 * r)))))
-    → AllRight s ids path n roots numbers
-unfolding AllRight Answered asked
-all-proved s ids path n starts states proved roots numbers v f r l b =
+    → AllRight s ids path n proved numbers′
+unfolding AllRight asked
+all-proved s ids path n starts states proved numbers numbers′ few v at f r l b =
     let turn : 32 * r ≡ r * 32 = omega arith in
-    v r l ∙ right-uncarried s ids path r _ (ap answerOf (f r l) ∙ ap (λ (at : ℕ). answerOf (provedOf (prove (pathReading s path (hashAt ids at))))) turn)
+    flat-proved (path .layers) (hashAt ids (32 * r)) starts states proved numbers′ r (v .top) (v .start r (omega arith) ∙ at r l) (v .state r l)
+    ∙ ap answerOf (f r l) ∙ ap (λ (at : ℕ). answerOf (provedOf (prove (pathReading s path (hashAt ids at))))) turn
 
 -- ---- the page
 
@@ -248,12 +165,12 @@ module _ (s ids : List ℕ) (room : ℕ) where
     row-is (got b q) e all i = go (ltb i (length ids / 32)) refl
       where
         go : (t : Bool) → ltb i (length ids / 32) ≡ t
-            → pick t (pick (ltb i (length numbers / 5)) (flatAt roots numbers i) blankAnswer) blankAnswer ≡ pick t (asked s ids (bumpPath s b) i) blankAnswer
+            → pick t (pick (ltb i MAX-PAGE) (pick (ltb (length numbers) NUMBERS-ROOM) blankAnswer (flatAt roots numbers i)) blankAnswer) blankAnswer ≡ pick t (asked s ids (bumpPath s b) i) blankAnswer
         go true f =
             let l : i < length ids / 32 = ltb-true i (length ids / 32) f in
             let few = page-few s ids room b q e in
-            let inside : i < length numbers / 5 = omega arith in
-            rw (lt-ltb i (length numbers / 5) inside) (all (length ids / 32) refl i l l)
+            let inside : i < MAX-PAGE = omega arith in
+            rw (lt-ltb i MAX-PAGE inside, le-ltb (length numbers) NUMBERS-ROOM long) (all (length ids / 32) refl i l l)
         go false f = refl
     row-is (bad number place) e all i = rw (le-ltb i 0 (omega arith))
 

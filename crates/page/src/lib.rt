@@ -15,15 +15,15 @@ ghost use Rattle.spv.specs.Rows.{rows};
 ghost use Rattle.format.specs.Bump.{bumpWhole};
 ghost use Rattle.page.specs.Page.{MAX-PAGE, blankAnswer, answerOf, bumpFor, page, pagedOf, rowOf};
 ghost use Rattle.page.specs.Opening.{unopened, openingOf, countOf};
-ghost use Rattle.page.specs.Flat.{ROOTS-ROOM, NUMBERS-ROOM, flatAnswer, Puts, Copied, Answered, Levelled, AllRight};
+ghost use Rattle.page.specs.Flat.{ROOTS-ROOM, NUMBERS-ROOM, flatAnswer, Copied, Noted, Levelled, AllRight};
 
 // The most ids that a page has.
 pub const MAX_PAGE: usize = 256;
 
-// The room of the flat form: a root and five numbers for each id.
+// The room of the flat form: a root, a start and a state for each id, and the layers of all.
 const ROOTS_ROOM: usize = 8192;
 
-const NUMBERS_ROOM: usize = 1280;
+const NUMBERS_ROOM: usize = 513;
 
 // What asking for one id answers: the number of its refusal, what that carries and the layer and sibling that it names, or the id's position, the number
 // of layers and the root. What is not said is zero. Any bytes are a value of each field, so that a caller may lend any memory, and no byte lies between the fields.
@@ -138,23 +138,6 @@ fn open_page(s: &[u8], ids: &[u8], room: usize) -> Opening
     read_page(s, count)
 }
 
-// A row's answer in flat form: five numbers, and its root. What it carries is left out, which is 0 for every id.
-fn put_answer(numbers: &mut [u64], roots: &mut [u8], row: usize, answer: Answer)
-    requires { ⌜ row < MAX-PAGE ⌝ }
-    requires { ⌜ NUMBERS-ROOM ≤ length (now numbers) ⌝ }
-    requires { ⌜ ROOTS-ROOM ≤ length (now roots) ⌝ }
-    ensures { λ _. ⌜ Puts (now (roots .entry)) (now (numbers .entry)) row answer (now (roots .exit)) (now (numbers .exit)) ⌝ }
-{
-    let at = 5 * row;
-    let root = answer.root;
-    numbers[at] = answer.refusal;
-    numbers[at + 1] = answer.layer;
-    numbers[at + 2] = answer.sibling;
-    numbers[at + 3] = answer.position;
-    numbers[at + 4] = answer.layers;
-    format::set_hash(roots, row, root);
-}
-
 // The ids, where their roots are going to be.
 fn copy_ids(ids: &[u8], roots: &mut [u8])
     requires { ⌜ length (now ids) / 32 ≤ MAX-PAGE ⌝ }
@@ -169,36 +152,24 @@ fn copy_ids(ids: &[u8], roots: &mut [u8])
     }
 }
 
-// The answers of the rows that were proved, in flat form; a row's root is there already, or none.
-fn answer_rows(
-    ids: &[u8],
-    layers: usize,
-    starts: &[u64],
-    states: &[u16],
-    numbers: &mut [u64],
-    roots: &mut [u8],
-)
-    requires { ⌜ length (now ids) / 32 ≤ MAX-PAGE ⌝ }
-    requires { ⌜ NUMBERS-ROOM ≤ length (now numbers) ⌝ }
-    requires { ⌜ ROOTS-ROOM ≤ length (now roots) ⌝ }
-    ensures { λ _. ⌜ Answered (now (ids .entry)) layers (now (starts .entry)) (now (states .entry)) (now (roots .entry)) (length (now (ids .entry)) / 32) (now (roots .exit)) (now (numbers .exit)) ⌝ }
+// The states of the rows that were proved, and the layers, behind their starts.
+fn note_rows(states: &[u16], layers: usize, count: usize, numbers: &mut [u64])
+    requires { ⌜ (count ≤ MAX-PAGE) × (count ≤ length (now states)) × (NUMBERS-ROOM ≤ length (now numbers)) ⌝ }
+    ensures { λ _. ⌜ Noted (now (states .entry)) layers count (now (numbers .entry)) (now (numbers .exit)) ⌝ }
 {
-    let count = ids.len() / 32;
+    numbers[2 * MAX_PAGE] = layers as u64;
     let mut row = 0;
     while row < count {
-        let id = format::hash_at(ids, 32 * row);
-        let proved = climbs::proved_at(layers, id, starts, states, roots, row);
-        put_answer(numbers, roots, row, answer_of(proved));
+        numbers[MAX_PAGE + row] = states[row] as u64;
         row += 1;
     }
 }
 
-// All ids' answers in flat form, by climbs that are made together. There is a start for each id.
+// All ids' answers in flat form, by climbs that are made together.
 fn answer_ids(
     s: &[u8],
     ids: &[u8],
     path: Path,
-    starts: &mut [u64],
     states: &mut [u16],
     numbers: &mut [u64],
     roots: &mut [u8],
@@ -207,14 +178,21 @@ fn answer_ids(
     requires { ⌜ NUMBERS-ROOM ≤ length (now numbers) ⌝ }
     requires { ⌜ ROOTS-ROOM ≤ length (now roots) ⌝ }
     requires { ⌜ Levelled path ⌝ }
-    requires { ⌜ length (now starts) ≡ length (now ids) / 32 ⌝ }
     requires { ⌜ MAX-PAGE ≤ length (now states) ⌝ }
     ensures { λ _. ⌜ AllRight (now (s .entry)) (now (ids .entry)) path (length (now (ids .entry)) / 32) (now (roots .exit)) (now (numbers .exit)) ⌝ }
 {
     copy_ids(ids, roots);
+    let count = ids.len() / 32;
     let mut uncounted = [0u64; 0];
-    climbs::prove_all(s, path, starts, states, roots, &mut uncounted);
-    answer_rows(ids, path.layers, starts, states, numbers, roots);
+    climbs::prove_all(
+        s,
+        path,
+        &mut numbers[..count],
+        states,
+        roots,
+        &mut uncounted,
+    );
+    note_rows(states, path.layers, count, numbers);
 }
 
 fn answer_all(s: &[u8], ids: &[u8], path: Path, numbers: &mut [u64], roots: &mut [u8])
@@ -224,18 +202,8 @@ fn answer_all(s: &[u8], ids: &[u8], path: Path, numbers: &mut [u64], roots: &mut
     requires { ⌜ Levelled path ⌝ }
     ensures { λ _. ⌜ AllRight (now (s .entry)) (now (ids .entry)) path (length (now (ids .entry)) / 32) (now (roots .exit)) (now (numbers .exit)) ⌝ }
 {
-    let mut starts = [0u64; MAX_PAGE];
     let mut states = [0u16; MAX_PAGE];
-    let count = ids.len() / 32;
-    answer_ids(
-        s,
-        ids,
-        path,
-        &mut starts[..count],
-        &mut states,
-        numbers,
-        roots,
-    );
+    answer_ids(s, ids, path, &mut states, numbers, roots);
 }
 
 // A page as it is asked for, with its answers in flat form. The caller lends room for them; the tests of it stand for a `requires`, which a walk by hand
@@ -266,20 +234,19 @@ fn flat_answer(roots: &[u8], numbers: &[u64], count: usize, row: usize) -> Answe
     if count <= row {
         return blank();
     }
-    if numbers.len() / 5 <= row {
+    if MAX_PAGE <= row {
         return blank();
     }
-    let at = 5 * row;
-    let root = format::hash_at(roots, 32 * row);
-    Answer {
-        refusal: numbers[at],
-        carried: 0,
-        layer: numbers[at + 1],
-        sibling: numbers[at + 2],
-        position: numbers[at + 3],
-        layers: numbers[at + 4],
-        root,
+    if numbers.len() < NUMBERS_ROOM {
+        return blank();
     }
+    let state = numbers[MAX_PAGE + row] % 65536;
+    let starts = [numbers[row]; 1];
+    let states = [state as u16; 1];
+    let layers = numbers[2 * MAX_PAGE] as usize;
+    let root = format::hash_at(roots, 32 * row);
+    let proved = climbs::proved_at(layers, [0u8; 32], &starts, &states, &root, 0);
+    answer_of(proved)
 }
 
 // How many answers a page has.

@@ -1,25 +1,15 @@
-use mathlib.Core.Path.{sym, _∙_}
-use native.Mathlib.Omega.{arith}
 use Prim.Native.Nat.{ℕ}
+use native.Mathlib.Omega.{arith}
 use lib.ListN.{length-replicate}
-use lib.Seq.{length-take-le}
 use borrow.Author.Needs.{needs}
 use Rattle.page.proofs.answer_all.Statement.{statement}
 use Rattle.page.proofs.answer_all.Tie as tie
 
-array-borrow-prefix-starts : tie.Need-array-borrow-prefix-starts
-array-borrow-prefix-starts c = search needs
-
 slice-aggregate-answer-ids : tie.Need-slice-aggregate-answer-ids
-slice-aggregate-answer-ids c = let p = c .before .before .before .before .before .pre in sym (length-take-le _ _ (omega (arith, p .0, length-replicate {A = ℕ} 256 0)))
-
-slice-aggregate-answer-ids-2 : tie.Need-slice-aggregate-answer-ids-2
-slice-aggregate-answer-ids-2 c = search needs
+slice-aggregate-answer-ids c = search needs
 
 answer-ids-requires : tie.Need-answer-ids-requires
-answer-ids-requires c κs =
-    let p = c .before .before .before .before .before .before .before .before .pre in
-    (p .0, (p .1 .0, (p .1 .1 .0, (p .1 .1 .1, (length-take-le _ _ (omega (arith, p .0, length-replicate {A = ℕ} 256 0)), omega (arith, length-replicate {A = ℕ} 256 0))))))
+answer-ids-requires c κs = let p = c .before .before .before .before .before .before .before .pre in (p .0, (p .1 .0, (p .1 .1 .0, (p .1 .1 .1, omega (arith, length-replicate {A = ℕ} 256 0)))))
 
 same-length : tie.Need-same-length
 same-length c = search needs
@@ -34,9 +24,7 @@ pub answer-all-spec : {M : Type 1} → statement M
 answer-all-spec =
     tie.close
     (tie.spec
-    array-borrow-prefix-starts
     slice-aggregate-answer-ids
-    slice-aggregate-answer-ids-2
     answer-ids-requires
     same-length
     same-length-2

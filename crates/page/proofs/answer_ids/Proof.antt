@@ -1,9 +1,10 @@
 use Prim.Native.Nat.{ℕ, _*_, _/_, _≤_, _<_}
-use mathlib.Core.Path.{_≡_, sym, ap, _∙_}
+use mathlib.Core.Path.{_≡_, sym, _∙_}
 use mathlib.Core.Bool.{true}
-use mathlib.Core.List.{List}
+use mathlib.Core.List.{List, _++_}
 use native.Mathlib.Omega.{arith}
-use lib.ListN.{length}
+use lib.ListN.{length, getD, List·getD-append}
+use lib.Seq.{length-take-le}
 use borrow.Author.Needs.{needs}
 use borrow.Author.Tests.{le-leb}
 use Rattle.format.specs.Bytes.{hashAt}
@@ -35,17 +36,27 @@ ids-proved s ids path n starts states roots v few count each wide copied es et e
     let room = page-fits path (length starts) (length states) (length roots) v (omega arith) each wide in
     rw (es, et, er, ← copied r l) (rows-proved s path starts states roots room r (omega arith))
 
+-- the starts stand before what was behind them
+starts-first : (starts rest : List ℕ) (n : ℕ) → length starts ≡ n → (r : ℕ) → r < n → getD (starts ++ rest) r 0 ≡ getD starts r 0
+starts-first starts rest n e r l = List·getD-append starts rest 0 r (omega arith)
+
 copy-ids-requires : tie.Need-copy-ids-requires
 copy-ids-requires c κs = search needs
 
+slice-relend-prefix-prove-all : tie.Need-slice-relend-prefix-prove-all
+slice-relend-prefix-prove-all c = omega (arith, c .before .before .before .before .before .before .before .before .before .pre .0, c .before .before .before .before .before .before .before .before .before .pre .1 .0)
+
 slice-aggregate-prove-all : tie.Need-slice-aggregate-prove-all
-slice-aggregate-prove-all c = search needs
+slice-aggregate-prove-all c = sym (length-take-le _ _ (omega (arith, c .before .before .before .before .before .before .before .before .before .before .pre .0, c .before .before .before .before .before .before .before .before .before .before .pre .1 .0)))
+
+slice-aggregate-prove-all-2 : tie.Need-slice-aggregate-prove-all-2
+slice-aggregate-prove-all-2 c = search needs
 
 prove-all-requires : tie.Need-prove-all-requires
 prove-all-requires c κs = search needs
 
-answer-rows-requires : tie.Need-answer-rows-requires
-answer-rows-requires c κs = search needs
+note-rows-requires : tie.Need-note-rows-requires
+note-rows-requires c κs = (c .before .before .before .before .before .before .before .before .before .before .before .before .before .before .before .before .before .before .before .before .before .before .before .pre .0, omega (arith, c .before .before .before .before .before .before .before .before .before .before .before .before .before .before .before .before .before .before .before .before .before .before .before .pre .0, c .before .before .before .before .before .before .before .before .before .before .before .before .before .before .before .before .before .before .before .before .before .before .before .pre .1 .1 .1 .1, c .before .before .before .before .before .before .before .before .before .prove-all .kept .1 .1 .1 .0), omega (arith, c .before .before .before .before .before .before .before .before .before .before .before .before .before .before .before .before .before .before .before .before .before .before .before .pre .1 .0))
 
 same-length : tie.Need-same-length
 same-length c = search needs
@@ -56,28 +67,27 @@ same-length-2 c = search needs
 same-length-3 : tie.Need-same-length-3
 same-length-3 c = search needs
 
-same-length-4 : tie.Need-same-length-4
-same-length-4 c = search needs
-
 returns : tie.Need-returns
 returns c =
-    let a = c .before .before .before .before .before .before .before .before .before .before .before .before .before .before .before .before .before .before .before .before .before .before .before .before .before .before .before .before .before .before .before .args in
-    let q = c .before .before .before .before .before .before .before .before .before .before .before .before .before .before .before .before .before .before .before .before .before .before .before .before .before .before .before .before .before .before .before .pre in
-    let copied = c .before .before .before .before .before .before .before .before .before .before .before .before .before .before .before .before .before .before .before .before .before .before .before .copy-ids in
-    let proved = c .before .before .before .before .before .before .before .before .before .before .before .before .before .before .before .before .prove-all in
-    all-proved (a .s .now) (a .ids .now) (a .path) _ _ _ _ _ _ (c .before .before .before .before .answer-rows .ensures)
-    (ids-proved (a .s .now) (a .ids .now) (a .path) _ (a .starts .now) (a .states .now) (copied .last .1 .0) (q .1 .1 .1 .0) (q .0) (q .1 .1 .1 .1 .0) (q .1 .1 .1 .1 .1) (omega (arith, q .1 .1 .0, copied .kept .1 .0)) (copied .ensures) (proved .ensures .0) (proved .ensures .1) (proved .ensures .2))
+    let a = c .before .before .before .before .before .before .before .before .before .before .before .before .before .before .before .before .before .before .before .before .before .before .before .before .before .before .args in
+    let q = c .before .before .before .before .before .before .before .before .before .before .before .before .before .before .before .before .before .before .before .before .before .before .before .before .before .before .pre in
+    let copied = c .before .before .before .before .before .before .before .before .before .before .before .before .before .before .before .before .before .before .before .copy-ids in
+    let proved = c .before .before .before .before .before .before .before .before .before .before .before .before .prove-all in
+    let count = length-take-le (length (a .ids .now) / 32) (a .numbers .now) (omega (arith, q .0, q .1 .0)) in
+    all-proved (a .s .now) (a .ids .now) (a .path) (length (a .ids .now) / 32) (proved .last .1 .1 .0) _ _ _ _ (q .0) (c .before .before .note-rows .ensures) (starts-first (proved .last .1 .1 .0) _ (length (a .ids .now) / 32) (proved .kept .1 .1 .0 ∙ count))
+    (ids-proved (a .s .now) (a .ids .now) (a .path) _ _ (a .states .now) (copied .last .1 .0) (q .1 .1 .1 .0) (q .0) count (q .1 .1 .1 .1) (omega (arith, q .1 .1 .0, copied .kept .1 .0)) (copied .ensures) (proved .ensures .0) (proved .ensures .1) (proved .ensures .2))
 
 pub answer-ids-spec : {M : Type 1} → statement M
 answer-ids-spec =
     tie.close
     (tie.spec
     copy-ids-requires
+    slice-relend-prefix-prove-all
     slice-aggregate-prove-all
+    slice-aggregate-prove-all-2
     prove-all-requires
-    answer-rows-requires
+    note-rows-requires
     same-length
     same-length-2
     same-length-3
-    same-length-4
     returns)

@@ -1,6 +1,5 @@
-use mathlib.Core.Path.{_∙_}
-use borrow.Author.Tests.{lt-ltb, le-ltb}
-use Rattle.page.specs.Flat.{flatAt, flatAnswer}
+use mathlib.Core.Path.{sym, _∙_}
+use Rattle.page.specs.FlatLaws.{flat-past, flat-over, flat-short, flat-here, flat-row}
 use borrow.Author.Needs.{needs}
 use Rattle.page.proofs.flat_answer.Statement.{statement}
 use Rattle.page.proofs.flat_answer.Tie as tie
@@ -9,18 +8,46 @@ blank-requires : tie.Need-blank-requires
 blank-requires c κs = search needs
 
 returns : tie.Need-returns
-unfolding flatAnswer
-returns c = c .blank .ensures ∙ simp (le-ltb _ _ (c .before .if1 .taken))
+returns c = c .blank .ensures ∙ sym (flat-past (c .before .before .before .before .args .roots .now) (c .before .before .before .before .args .numbers .now) (c .before .before .before .before .args .count) (c .before .before .before .before .args .row) (c .before .if1 .taken))
 
 blank-requires-2 : tie.Need-blank-requires-2
 blank-requires-2 c κs = search needs
 
 returns-2 : tie.Need-returns-2
-unfolding flatAnswer
-returns-2 c = c .blank2 .ensures ∙ simp (lt-ltb _ _ (c .before .before .if1 .left), le-ltb _ _ (c .before .if2 .taken))
+returns-2 c = c .blank2 .ensures ∙ sym (flat-over (c .before .before .before .before .before .args .roots .now) (c .before .before .before .before .before .args .numbers .now) (c .before .before .before .before .before .args .count) (c .before .before .before .before .before .args .row) (c .before .before .if1 .left) (c .before .if2 .taken))
 
-mul-at : tie.Need-mul-at
-mul-at c = search needs
+blank-requires-3 : tie.Need-blank-requires-3
+blank-requires-3 c κs = search needs
+
+returns-3 : tie.Need-returns-3
+returns-3 c = c .blank3 .ensures ∙ sym (flat-short (c .before .before .before .before .before .before .args .roots .now) (c .before .before .before .before .before .before .args .numbers .now) (c .before .before .before .before .before .before .args .count) (c .before .before .before .before .before .before .args .row) (c .before .before .before .if1 .left) (c .before .before .if2 .left) (c .before .if3 .taken))
+
+add-state : tie.Need-add-state
+add-state c = search needs
+
+mul-state : tie.Need-mul-state
+mul-state c = search needs
+
+shared-slice-read-state : tie.Need-shared-slice-read-state
+shared-slice-read-state c = search needs
+
+mul-layers : tie.Need-mul-layers
+mul-layers c = search needs
+
+shared-slice-read-layers : tie.Need-shared-slice-read-layers
+shared-slice-read-layers c = search needs
+
+cast-t17 : tie.Need-cast-t17
+cast-t17 c = search needs
+
+mul-layers-2 : tie.Need-mul-layers-2
+mul-layers-2 c = search needs
+
+mul-layers-3 : tie.Need-mul-layers-3
+mul-layers-3 c = search needs
+
+shared-slice-read-layers-2 : tie.Need-shared-slice-read-layers-2
+shared-slice-read-layers-2 c = search needs
 
 mul-hash-at : tie.Need-mul-hash-at
 mul-hash-at c = search needs
@@ -28,51 +55,23 @@ mul-hash-at c = search needs
 hash-at-requires : tie.Need-hash-at-requires
 hash-at-requires c κs = search needs
 
-mul-t9 : tie.Need-mul-t9
-mul-t9 c = search needs
+slice-aggregate-proved-at : tie.Need-slice-aggregate-proved-at
+slice-aggregate-proved-at c = search needs
 
-shared-slice-read-t11 : tie.Need-shared-slice-read-t11
-shared-slice-read-t11 c = search needs
+slice-aggregate-proved-at-2 : tie.Need-slice-aggregate-proved-at-2
+slice-aggregate-proved-at-2 c = search needs
 
-add-t8 : tie.Need-add-t8
-add-t8 c = search needs
+slice-aggregate-proved-at-3 : tie.Need-slice-aggregate-proved-at-3
+slice-aggregate-proved-at-3 c = search needs
 
-mul-t12 : tie.Need-mul-t12
-mul-t12 c = search needs
+proved-at-requires : tie.Need-proved-at-requires
+proved-at-requires c κs = search needs
 
-shared-slice-read-t14 : tie.Need-shared-slice-read-t14
-shared-slice-read-t14 c = search needs
+answer-of-requires : tie.Need-answer-of-requires
+answer-of-requires c κs = search needs
 
-add-t15 : tie.Need-add-t15
-add-t15 c = search needs
-
-mul-t16 : tie.Need-mul-t16
-mul-t16 c = search needs
-
-shared-slice-read-t18 : tie.Need-shared-slice-read-t18
-shared-slice-read-t18 c = search needs
-
-add-t19 : tie.Need-add-t19
-add-t19 c = search needs
-
-mul-t20 : tie.Need-mul-t20
-mul-t20 c = search needs
-
-shared-slice-read-t22 : tie.Need-shared-slice-read-t22
-shared-slice-read-t22 c = search needs
-
-add-t23 : tie.Need-add-t23
-add-t23 c = search needs
-
-mul-t24 : tie.Need-mul-t24
-mul-t24 c = search needs
-
-shared-slice-read-t26 : tie.Need-shared-slice-read-t26
-shared-slice-read-t26 c = search needs
-
-returns-3 : tie.Need-returns-3
-unfolding flatAnswer flatAt
-returns-3 c = rw (c .before .before .before .before .before .hash-at .ensures) (simp (lt-ltb _ _ (c .before .before .before .before .before .before .before .if1 .left), lt-ltb _ _ (c .before .before .before .before .before .before .if2 .left)))
+returns-4 : tie.Need-returns-4
+returns-4 c = flat-row (c .before .before .before .before .before .before .before .before .before .before .before .before .before .before .args .roots .now) (c .before .before .before .before .before .before .before .before .before .before .before .before .before .before .args .numbers .now) (c .before .before .before .before .before .before .before .before .before .before .before .before .before .before .args .row) _ (c .before .before .before .before .before .hash-at .ensures) (c .before .proved-at .ensures) (c .answer-of .ensures) ∙ sym (flat-here (c .before .before .before .before .before .before .before .before .before .before .before .before .before .before .args .roots .now) (c .before .before .before .before .before .before .before .before .before .before .before .before .before .before .args .numbers .now) (c .before .before .before .before .before .before .before .before .before .before .before .before .before .before .args .count) (c .before .before .before .before .before .before .before .before .before .before .before .before .before .before .args .row) (c .before .before .before .before .before .before .before .before .before .before .before .if1 .left) (c .before .before .before .before .before .before .before .before .before .before .if2 .left) (c .before .before .before .before .before .before .before .before .before .if3 .left))
 
 pub flat-answer-spec : {M : Type 1} → statement M
 flat-answer-spec =
@@ -82,21 +81,22 @@ flat-answer-spec =
     returns
     blank-requires-2
     returns-2
-    mul-at
+    blank-requires-3
+    returns-3
+    add-state
+    mul-state
+    shared-slice-read-state
+    mul-layers
+    shared-slice-read-layers
+    cast-t17
+    mul-layers-2
+    mul-layers-3
+    shared-slice-read-layers-2
     mul-hash-at
     hash-at-requires
-    mul-t9
-    shared-slice-read-t11
-    add-t8
-    mul-t12
-    shared-slice-read-t14
-    add-t15
-    mul-t16
-    shared-slice-read-t18
-    add-t19
-    mul-t20
-    shared-slice-read-t22
-    add-t23
-    mul-t24
-    shared-slice-read-t26
-    returns-3)
+    slice-aggregate-proved-at
+    slice-aggregate-proved-at-2
+    slice-aggregate-proved-at-3
+    proved-at-requires
+    answer-of-requires
+    returns-4)

@@ -100,8 +100,8 @@ sized n l e = sym (e ∙ length-replicate n 0)
 room₄ : (l : List ℕ) → length l ≡ length (zeros 8192) → Room u8 (length l)
 room₄ l e = subst (Room u8) (sized 8192 l e) (lit< tt, lit< tt)
 
-room₅ : (l : List ℕ) → length l ≡ length (zeros 1280) → Room u64 (length l)
-room₅ l e = subst (Room u64) (sized 1280 l e) (lit< tt, lit< tt)
+room₅ : (l : List ℕ) → length l ≡ length (zeros 513) → Room u64 (length l)
+room₅ l e = subst (Room u64) (sized 513 l e) (lit< tt, lit< tt)
 
 -- the contracts that the proof cites
 abbrev G : {M : Type 1} (𝓤 : URA M) (H : Heap 𝓤) (A : Atoms 𝓤) (mem : Memory → SProp 𝓤) (run : Routine → Fun 𝓤) → Contract 𝓤
@@ -201,7 +201,7 @@ module _ {M : Type 1} (𝓤 : URA M) (H : Heap 𝓤) (A : Atoms 𝓤) (W : Given
   Told r roots numbers = (r ≡ pagedOf wanted) × (rows (flatAnswer roots numbers (countOf r)) len ≡ rowOf wanted len)
 
   abbrev Outcome : Paged → List ℕ → List ℕ → Type 0
-  Outcome r roots numbers = 8192 ≤ length (zeros 8192) → 1280 ≤ length (zeros 1280) → Told r roots numbers
+  Outcome r roots numbers = 8192 ≤ length (zeros 8192) → 513 ≤ length (zeros 513) → Told r roots numbers
 
   -- ---- the call of `count_of`
   abbrev to-count : Paged → Val → Q 𝓤 H A mem run .Ghost
@@ -257,28 +257,28 @@ module _ {M : Type 1} (𝓤 : URA M) (H : Heap 𝓤) (A : Atoms 𝓤) (W : Given
         peeks ! (Array u8 8192) (Is (Array u8 8192)) (shows 𝓤 H A (Array u8 8192)) (zeros 8192) (arrayVal (replicate 8192 (vint w8 0)) ∷ []) (λ ga.
         assigns ! (rep ! 8192 (lit ! {w = w8} {n = 0} tt)) (from ! (stop !)) (init ! 38 refl (array-lawful 𝓤 H A W u8 (uint-lawful 𝓤 H A W w8) 8192 .typed (zeros 8192) _ ga .0)) $
         owned ! u64 (Is u64) (uint-makes 𝓤 H A W w64) 0 _ (refl, lit< tt) $
-        use1 W (‵ (Array u64 1280 .own (zeros 1280) (arrayVal (replicate 1280 (vint w64 0)) ∷ []))) (array-repeat 𝓤 H A W u64 (uint-copy 𝓤 H A W w64) 1280 0 (vint w64 0)) $
-        peeks ! (Array u64 1280) (Is (Array u64 1280)) (shows 𝓤 H A (Array u64 1280)) (zeros 1280) (arrayVal (replicate 1280 (vint w64 0)) ∷ []) (λ gb.
-        assigns ! (rep ! 1280 (lit ! {w = w64} {n = 0} tt)) (from ! (stop !)) (init ! 37 refl (array-lawful 𝓤 H A W u64 (uint-lawful 𝓤 H A W w64) 1280 .typed (zeros 1280) _ gb .0)) $
+        use1 W (‵ (Array u64 513 .own (zeros 513) (arrayVal (replicate 513 (vint w64 0)) ∷ []))) (array-repeat 𝓤 H A W u64 (uint-copy 𝓤 H A W w64) 513 0 (vint w64 0)) $
+        peeks ! (Array u64 513) (Is (Array u64 513)) (shows 𝓤 H A (Array u64 513)) (zeros 513) (arrayVal (replicate 513 (vint w64 0)) ∷ []) (λ gb.
+        assigns ! (rep ! 513 (lit ! {w = w64} {n = 0} tt)) (from ! (stop !)) (init ! 37 refl (array-lawful 𝓤 H A W u64 (uint-lawful 𝓤 H A W w64) 513 .typed (zeros 513) _ gb .0)) $
         -- [what the arrays own; ids; ids; input; input; ids' token; the row's; input's; the row; true; _18; …]
         assigns ! (of-opd ! (load ! (from ! (fld ! refl (stop !))) (look-in ! 41 (sub ! 1 refl (whole !))))) (from ! (stop !)) (init ! 33 refl (tt, record { fits = room .0 })) $
         assigns ! (addr ! (from ! (stop !))) (from ! (stop !)) (init ! 31 refl (tt, tt)) $
         assigns ! (agg ! (and-then ! (load ! (from ! (stop !)) (look ! 31 refl)) (and-then ! (big-lit ! (record { fits = lit< tt })) (no-more !)))) (from ! (stop !)) (init ! 29 refl (tt, (tt, (record { fits = lit< tt }, tt)))) $
         rewrite ! 29 (λ (m : ℕ). ‵ (fat fullShare (ty 9) l₉ 0 (sliceVal (l₄, 0) m))) (sized 8192 (zeros 8192) refl) refl $
         assigns ! (addr ! (from ! (stop !))) (from ! (stop !)) (init ! 27 refl (tt, tt)) $
-        assigns ! (agg ! (and-then ! (load ! (from ! (stop !)) (look ! 27 refl)) (and-then ! (big-lit ! (record { fits = lit< tt })) (no-more !)))) (from ! (stop !)) (init ! 25 refl (tt, (tt, (record { fits = lit< tt }, tt)))) $
-        rewrite ! 25 (λ (m : ℕ). ‵ (fat fullShare (ty 11) l₁₁ 0 (sliceVal (l₅, 0) m))) (sized 1280 (zeros 1280) refl) refl $
+        assigns ! (agg ! (and-then ! (load ! (from ! (stop !)) (look ! 27 refl)) (and-then ! (lit ! {w = w64} {n = 513} tt) (no-more !)))) (from ! (stop !)) (init ! 25 refl (tt, (tt, (record { fits = lit< tt }, tt)))) $
+        rewrite ! 25 (λ (m : ℕ). ‵ (fat fullShare (ty 11) l₁₁ 0 (sliceVal (l₅, 0) m))) (sized 513 (zeros 513) refl) refl $
         -- and lent for ν and μ
         move ! (39 ∷ 1 ∷ []) $ use2 W (‵ (row u8 fullShare (zeros 8192) l₄ 0)) (row-out 𝓤 H A W u8 (zeros 8192) l₄ 0 tt 8192 (arrayVal (replicate 8192 (vint w8 0)))) $
-        move ! (37 ∷ 1 ∷ []) $ use2 W (‵ (row u64 fullShare (zeros 1280) l₅ 0)) (row-out 𝓤 H A W u64 (zeros 1280) l₅ 0 tt 1280 (arrayVal (replicate 1280 (vint w64 0)))) $
+        move ! (37 ∷ 1 ∷ []) $ use2 W (‵ (row u64 fullShare (zeros 513) l₅ 0)) (row-out 𝓤 H A W u64 (zeros 513) l₅ 0 tt 513 (arrayVal (replicate 513 (vint w64 0)))) $
         lft-new ! tt (λ ν. move ! (2 ∷ []) $ use1 W (later (some (λ (γ′ : GName). ‵ (M₄ ν l₄ γ′ (zeros 8192)) ⊛ ‵ (flent (ν ∷ []) (Held u8 (length (zeros 8192)) l₄ 0 γ′))))) (row-lend 𝓤 H A W u8 (zeros 8192) l₄ 0 (named 2) (ν ∷ []) (room₄ (zeros 8192) refl)) $ await ! tt $ pick ! (λ γ′. split ! $
-        lft-new ! tt (λ μ. move ! (4 ∷ []) $ use1 W (later (some (λ (δ : GName). ‵ (M₅ μ l₅ δ (zeros 1280)) ⊛ ‵ (flent (μ ∷ []) (Held u64 (length (zeros 1280)) l₅ 0 δ))))) (row-lend 𝓤 H A W u64 (zeros 1280) l₅ 0 (named 3) (μ ∷ []) (room₅ (zeros 1280) refl)) $ await ! tt $ pick ! (λ δ. split ! $
+        lft-new ! tt (λ μ. move ! (4 ∷ []) $ use1 W (later (some (λ (δ : GName). ‵ (M₅ μ l₅ δ (zeros 513)) ⊛ ‵ (flent (μ ∷ []) (Held u64 (length (zeros 513)) l₅ 0 δ))))) (row-lend 𝓤 H A W u64 (zeros 513) l₅ 0 (named 3) (μ ∷ []) (room₅ (zeros 513) refl)) $ await ! tt $ pick ! (λ δ. split ! $
         -- [numbers; its lender's part; μ's token; roots; its lender's part; ν's token; ids; ids; input; input; ids' token; the row's; input's; the row; true; _18; …]
-        move ! (12 ∷ 10 ∷ 5 ∷ 2 ∷ 8 ∷ 6 ∷ 3 ∷ 0 ∷ []) $ cut (‵ (flft κ₀ q₀) ∷ ‵ (flft κ₁ q₁) ∷ ‵ (flft (ν ∷ []) fullShare) ∷ ‵ (flft (μ ∷ []) fullShare) ∷ ‵ I ∷ ‵ N ∷ ‵ (M₄ ν l₄ γ′ (zeros 8192)) ∷ ‵ (M₅ μ l₅ δ (zeros 1280)) ∷ []) (raw (G 𝓤 H A mem run .pre (to-answered ν μ l₄ l₅ γ′ δ (zeros 8192) (zeros 1280))) ∷ []) _ (asks-answered ν μ l₄ l₅ γ′ δ (zeros 8192) (zeros 1280)) $
+        move ! (12 ∷ 10 ∷ 5 ∷ 2 ∷ 8 ∷ 6 ∷ 3 ∷ 0 ∷ []) $ cut (‵ (flft κ₀ q₀) ∷ ‵ (flft κ₁ q₁) ∷ ‵ (flft (ν ∷ []) fullShare) ∷ ‵ (flft (μ ∷ []) fullShare) ∷ ‵ I ∷ ‵ N ∷ ‵ (M₄ ν l₄ γ′ (zeros 8192)) ∷ ‵ (M₅ μ l₅ δ (zeros 513)) ∷ []) (raw (G 𝓤 H A mem run .pre (to-answered ν μ l₄ l₅ γ′ δ (zeros 8192) (zeros 513))) ∷ []) _ (asks-answered ν μ l₄ l₅ γ′ δ (zeros 8192) (zeros 513)) $
         -- [what the call asks; the lender's parts; ids; input; the row's token; the row; true; _18; …; _6; …; … of _5; … of _4; _3; …]
-        calls-at ! fm (G 𝓤 H A mem run) known (to-answered ν μ l₄ l₅ γ′ δ (zeros 8192) (zeros 1280)) (and-then ! (load ! (from ! (stop !)) (look ! 40 refl)) (and-then ! (load ! (from ! (stop !)) (look ! 38 refl)) (and-then ! (load ! (from ! (stop !)) (look ! 30 refl)) (and-then ! (load ! (from ! (stop !)) (look ! 26 refl)) (and-then ! (load ! (from ! (stop !)) (look ! 22 refl)) (no-more !)))))) (λ w.
-        use1 W (later (some (λ (r : Paged). ((‵ (flft κ₀ q₀) ⊛ ‵ (flft κ₁ q₁) ⊛ ‵ (flft (ν ∷ []) fullShare) ⊛ ‵ (flft (μ ∷ []) fullShare) ⊛ ‵ ftrue) ⊛ ‵ (E.the-row .own r (w ∷ []))) ⊛ raw (ensured 𝓤 H A g.ended (g.clauses 𝓤 H A mem run) (κ₀, (κ₁, (ν ∷ [], (μ ∷ [], tt)))) (a₁ ν μ l₄ l₅ γ′ δ (zeros 8192) (zeros 1280)) tt r)))) (id⊢ 𝓤 _) $ await ! tt $ pick ! (λ r. split ! $
-        move ! (1 ∷ []) $ use1 W (some (λ (us : Unit {0} × (Unit {0} × (Unit {0} × (List ℕ × (List ℕ × Unit {0}))))). ‵ (lasts g.ended (κ₀, (κ₁, (ν ∷ [], (μ ∷ [], tt)))) (a₁ ν μ l₄ l₅ γ′ δ (zeros 8192) (zeros 1280)) us) ⊛ raw (fact 𝓤 (Outcome r (us .1 .1 .1 .0) (us .1 .1 .1 .1 .0))))) (id⊢ 𝓤 _) $ pick ! (λ us. split ! $ move ! (1 ∷ []) $
+        calls-at ! fm (G 𝓤 H A mem run) known (to-answered ν μ l₄ l₅ γ′ δ (zeros 8192) (zeros 513)) (and-then ! (load ! (from ! (stop !)) (look ! 40 refl)) (and-then ! (load ! (from ! (stop !)) (look ! 38 refl)) (and-then ! (load ! (from ! (stop !)) (look ! 30 refl)) (and-then ! (load ! (from ! (stop !)) (look ! 26 refl)) (and-then ! (load ! (from ! (stop !)) (look ! 22 refl)) (no-more !)))))) (λ w.
+        use1 W (later (some (λ (r : Paged). ((‵ (flft κ₀ q₀) ⊛ ‵ (flft κ₁ q₁) ⊛ ‵ (flft (ν ∷ []) fullShare) ⊛ ‵ (flft (μ ∷ []) fullShare) ⊛ ‵ ftrue) ⊛ ‵ (E.the-row .own r (w ∷ []))) ⊛ raw (ensured 𝓤 H A g.ended (g.clauses 𝓤 H A mem run) (κ₀, (κ₁, (ν ∷ [], (μ ∷ [], tt)))) (a₁ ν μ l₄ l₅ γ′ δ (zeros 8192) (zeros 513)) tt r)))) (id⊢ 𝓤 _) $ await ! tt $ pick ! (λ r. split ! $
+        move ! (1 ∷ []) $ use1 W (some (λ (us : Unit {0} × (Unit {0} × (Unit {0} × (List ℕ × (List ℕ × Unit {0}))))). ‵ (lasts g.ended (κ₀, (κ₁, (ν ∷ [], (μ ∷ [], tt)))) (a₁ ν μ l₄ l₅ γ′ δ (zeros 8192) (zeros 513)) us) ⊛ raw (fact 𝓤 (Outcome r (us .1 .1 .1 .0) (us .1 .1 .1 .1 .0))))) (id⊢ 𝓤 _) $ pick ! (λ us. split ! $ move ! (1 ∷ []) $
         heard ! (Outcome r (us .1 .1 .1 .0) (us .1 .1 .1 .1 .0)) (λ e. fsplit ! $ drop ! $ fsplit ! $ drop ! $ fsplit ! $ drop ! $ fsplit ! $ fsplit ! $ move ! (1 ∷ []) $ feqL ! (λ e₄. move ! (1 ∷ []) $ fsplit ! $ fsplit ! $ move ! (1 ∷ []) $ feqL ! (λ e₅.
         -- [the last numbers; true; the last roots; the tokens and what it answers; the lender's parts; ids; input; the row's token; the row; true; _18; …]
         move ! (3 ∷ []) $ split ! $ move ! (1 ∷ []) $ peeks ! E.the-row (Is E.the-row) (shows 𝓤 H A E.the-row) r (w ∷ []) (λ is. drop ! $
@@ -287,7 +287,7 @@ module _ {M : Type 1} (𝓤 : URA M) (H : Heap 𝓤) (A : Atoms 𝓤) (W : Given
         split ! $ move ! (1 ∷ []) $ split ! $ move ! (1 ∷ []) $ split ! $ lft-end ! tt $
         move ! (0 ∷ 8 ∷ 6 ∷ []) $ use3 W (later (‵ (row u8 fullShare (us .1 .1 .1 .0) l₄ 0))) (row-back 𝓤 H A W u8 (us .1 .1 .1 .0) l₄ 0 (ν ∷ []) γ′ (length (zeros 8192))) $ await ! tt $
         move ! (1 ∷ []) $ split ! $ lft-end ! tt $
-        move ! (0 ∷ 7 ∷ 5 ∷ []) $ use3 W (later (‵ (row u64 fullShare (us .1 .1 .1 .1 .0) l₅ 0))) (row-back 𝓤 H A W u64 (us .1 .1 .1 .1 .0) l₅ 0 (μ ∷ []) δ (length (zeros 1280))) $ await ! tt $
+        move ! (0 ∷ 7 ∷ 5 ∷ []) $ use3 W (later (‵ (row u64 fullShare (us .1 .1 .1 .1 .0) l₅ 0))) (row-back 𝓤 H A W u64 (us .1 .1 .1 .1 .0) l₅ 0 (μ ∷ []) δ (length (zeros 513))) $ await ! tt $
         -- [numbers; true; roots; ids' token; input's; true; ids; input; the row's token; the row; true; _18; …]
         assigns ! (addr ! (from ! (fld ! refl (hop ! (look-in ! 39 (sub ! 0 refl (whole !))) (stop !))))) (from ! (stop !)) (init ! 21 refl (tt, tt)) $
         assigns ! (agg ! (and-then ! (load ! (from ! (stop !)) (look ! 21 refl)) (and-then ! (load ! (from ! (fld ! refl (stop !))) (look-in ! 39 (sub ! 1 refl (whole !)))) (no-more !)))) (from ! (stop !)) (init ! 19 refl (tt, (tt, (record { fits = room .0 }, tt)))) $
@@ -295,8 +295,8 @@ module _ {M : Type 1} (𝓤 : URA M) (H : Heap 𝓤) (A : Atoms 𝓤) (W : Given
         assigns ! (agg ! (and-then ! (load ! (from ! (stop !)) (look ! 17 refl)) (and-then ! (big-lit ! (record { fits = lit< tt })) (no-more !)))) (from ! (stop !)) (init ! 15 refl (tt, (tt, (record { fits = lit< tt }, tt)))) $
         rewrite ! 15 (λ (m : ℕ). ‵ (fat fullShare (ty 16) l₁₆ 0 (sliceVal (l₄, 0) m))) (sized 8192 (us .1 .1 .1 .0) e₄) refl $
         assigns ! (addr ! (from ! (stop !))) (from ! (stop !)) (init ! 13 refl (tt, tt)) $
-        assigns ! (agg ! (and-then ! (load ! (from ! (stop !)) (look ! 13 refl)) (and-then ! (big-lit ! (record { fits = lit< tt })) (no-more !)))) (from ! (stop !)) (init ! 11 refl (tt, (tt, (record { fits = lit< tt }, tt)))) $
-        rewrite ! 11 (λ (m : ℕ). ‵ (fat fullShare (ty 18) l₁₈ 0 (sliceVal (l₅, 0) m))) (sized 1280 (us .1 .1 .1 .1 .0) e₅) refl $
+        assigns ! (agg ! (and-then ! (load ! (from ! (stop !)) (look ! 13 refl)) (and-then ! (lit ! {w = w64} {n = 513} tt) (no-more !)))) (from ! (stop !)) (init ! 11 refl (tt, (tt, (record { fits = lit< tt }, tt)))) $
+        rewrite ! 11 (λ (m : ℕ). ‵ (fat fullShare (ty 18) l₁₈ 0 (sliceVal (l₅, 0) m))) (sized 513 (us .1 .1 .1 .1 .0) e₅) refl $
         -- the call of `count_of`
         use0 W (raw (Q 𝓤 H A mem run .pre (to-count r w))) (asks-count r w is) $
         calls-at ! fm (Q 𝓤 H A mem run) counted (to-count r w) (and-then ! (load ! (from ! (stop !)) (look ! 36 refl)) (no-more !)) (λ v.
@@ -322,13 +322,13 @@ module _ {M : Type 1} (𝓤 : URA M) (H : Heap 𝓤) (A : Atoms 𝓤) (W : Given
         move ! (0 ∷ 6 ∷ []) $ use2 W (later (‵ (row u8 fullShare (us .1 .1 .1 .0) l₄ 0))) (share-back 𝓤 H A W u8 (us .1 .1 .1 .0) l₄ 0 (ν₂ ∷ [])) $ await ! tt $
         move ! (1 ∷ []) $ split ! $ lft-end ! tt $
         move ! (0 ∷ 6 ∷ []) $ use2 W (later (‵ (row u64 fullShare (us .1 .1 .1 .1 .0) l₅ 0))) (share-back 𝓤 H A W u64 (us .1 .1 .1 .1 .0) l₅ 0 (μ₂ ∷ [])) $ await ! tt $
-        use1 W (‵ (fat fullShare (ty 5) l₅ 0 (only (array-vals (uint-vals w64) (us .1 .1 .1 .1 .0))))) (row-in 𝓤 H A W u64 (us .1 .1 .1 .1 .0) l₅ 0 1280 (sym (sized 1280 (us .1 .1 .1 .1 .0) e₅)) (uint-vals w64) (uint-tells w64)) $
+        use1 W (‵ (fat fullShare (ty 5) l₅ 0 (only (array-vals (uint-vals w64) (us .1 .1 .1 .1 .0))))) (row-in 𝓤 H A W u64 (us .1 .1 .1 .1 .0) l₅ 0 513 (sym (sized 513 (us .1 .1 .1 .1 .0) e₅)) (uint-vals w64) (uint-tells w64)) $
         move ! (2 ∷ []) $ use1 W (‵ (fat fullShare (ty 4) l₄ 0 (only (array-vals (uint-vals w8) (us .1 .1 .1 .0))))) (row-in 𝓤 H A W u8 (us .1 .1 .1 .0) l₄ 0 8192 (sym (sized 8192 (us .1 .1 .1 .0) e₄)) (uint-vals w8) (uint-tells w8)) $
         -- [_4; _5; true; the row's token; the last list; true; true; ids' token; input's; true; ids; input; true; _18; …; _6; …; … of _5; … of _4; _3; …; _2; …; _1; …; _0; …]
         assigns ! (of-opd ! (load ! (from ! (stop !)) (look ! 37 refl))) (from ! (stop !)) (init ! 47 refl (EL.lawful E.the-type E′.the-laws 𝓤 H A W tt .typed r (w ∷ []) is .0)) $
         returns ! (look ! 47 refl) $ forget ! 0 refl $ forget ! 1 refl $ forget ! 13 refl $ forget ! 15 refl $ forget ! 17 refl $ forget ! 19 refl $ forget ! 21 refl $ forget ! 23 refl $ forget ! 25 refl $ forget ! 27 refl $ forget ! 29 refl $ forget ! 31 refl $ forget ! 33 refl $ forget ! 35 refl $ forget ! 37 refl $ forget ! 41 refl $ forget ! 43 refl $ forget ! 45 refl $ forget ! 47 refl $
         move ! (47 ∷ 48 ∷ []) $ free1 ! $ move ! (45 ∷ 46 ∷ []) $ free1 ! $ move ! (43 ∷ 44 ∷ []) $ free1 ! $ move ! (41 ∷ 42 ∷ []) $ free1 ! $ move ! (0 ∷ 40 ∷ []) $ free1 ! $ move ! (0 ∷ 38 ∷ []) $ free1 ! $ move ! (35 ∷ 36 ∷ []) $ free1 ! $ move ! (33 ∷ 34 ∷ []) $ free1 ! $ move ! (31 ∷ 32 ∷ []) $ free1 ! $ move ! (29 ∷ 30 ∷ []) $ free1 ! $ move ! (27 ∷ 28 ∷ []) $ free1 ! $ move ! (25 ∷ 26 ∷ []) $ free1 ! $ move ! (23 ∷ 24 ∷ []) $ free1 ! $ move ! (21 ∷ 22 ∷ []) $ free1 ! $ move ! (19 ∷ 20 ∷ []) $ free1 ! $ move ! (17 ∷ 18 ∷ []) $ free1 ! $ move ! (15 ∷ 16 ∷ []) $ free1 ! $ move ! (13 ∷ 14 ∷ []) $ free1 ! $ move ! (11 ∷ 12 ∷ []) $ free1 ! $ free0 ! $
-        keep ! (1 ∷ 2 ∷ 5 ∷ 6 ∷ 8 ∷ 9 ∷ []) $ by ! (exits r w is (us .1 .1 .1 .0) (us .1 .1 .1 .1 .0) (e (all 8192) (all 1280)) n c (zs .0) l d))))))))))))))))))))))))))))))))))))))))))))))))
+        keep ! (1 ∷ 2 ∷ 5 ∷ 6 ∷ 8 ∷ 9 ∷ []) $ by ! (exits r w is (us .1 .1 .1 .0) (us .1 .1 .1 .1 .0) (e (all 8192) (all 513)) n c (zs .0) l d))))))))))))))))))))))))))))))))))))))))))))))))
 
 module _ {M : Type 1} (𝓤 : URA M) (H : Heap 𝓤) (A : Atoms 𝓤) (W : Given 𝓤 H A) (mem : Memory → SProp 𝓤) (run : Routine → Fun 𝓤) where
   prove-page-walks : (C : Calls 𝓤 H) (Λ : Loops 𝓤 H) → FmC 𝓤 H (W .laws) C → Triple 𝓤 (C #page·answer-flat) (G 𝓤 H A mem run) → Triple 𝓤 (C #page·fill) (K 𝓤 H A mem run) → Triple 𝓤 (C #page·count-of) (Q 𝓤 H A mem run) → Walks 𝓤 H A f.ended stayed (WpFn 𝓤 H C Λ code.function) (f.clauses 𝓤 H A mem run)
