@@ -215,6 +215,84 @@ static inline const char *barrowtide_refusal_name(uint32_t number)
     return number < sizeof names / sizeof names[0] ? names[number] : "UNKNOWN";
 }
 
+/* What a refusal means, in a few words: "bytes end inside a field" of 2; "accepted" of 0, and "unknown
+   refusal" of numbers above 30. docs/REFUSALS.md says of each who has to do what. */
+static inline const char *barrowtide_refusal_words(uint32_t number)
+{
+    static const char *const words[] = {
+        "accepted",
+        "input over its size",
+        "bytes end inside a field",
+        "VarInt not in its shortest form",
+        "tree height outside its range",
+        "count, list or block height outside its limits",
+        "offset, index or position outside its layer",
+        "flags, node type or BEEF byte not allowed",
+        "offset again in its level",
+        "bytes left after the end",
+        "first four bytes not BEEF's",
+        "no inputs, no outputs, 64 bytes, or not the stated length",
+        "BEEF with no transaction",
+        "id not at level 0, or none chosen",
+        "sibling not written and not to be worked out",
+        "sibling equal to the working hash at an odd position",
+        "roots differ",
+        "root not in the list",
+        "BUMP number not below the count",
+        "id equal to an earlier one",
+        "an input without earlier parent",
+        "list of roots not a multiple of 32 bytes",
+        "lent table or room too small",
+        "two proofs differ in root, position or layers",
+        "two proofs agree and prove one id",
+        "amount or running total above its limit",
+        "an input spends an output that is not there",
+        "an output spent twice",
+        "inputs not more than outputs plus the fee",
+        "no order has parents first",
+        "not every transaction once, after its parents",
+    };
+    return number < sizeof words / sizeof words[0] ? words[number] : "unknown refusal";
+}
+
+/* What the number that a refusal carries stands for. */
+enum barrowtide_carries {
+    BARROWTIDE_CARRIES_NOTHING = 0,    /* nothing: it is 0 */
+    BARROWTIDE_CARRIES_PLACE = 1,      /* the place of a field or byte, counted from 0 */
+    BARROWTIDE_CARRIES_TRANSACTION = 2 /* the number of a transaction, counted from 0 */
+};
+
+/* What a refusal by barrowtide_judge_beef carries. From other calls one that has a transaction here
+   carries 0, and so do 5 and 22 where they blame what the caller lent (a page, a set, the room) or a
+   merged BUMP, and every refusal by barrowtide_write_bump. All others carry the same. */
+static inline enum barrowtide_carries barrowtide_refusal_carries(uint32_t number)
+{
+    switch (number) {
+    case BARROWTIDE_ACCEPTED:
+    case BARROWTIDE_TOO_LONG:
+    case BARROWTIDE_BAD_VERSION:
+    case BARROWTIDE_ROOTS_DIFFER:
+    case BARROWTIDE_BAD_ROOTS:
+    case BARROWTIDE_UNLIKE:
+    case BARROWTIDE_SAME_ID:
+    case BARROWTIDE_NO_ORDER:
+    case BARROWTIDE_BAD_ORDER:
+        return BARROWTIDE_CARRIES_NOTHING;
+    case BARROWTIDE_NOT_LISTED:
+    case BARROWTIDE_MISSING:
+    case BARROWTIDE_TWIN:
+    case BARROWTIDE_UNTRUSTED:
+    case BARROWTIDE_SAME_TX:
+    case BARROWTIDE_NO_PARENT:
+    case BARROWTIDE_NO_OUTPUT:
+    case BARROWTIDE_SPENT_TWICE:
+    case BARROWTIDE_TOO_LITTLE:
+        return BARROWTIDE_CARRIES_TRANSACTION;
+    default:
+        return number > BARROWTIDE_BAD_ORDER ? BARROWTIDE_CARRIES_NOTHING : BARROWTIDE_CARRIES_PLACE;
+    }
+}
+
 /* ---- The version ---- */
 
 /* The version of the archive: BARROWTIDE_VERSION_NUMBER, if this header is of the same. Ask before

@@ -1,22 +1,58 @@
-//! Links the proved library, `libbarrowtide.a`, statically.
+//! Links the proved library, `libbarrowtide.a`, statically: the one of the directory that
+//! `BARROWTIDE_LIB_DIR` names, or the one that `bindings/archive.sh` finds.
 
 use std::env;
+use std::ffi::OsString;
 use std::path::{Path, PathBuf};
+use std::process::Command;
+
+const TOP: &str = concat!(env!("CARGO_MANIFEST_DIR"), "/../..");
 
 fn main() {
     println!("cargo::rerun-if-env-changed=BARROWTIDE_LIB_DIR");
-    let directory = env::var_os("BARROWTIDE_LIB_DIR").map_or_else(
-        || Path::new(env!("CARGO_MANIFEST_DIR")).join("../../target/staticlib"),
-        PathBuf::from,
-    );
-    let archive = directory.join("libbarrowtide.a");
-    println!("cargo::rerun-if-changed={}", archive.display());
-    if archive.is_file() {
-        println!("cargo::rustc-link-search=native={}", directory.display());
-        println!("cargo::rustc-link-lib=static=barrowtide");
+    let lent = env::var_os("BARROWTIDE_LIB_DIR").filter(|directory| !directory.is_empty());
+    match lent.map_or_else(found, |directory| named(&directory)) {
+        Ok(archive) => {
+            println!("cargo::rerun-if-changed={}", archive.display());
+            let directory = archive.parent().expect("the archive is in a directory");
+            println!("cargo::rustc-link-search=native={}", directory.display());
+            println!("cargo::rustc-link-lib=static=barrowtide");
+            // For tests that hand it to a C compiler.
+            println!("cargo::rustc-env=BARROWTIDE_ARCHIVE={}", archive.display());
+        }
+        Err(error) => error.lines().for_each(|line| println!("cargo::error={line}")),
+    }
+}
+
+/// The archive of a directory. A relative one is seen from where cargo was called, which only a shell
+/// tells, or else from this crate.
+fn named(directory: &OsString) -> Result<PathBuf, String> {
+    if Path::new(directory).is_relative() {
+        println!("cargo::rerun-if-env-changed=PWD");
+    }
+    let called = env::var_os("PWD").map_or_else(PathBuf::new, PathBuf::from);
+    [called.as_path(), Path::new(env!("CARGO_MANIFEST_DIR"))]
+        .map(|from| from.join(directory).join("libbarrowtide.a"))
+        .into_iter()
+        .find(|archive| archive.is_file())
+        .ok_or_else(|| {
+            let directory = Path::new(directory).display();
+            format!("BARROWTIDE_LIB_DIR names a directory without libbarrowtide.a: {directory}")
+        })
+}
+
+/// The archive of the repository's sources: the one that is kept, or one that is proved now.
+fn found() -> Result<PathBuf, String> {
+    for input in ["bindings/archive.sh", "crates", "crates.txt", "dist"] {
+        println!("cargo::rerun-if-changed={TOP}/{input}");
+    }
+    let advice = "Set BARROWTIDE_LIB_DIR to the directory that holds libbarrowtide.a.";
+    let script = Command::new("bash").arg(format!("{TOP}/bindings/archive.sh")).output();
+    let output = script.map_err(|error| format!("bash does not start: {error}\n{advice}"))?;
+    let text = |bytes| String::from_utf8_lossy(bytes).into_owned();
+    if output.status.success() {
+        Ok(PathBuf::from(text(&output.stdout).trim_end()))
     } else {
-        println!("cargo::error={} is missing.", archive.display());
-        println!("cargo::error=Run `rt staticlib barrowtide` at the top of the repository first,");
-        println!("cargo::error=or set BARROWTIDE_LIB_DIR to the directory that holds the archive.");
+        Err(text(&output.stderr) + advice)
     }
 }

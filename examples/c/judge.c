@@ -5,11 +5,11 @@
  *   judge BUNDLE ROOT [FEE]
  *
  * BUNDLE is a file with the bundle in hex, ROOT the Merkle root in printed order. Each transaction
- * that no block holds must leave more than FEE satoshi, else more than 0. From the top of the
- * repository, after `rt staticlib barrowtide`:
+ * that no block holds must leave more than FEE satoshi, else more than 0. At the top of the
+ * repository:
  *
- *   gcc -std=c11 -O2 -Iinclude examples/c/judge.c target/staticlib/libbarrowtide.a -o target/judge
- *   target/judge bindings/rust/tests/data/004-bundle.hex \
+ *   gcc -std=c11 -O2 -Iinclude examples/c/judge.c dist/x86_64-linux/libbarrowtide.a -o judge
+ *   ./judge bindings/rust/tests/data/004-bundle.hex \
  *     bb6f640cc4ee56bf38eb5a1969ac0c16caa2d3d202b22bf3735d10eec0ca6e00
  *
  * Or anywhere, once `./install PREFIX` was run:
@@ -91,11 +91,22 @@ static void print_record(uint64_t number, const barrowtide_record *record)
     printf("\n");
 }
 
-/* 14 and 15 have a sibling to blame. */
+/* What was refused, where, and what that means; 14 and 15 have a sibling to blame. */
 static void print_refusal(uint32_t refusal, const barrowtide_blame *blame)
 {
-    printf("refused %u %s at %llu", (unsigned)refusal, barrowtide_refusal_name(refusal),
-           (unsigned long long)blame->carried);
+    unsigned long long carried = blame->carried;
+    printf("refused %u %s", (unsigned)refusal, barrowtide_refusal_name(refusal));
+    switch (barrowtide_refusal_carries(refusal)) {
+    case BARROWTIDE_CARRIES_NOTHING:
+        break;
+    case BARROWTIDE_CARRIES_PLACE:
+        printf(" at byte %llu", carried);
+        break;
+    case BARROWTIDE_CARRIES_TRANSACTION:
+        printf(" at transaction %llu", carried);
+        break;
+    }
+    printf(": %s", barrowtide_refusal_words(refusal));
     if (refusal == BARROWTIDE_MISSING || refusal == BARROWTIDE_TWIN)
         printf(", sibling %llu of layer %llu", (unsigned long long)blame->sibling,
                (unsigned long long)blame->layer);

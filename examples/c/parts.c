@@ -3,10 +3,10 @@
  *
  *   parts TRANSACTION
  *
- * TRANSACTION is a file with the transaction as it stands, not in hex. From the top of the
- * repository, after `rt staticlib barrowtide`:
+ * TRANSACTION is a file with the transaction as it stands, not in hex. At the top of the
+ * repository:
  *
- *   gcc -std=c11 -O2 -Iinclude examples/c/parts.c target/staticlib/libbarrowtide.a -o target/parts
+ *   gcc -std=c11 -O2 -Iinclude examples/c/parts.c dist/x86_64-linux/libbarrowtide.a -o parts
  *
  * Or anywhere, once `./install PREFIX` was run:
  *

@@ -159,7 +159,7 @@ impl Reason {
     /// Whether the refusal, given for a BEEF, carries the number of a transaction; elsewhere such
     /// a refusal carries 0.
     pub fn blames_transaction(self) -> bool {
-        matches!(self as u32, 13..=17 | 19 | 20 | 26..=28)
+        matches!(self as u32, 13..=15 | 17 | 19 | 20 | 26..=28)
     }
 }
 

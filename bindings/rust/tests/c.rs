@@ -18,6 +18,9 @@ use barrowtide::{
 use published::without_sibling;
 use reference::hex::encode;
 
+/// The archive that this is linked with.
+const ARCHIVE: &str = env!("BARROWTIDE_ARCHIVE");
+
 /// A file of the repository.
 fn file(path: &str) -> PathBuf {
     Path::new(env!("CARGO_MANIFEST_DIR")).join("../..").join(path)
@@ -25,14 +28,11 @@ fn file(path: &str) -> PathBuf {
 
 /// Builds a C program with the header and the library, every warning an error.
 fn build(standard: &str, source: &str) -> PathBuf {
-    let library = env::var_os("BARROWTIDE_LIB_DIR")
-        .map_or_else(|| file("target/staticlib"), PathBuf::from)
-        .join("libbarrowtide.a");
     let stem = Path::new(source).file_stem().expect("a source file").to_string_lossy();
     let program = PathBuf::from(env!("CARGO_TARGET_TMPDIR")).join(format!("{stem}-{standard}"));
     let built = Command::new("gcc")
         .args([&format!("-std={standard}"), "-O2", "-Wall", "-Wextra", "-Wpedantic", "-Werror"])
-        .args([Path::new("-I"), &file("include"), &file(source), &library])
+        .args([Path::new("-I"), &file("include"), &file(source), Path::new(ARCHIVE)])
         .args([Path::new("-o"), &program])
         .status()
         .expect("gcc starts");
@@ -51,13 +51,19 @@ fn header() {
     let Version { major, minor, patch } = VERSION;
     let number = major * 65_536 + minor * 256 + patch;
     let mut expected = format!("version {VERSION}, archive {number}\nof one version 1\n");
-    expected += "0 ACCEPTED\n";
+    expected += "0 ACCEPTED, accepted, carries 0\n";
     for number in 1.. {
         let Some(reason) = Reason::from_number(number) else {
-            expected += &format!("{number} UNKNOWN\n");
+            expected += &format!("{number} UNKNOWN, unknown refusal, carries 0\n");
             break;
         };
-        expected += &format!("{number} {}\n", reason.name());
+        let carries = match (reason.blames_place(), reason.blames_transaction()) {
+            (true, false) => 1,
+            (false, true) => 2,
+            _ => 0,
+        };
+        let (name, words) = (reason.name(), reason.meaning());
+        expected += &format!("{number} {name}, {words}, carries {carries}\n");
     }
     expected += &format!("input {MAX_INPUT}\ntransactions {MAX_TRANSACTIONS}\n");
     expected += &format!("total {MAX_TOTAL}\n");
@@ -90,6 +96,20 @@ fn header() {
 }
 
 #[test]
+fn header_in_cpp() {
+    let source = PathBuf::from(env!("CARGO_TARGET_TMPDIR")).join("header.cpp");
+    fs::write(&source, "#include \"barrowtide.h\"\n").expect("a file for the test");
+    for standard in ["c++98", "c++11", "c++17"] {
+        let read = Command::new("gcc")
+            .args([&format!("-std={standard}"), "-Wall", "-Wextra", "-Wpedantic", "-Werror"])
+            .args([Path::new("-fsyntax-only"), Path::new("-I"), &file("include"), &source])
+            .status()
+            .expect("gcc starts");
+        assert!(read.success(), "{standard}");
+    }
+}
+
+#[test]
 fn example() {
     let root = "bb6f640cc4ee56bf38eb5a1969ac0c16caa2d3d202b22bf3735d10eec0ca6e00";
     let bundle = file("bindings/rust/tests/data/004-bundle.hex");
@@ -104,7 +124,8 @@ fn example() {
     assert!(text.contains("outputs 1  total 26174"), "{text}");
     assert!(text.ends_with("\nSHA-256 compressions: 31\n"), "{text}");
     assert_eq!(judge(&bundle, &["1"]), (Some(0), text));
-    let refused = "refused 28 TOO_LITTLE at 1\nSHA-256 compressions: 31\n";
+    let refused = "refused 28 TOO_LITTLE at transaction 1: inputs not more than outputs plus \
+         the fee\nSHA-256 compressions: 31\n";
     for fee in ["2", "18446744073709551615"] {
         assert_eq!(judge(&bundle, &[fee]), (Some(1), refused.to_string()));
     }
@@ -114,8 +135,17 @@ fn example() {
 
     let other = PathBuf::from(env!("CARGO_TARGET_TMPDIR")).join("missing.hex");
     fs::write(&other, encode(&without_sibling())).expect("a file for the test");
-    let refused = "refused 14 MISSING at 0, sibling 20 of layer 0\nSHA-256 compressions: 10\n";
+    let refused = "refused 14 MISSING at transaction 0: sibling not written and not to be worked \
+         out, sibling 20 of layer 0\nSHA-256 compressions: 10\n";
     assert_eq!(judge(&other, &[]), (Some(1), refused.to_string()));
+    for (bytes, said) in [
+        (&[1, 0, 0xbe, 0xef, 0, 0][..], "12 EMPTY at byte 5: BEEF with no transaction"),
+        (&[1, 0, 0xbe, 0xed], "10 BAD_VERSION: first four bytes not BEEF's"),
+    ] {
+        fs::write(&other, encode(bytes)).expect("a file for the test");
+        let refused = format!("refused {said}\nSHA-256 compressions: 0\n");
+        assert_eq!(judge(&other, &[]), (Some(1), refused));
+    }
 }
 
 #[test]

@@ -26,7 +26,8 @@ int main(void)
            BARROWTIDE_VERSION_MINOR, BARROWTIDE_VERSION_PATCH, barrowtide_version());
     printf("of one version %d\n", barrowtide_version() == BARROWTIDE_VERSION_NUMBER);
     for (uint32_t number = 0; number <= BARROWTIDE_BAD_ORDER + 1; number++)
-        printf("%" PRIu32 " %s\n", number, barrowtide_refusal_name(number));
+        printf("%" PRIu32 " %s, %s, carries %d\n", number, barrowtide_refusal_name(number),
+               barrowtide_refusal_words(number), (int)barrowtide_refusal_carries(number));
     printf("input %d\n", BARROWTIDE_MAX_INPUT);
     printf("transactions %d\n", BARROWTIDE_MAX_TRANSACTIONS);
     printf("total %" PRIu64 "\n", (uint64_t)BARROWTIDE_MAX_TOTAL);
