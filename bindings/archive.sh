@@ -112,7 +112,10 @@ find_archive() {
     elif is_kept; then
         archive=$kept
     else
-        is_proved "$made" || prove
+        if ! is_proved "$made"; then
+            say "dist/ has no archive of the library's sources as they stand"
+            prove
+        fi
         archive=$made
     fi
 }

@@ -12,7 +12,7 @@ use std::time::{Duration, SystemTime};
 
 use place::{accepted, failed, text, Place};
 
-const SOURCE: &str = "crates/hash/specs/Hash.antt";
+const SOURCE: &str = "crates/hash/specs/Hash";
 const KEPT: &str = "dist/x86_64-linux/libbarrowtide.a";
 
 /// Waits for something that comes within seconds.
@@ -48,7 +48,7 @@ fn kept_archive() {
     assert_eq!((place.proved(), place.built()), (0, 2));
 
     // The archive proved from other sources is used until these change; it is the same one here.
-    for changed in [SOURCE, "crates.txt", "crates/format/src/lib.rt"] {
+    for changed in [SOURCE, "crates.txt", "crates/format/src/lib"] {
         let before = place.read(changed);
         let proved = place.proved();
         place.write(changed, "barrowtide:\n");
@@ -79,10 +79,14 @@ fn proving_said() {
     assert_eq!(accepted(&output), format!("{}\n", archive.display()));
     let said = text(&output.stderr);
     let said: Vec<&str> = said.lines().collect();
-    assert!(said[0].contains("proving the library: 3 crates"), "{said:?}");
+    assert!(
+        said[0].contains("dist/ has no archive")
+            && said[1].contains("proving the library: 3 crates"),
+        "{said:?}"
+    );
     let lines =
         ["1 of 3: hash proved (1 s)", "2 of 3: format proved (1 s)", "3 of 3: barrowtide proved"];
-    assert_eq!(said[1..], lines.map(|line| format!("archive.sh: {line}")));
+    assert_eq!(said[2..], lines.map(|line| format!("archive.sh: {line}")));
     let notes = place.read("target/prover.log").expect("the notes");
     assert!(notes.contains("note: of hash\n") && notes.contains("note: of format\n"), "{notes}");
 

@@ -56,9 +56,10 @@ impl Place {
         fs::create_dir_all(&top).expect("a folder for the test");
         let place = Self(fs::canonicalize(top).expect("a folder"));
         place.write("crates.txt", "hash:\nformat: hash\nbarrowtide: format\nother: hash\n");
-        place.write("crates/hash/src/lib.rt", "");
-        place.write("crates/hash/specs/Hash.antt", "");
-        place.write("crates/hash/proofs/Hash.antt", "");
+        // Without the endings of sources: rt asks of every such file in the repository whose it is.
+        place.write("crates/hash/src/lib", "");
+        place.write("crates/hash/specs/Hash", "");
+        place.write("crates/hash/proofs/Hash", "");
         for file in ["Cargo.toml", "Cargo.lock", "build.rs", "src/lib.rs"] {
             place.write(&format!("bindings/rust/{file}"), "");
         }
