@@ -109,7 +109,10 @@ find_archive() {
         export BARROWTIDE_LIB_DIR
         archive=$BARROWTIDE_LIB_DIR/libbarrowtide.a
         [ -f "$archive" ] || fail "BARROWTIDE_LIB_DIR names a directory without libbarrowtide.a: $BARROWTIDE_LIB_DIR"
-    elif is_kept; then
+        return
+    fi
+    [ "$(uname -sm)" = "Linux x86_64" ] || fail "the library is for x86-64 Linux alone"
+    if is_kept; then
         archive=$kept
     else
         if ! is_proved "$made"; then

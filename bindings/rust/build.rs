@@ -46,6 +46,10 @@ fn found() -> Result<PathBuf, String> {
     for input in ["bindings/archive.sh", "crates", "crates.txt", "dist"] {
         println!("cargo::rerun-if-changed={TOP}/{input}");
     }
+    let target = ["CARGO_CFG_TARGET_ARCH", "CARGO_CFG_TARGET_OS"].map(|name| env::var(name).ok());
+    if target != ["x86_64", "linux"].map(|part| Some(part.to_string())) {
+        return Err("The library is for x86-64 Linux alone.".to_string());
+    }
     let advice = "Set BARROWTIDE_LIB_DIR to the directory that holds libbarrowtide.a.";
     let script = Command::new("bash").arg(format!("{TOP}/bindings/archive.sh")).output();
     let output = script.map_err(|error| format!("bash does not start: {error}\n{advice}"))?;

@@ -68,6 +68,9 @@ fn kept_archive() {
     place.write(KEPT, "!<arch>\n");
     assert_eq!(answer(), expected);
     assert_eq!((place.proved(), place.built()), (4, 2));
+    place.script("bin/uname", "echo Linux aarch64");
+    let said = failed(&place.run("barrowtide", &["judge"]));
+    assert!(said.contains("for x86-64 Linux alone"), "{said}");
 }
 
 /// One line for each crate, and the prover's notes in a file.
