@@ -1,96 +1,50 @@
 //! The program `barrowtide` as a person runs it: every command accepted, refused and with input that
 //! it can't use.
 
+#[path = "common/program.rs"]
+mod program;
 #[path = "common/published.rs"]
 mod published;
 
 use std::ffi::{OsStr, OsString};
 use std::fs::{self, File};
 use std::io::Write;
-use std::path::PathBuf;
-use std::process::{Command, Output, Stdio};
+use std::process::{Command, Stdio};
 
 use barrowtide::{join, Hash, Reason};
+use program::{
+    accepts, cannot_use, command, data, file, ran, refuses, refuses_beside, run, run_on,
+};
+use program::{DATA, ID, PROGRAM, ROOT};
 use published::without_sibling;
 use reference::hex::{decode, encode};
 
-const PROGRAM: &str = env!("CARGO_BIN_EXE_barrowtide");
-const DATA: &str = concat!(env!("CARGO_MANIFEST_DIR"), "/tests/data");
-const ID: &str = "3ecead27a44d013ad1aae40038acbb1883ac9242406808bb4667c15b4f164eac";
-const ROOT: &str = "bb6f640cc4ee56bf38eb5a1969ac0c16caa2d3d202b22bf3735d10eec0ca6e00";
-const COMMANDS: [&str; 14] = [
-    "judge", "prove", "clients", "list", "index", "compare", "write", "page", "convert", "order",
-    "diff", "shorter", "merge", "draw",
+const COMMANDS: [&str; 15] = [
+    "judge", "prove", "clients", "list", "extract", "index", "compare", "write", "page", "convert",
+    "order", "diff", "shorter", "merge", "draw",
 ];
-
-/// Exit status, standard output and standard error.
-type Ran = (Option<i32>, String, String);
-
-fn ran(output: Output) -> Ran {
-    let text = |bytes| String::from_utf8(bytes).expect("text");
-    (output.status.code(), text(output.stdout), text(output.stderr))
-}
-
-fn command(arguments: &[&str]) -> Command {
-    let mut command = Command::new(PROGRAM);
-    command.args(arguments).current_dir(DATA);
-    command
-}
-
-/// Runs the program on files of the test data, or on given paths.
-fn run(arguments: &[&str]) -> Ran {
-    ran(command(arguments).output().expect("the program starts"))
-}
-
-/// Runs it with standard input.
-fn run_on(input: &[u8], arguments: &[&str]) -> Ran {
-    let mut command = command(arguments);
-    command.stdin(Stdio::piped()).stdout(Stdio::piped()).stderr(Stdio::piped());
-    let mut child = command.spawn().expect("the program starts");
-    child.stdin.take().expect("piped").write_all(input).expect("it reads");
-    ran(child.wait_with_output().expect("it ends"))
-}
-
-/// A file of its own for a test.
-fn file(name: &str, content: impl AsRef<[u8]>) -> String {
-    let path = PathBuf::from(env!("CARGO_TARGET_TMPDIR")).join(name);
-    fs::write(&path, content).expect("a file for the test");
-    path.to_str().expect("a plain path").to_string()
-}
-
-fn data(name: &str) -> Vec<u8> {
-    decode(&fs::read_to_string(format!("{DATA}/{name}")).expect("test data"))
-}
-
-#[track_caller]
-fn accepts(arguments: &[&str], text: &str) {
-    assert_eq!(run(arguments), (Some(0), text.to_string(), String::new()), "{arguments:?}");
-}
-
-#[track_caller]
-fn refuses(arguments: &[&str], text: &str) {
-    assert_eq!(run(arguments), (Some(1), format!("{text}\n"), String::new()), "{arguments:?}");
-}
-
-/// Refused where bytes or a picture were asked for: nothing goes to standard output.
-#[track_caller]
-fn refuses_beside(arguments: &[&str], text: &str) {
-    assert_eq!(run(arguments), (Some(1), String::new(), format!("{text}\n")), "{arguments:?}");
-}
-
-#[track_caller]
-fn cannot_use(arguments: &[&str], text: &str) {
-    let (status, out, error) = run(arguments);
-    assert_eq!((status, out.as_str()), (Some(2), ""), "{arguments:?}");
-    assert!(error.contains(text), "{arguments:?}: {error}");
-}
 
 const JUDGED: &str = "\
 accepted: each transaction is mined under a trusted root or spends what earlier ones of the bundle pay, once, and leaves more than the fee; 2 transactions
   no     start    length  anchored  bump    position  outputs             total  id
    0       291       192  yes          0          21        1             26174  3ecead27a44d013ad1aae40038acbb1883ac9242406808bb4667c15b4f164eac
    1       485       191  no           -           -        1             26172  157428aee67d11123203735e4c540fa1bdab3b36d5882c6f8c5ff79f07d20d1c
+mined under these roots, the block height by the sender's word:
+  no  block height  root
+   0        814435  bb6f640cc4ee56bf38eb5a1969ac0c16caa2d3d202b22bf3735d10eec0ca6e00
 ";
+
+/// The refusal of 004's bundle without a sibling.
+const GAP: &str =
+    "refused 14 MISSING at transaction 0: the sender must add the node at layer 0, position 20.";
+
+/// Which transaction of 004's bundle is refused by its BUMP, and which without one.
+const BY_BUMP: &str = "\
+id        3ecead27a44d013ad1aae40038acbb1883ac9242406808bb4667c15b4f164eac
+bump      0, block height 814435 by the sender's word";
+const BY_NONE: &str = "\
+id        157428aee67d11123203735e4c540fa1bdab3b36d5882c6f8c5ff79f07d20d1c
+bump      none";
 
 #[test]
 fn judge() {
@@ -105,13 +59,14 @@ fn judge() {
     refuses(
         &["judge", "004-bundle.hex", &none],
         "refused 17 UNTRUSTED at transaction 0: its proof leads to a root that is not in your list. \
-         Bring the list up to date; if the root is still not in it, don't accept the payment.",
+         Bring the list up to date; if the root is still not in it, don't accept the payment.\n\
+         id        3ecead27a44d013ad1aae40038acbb1883ac9242406808bb4667c15b4f164eac\n\
+         bump      0, block height 814435 by the sender's word\n\
+         root      bb6f640cc4ee56bf38eb5a1969ac0c16caa2d3d202b22bf3735d10eec0ca6e00\n\
+         look up   the root of the block at height 814435",
     );
     let gap = file("gap.beef", without_sibling());
-    refuses(
-        &["judge", &gap, "004-roots.txt"],
-        "refused 14 MISSING at transaction 0: the sender must add the node at layer 0, position 20.",
-    );
+    refuses(&["judge", &gap, "004-roots.txt"], &format!("{GAP}\n{BY_BUMP}"));
     let short = file("short.hex", "0100beef");
     refuses(
         &["judge", &short, "004-roots.txt"],
@@ -163,7 +118,7 @@ fn judge_amounts() {
          it pays out and the fee that you ask for. Ask the sender for a payment that leaves more, or \
          ask for a smaller fee.";
     for fee in ["2", "18446744073709551615"] {
-        refuses(&judge(&["--fee", fee]), too_little);
+        refuses(&judge(&["--fee", fee]), &format!("{too_little}\n{BY_NONE}"));
     }
     let (status, text, _) = run(&judge(&["--json", "--fee", "2"]));
     let start = "{\"accepted\":false,\"refusal\":{\"number\":28,\"name\":\"TOO_LITTLE\",\
@@ -179,8 +134,16 @@ fn judge_amounts() {
     );
     let (_, text, _) = run(&["list", "beef", &changed("list.beef", AMOUNT + 7, &[1])]);
     assert!(text.starts_with("refused 25 BAD_AMOUNT at byte 638: "), "{text}");
-    refuses(
-        &["judge", &changed("output.beef", OUTPUT, &[1]), "004-roots.txt"],
+    // The transaction has another id, as its bytes are others.
+    let refuses_transaction = |bundle: &[u8], raw: std::ops::Range<usize>, words: &str| {
+        let id = barrowtide::read_transaction(&bundle[raw]).expect("a transaction").id;
+        let text = format!("{words}\nid        {id}\nbump      none");
+        refuses(&["judge", &file("transaction.beef", bundle), "004-roots.txt"], &text);
+    };
+    let output = fs::read(changed("output.beef", OUTPUT, &[1])).expect("the file");
+    refuses_transaction(
+        &output,
+        485..485 + 191,
         "refused 26 NO_OUTPUT at transaction 1: it spends an output that its parent does not have. \
          Don't accept the payment; ask the sender for one that spends what is there.",
     );
@@ -188,8 +151,9 @@ fn judge_amounts() {
     let input = twice[INPUTS + 1..AMOUNT - 1].to_vec();
     twice[INPUTS] = 2;
     twice.splice(INPUTS + 1..INPUTS + 1, input);
-    refuses(
-        &["judge", &file("twice.beef", twice), "004-roots.txt"],
+    refuses_transaction(
+        &twice,
+        485..twice.len() - 1,
         "refused 27 SPENT_TWICE at transaction 1: it spends an output that was spent already, by \
          itself or by an earlier transaction of the bundle. Don't accept the payment; the sender \
          must leave one of the two out.",
@@ -197,7 +161,7 @@ fn judge_amounts() {
     cannot_use(&judge(&["--fee"]), "usage: barrowtide judge BEEF ROOTS [--fee N]");
     cannot_use(&judge(&["--fee", "1", "--fee", "1"]), "usage: barrowtide judge");
     cannot_use(&judge(&["--fee", "much"]), "not a fee: much");
-    cannot_use(&judge(&["--fee", "-1"]), "no option -1");
+    cannot_use(&judge(&["--fee", "-1"]), "not a fee: -1; it is a number from 0 on");
     cannot_use(&["list", "--fee", "1"], "no option --fee");
 }
 
@@ -211,13 +175,13 @@ fn judge_with_cost() {
     accepts(&["judge", "--cost", "004-bundle.hex", "--fee", "1", "004-roots.txt"], &counted);
     let (status, text, _) = run(&judge(&["--cost", "--fee", "2"]));
     assert!(text.starts_with("refused 28 TOO_LITTLE at transaction 1: "), "{text}");
-    assert!(text.ends_with("smaller fee.\nSHA-256 compressions: 31\n"), "{text}");
+    let end = format!("smaller fee.\n{BY_NONE}\nSHA-256 compressions: 31\n");
+    assert!(text.ends_with(&end), "{text}");
     assert_eq!(status, Some(1));
     // The climb stops at layer 0, so only the ids count; nothing counts in reading.
     let gap = file("gap-cost.beef", without_sibling());
-    let missing = "refused 14 MISSING at transaction 0: the sender must add the node at layer 0, \
-         position 20.\nSHA-256 compressions: 10";
-    refuses(&["judge", "--cost", &gap, "004-roots.txt"], missing);
+    let missing = format!("{GAP}\n{BY_BUMP}\nSHA-256 compressions: 10");
+    refuses(&["judge", "--cost", &gap, "004-roots.txt"], &missing);
     let short = file("short-cost.hex", "0100beef");
     assert!(run(&["judge", &short, "004-roots.txt", "--cost"])
         .1
@@ -229,7 +193,7 @@ fn judge_with_cost() {
     assert_eq!(text, format!("{plain},\"compressions\":31}}\n"));
     let (status, text, _) = run(&["judge", "--json", &gap, "004-roots.txt", "--cost"]);
     assert!(text.starts_with("{\"accepted\":false,\"refusal\":{\"number\":14,"), "{text}");
-    assert!(text.ends_with("},\"compressions\":10}\n"), "{text}");
+    assert!(text.ends_with(",\"block_height\":814435,\"compressions\":10}\n"), "{text}");
     assert_eq!(status, Some(1));
     cannot_use(&judge(&["--fee", "--cost"]), "not a fee: --cost");
     cannot_use(&["prove", "--cost", "tsc", "000-proof.hex"], "no option --cost");
@@ -241,16 +205,21 @@ fn judge_for_scripts() {
     let expected = "{\"accepted\":true,\"transactions\":[\
          {\"start\":291,\"length\":192,\
          \"id\":\"3ecead27a44d013ad1aae40038acbb1883ac9242406808bb4667c15b4f164eac\",\
-         \"anchored\":true,\"bump\":0,\"position\":21,\"outputs\":1,\"total\":26174},\
+         \"anchored\":true,\"bump\":0,\"position\":21,\"outputs\":1,\"total\":26174,\
+         \"root\":\"bb6f640cc4ee56bf38eb5a1969ac0c16caa2d3d202b22bf3735d10eec0ca6e00\",\
+         \"block_height\":814435},\
          {\"start\":485,\"length\":191,\
          \"id\":\"157428aee67d11123203735e4c540fa1bdab3b36d5882c6f8c5ff79f07d20d1c\",\
-         \"anchored\":false,\"bump\":null,\"position\":null,\"outputs\":1,\"total\":26172}]}\n";
+         \"anchored\":false,\"bump\":null,\"position\":null,\"outputs\":1,\"total\":26172,\
+         \"root\":null,\"block_height\":null}]}\n";
     assert_eq!((status, text.as_str(), error.as_str()), (Some(0), expected, ""));
     let gap = file("gap-json.beef", without_sibling());
     let (status, text, _) = run(&["judge", &gap, "004-roots.txt", "--json"]);
     let expected = "{\"accepted\":false,\"refusal\":{\"number\":14,\"name\":\"MISSING\",\
          \"input\":null,\"place\":null,\"transaction\":0,\"layer\":0,\"sibling\":20,\
-         \"words\":\"the sender must add the node at layer 0, position 20.\"}}\n";
+         \"words\":\"the sender must add the node at layer 0, position 20.\"},\
+         \"id\":\"3ecead27a44d013ad1aae40038acbb1883ac9242406808bb4667c15b4f164eac\",\
+         \"bump\":0,\"block_height\":814435}\n";
     assert_eq!((status, text.as_str()), (Some(1), expected));
     let (status, text, error) = run(&["--json", "judge", "\"no\"", "004-roots.txt"]);
     assert!(text.starts_with("{\"unusable\":\"\\\"no\\\": "), "{text}");
@@ -367,8 +336,6 @@ fn prove() {
          id        {ID}\nposition  21\nlayers    7\nroot      {ROOT}\n"
     );
     accepts(&["prove", "bump", "004-bump.hex", ID], &text);
-    let made = run(&["convert", "to-tsc", "004-bump.hex", ID]).1;
-    accepts(&["prove", "tsc", &file("made.tsc", made)], &text);
     let (status, text, _) = run(&["prove", "tsc", "000-proof.hex", "--json"]);
     assert_eq!(status, Some(0));
     assert!(text.contains("\"position\":12,\"layers\":"), "{text}");
@@ -442,14 +409,14 @@ fn list() {
     assert!(text.starts_with("accepted: a compound path\ntree height   3\n"), "{text}");
     assert!(text.find("level 0, 4 leaves").expect("level 0") < text.find("level 2, 1").expect("2"));
 
-    let (_, text, _) = run(&["list", "tsc", "000-proof.hex"]);
-    assert!(text.contains("holds   id\ntarget  block hash\nindex   12\n"), "{text}");
-    let (_, text, _) = run(&["list", "beef", "004-bundle.hex"]);
-    assert!(text.ends_with("bumps         1\ntransactions  2\n"), "{text}");
     let transaction = file("transaction.bin", &data("004-bundle.hex")[291..291 + 192]);
     let (_, text, _) = run(&["list", "transaction", &transaction]);
-    let expected = format!("accepted: a transaction\nid       {ID}\nlength   192\n");
-    assert!(text.starts_with(&expected), "{text}");
+    let expected = format!(
+        "accepted: a transaction\nid            {ID}\nlength        192\ninputs        1\n           \
+         0  output 1 of 2990a70423d7bbf11049d088a3d9291fd360e2e755761e0d92567b3cac4c4ecd\n\
+         outputs       1\n           0  26174 satoshi\n"
+    );
+    assert_eq!(text, expected);
     assert_eq!(run(&["list", "transaction", "004-transaction.hex"]).1, text);
 
     refuses(
@@ -458,7 +425,7 @@ fn list() {
          software that wrote the BUMP is at fault.",
     );
     for form in ["bump", "cmp", "tsc", "transaction", "beef"] {
-        let (status, text, _) = run_on(b"", &["list", form, "-"]);
+        let (status, text, _) = run(&["list", form, &file("empty.bin", "")]);
         assert!(text.starts_with("refused 2 SHORT at byte 0: "), "{text}");
         assert_eq!(status, Some(1));
     }
@@ -472,8 +439,11 @@ fn list_in_parts() {
     let head = [&[1, 0, 0, 0, 1][..], &[0xaa; 36], &[0xfe, 0x40, 0x42, 0x0f, 0x00]].concat();
     let raw = [&head[..], &[7; 1_000_000 + 4], &[1], &[0; 8 + 1 + 4]].concat();
     let id = barrowtide::read_transaction(&raw).expect("a transaction").id.to_string();
+    let parent = "aa".repeat(32);
     let text = format!(
-        "accepted: a transaction\nid       {id}\nlength   1000064\ninputs   1\noutputs  1\n"
+        "accepted: a transaction\nid            {id}\nlength        1000064\n\
+         inputs        1\n           0  output 2863311530 of {parent}\n\
+         outputs       1\n           0  0 satoshi\n"
     );
     let told = (Some(0), text, String::new());
     assert_eq!(run_on(&raw, &["list", "transaction", "-"]), told);
@@ -485,7 +455,9 @@ fn list_in_parts() {
         assert_eq!(run_on(text.as_bytes(), &["list", "transaction", "-"]), told);
     }
     let fields = format!(
-        "{{\"accepted\":true,\"id\":\"{id}\",\"length\":1000064,\"inputs\":1,\"outputs\":1}}\n"
+        "{{\"accepted\":true,\"id\":\"{id}\",\"length\":1000064,\"inputs\":1,\"outputs\":1,\
+         \"input_list\":[{{\"parent\":\"{parent}\",\"output\":2863311530,\"transaction\":null}}],\
+         \"amounts\":[0]}}\n"
     );
     assert_eq!(run_on(&raw, &["list", "transaction", "-", "--json"]).1, fields);
 
@@ -662,7 +634,7 @@ fn write_and_page() {
     cannot_use(&write(&["7"]), "usage: barrowtide write");
     cannot_use(&write(&["high", "ids.txt", "1"]), "not a block height: high");
     cannot_use(&write(&["7", "ids.txt", "one"]), "not a position: one");
-    cannot_use(&write(&["7", "ids.txt", "-1"]), "no option -1");
+    cannot_use(&write(&["7", "ids.txt", "-1"]), "not a position: -1; it is a number from 0 on");
     cannot_use(&write(&["7", "004-bump.hex", "1"]), "not 64 hex digits");
 
     let many = file("many.txt", format!("{ID}\n").repeat(257));
@@ -771,7 +743,10 @@ fn order() {
     cannot_use(&["order", "--check", "0"], "usage: barrowtide order");
     cannot_use(&["order", "004-set.hex", "--check"], "usage: barrowtide order");
     cannot_use(&["order", "004-set.hex", "--check", "1;0"], "not a number: 1;0");
-    cannot_use(&["order", "004-set.hex", "--check", "-1"], "no option -1");
+    cannot_use(
+        &["order", "004-set.hex", "--check", "-1"],
+        "not a number: -1; it is a number from 0 on",
+    );
     cannot_use(&["order", "no such file"], "no such file: ");
     let lines = file("lines-set.hex", "# a set\n00ff\n0g\n");
     cannot_use(&["order", &lines], "line 3: text that is not hex: 'g' at character 2");

@@ -36,6 +36,14 @@ impl Told {
         Self { accepted: true, output: Output::Text(text), note: String::new(), fields }
     }
 
+    /// Another line, and the same for scripts.
+    pub fn add(&mut self, line: &str, field: (&'static str, Json)) {
+        if let Output::Text(text) = &mut self.output {
+            text.push_str(line);
+        }
+        self.fields.push(field);
+    }
+
     /// An acceptance by a proof.
     pub fn bytes(bytes: Vec<u8>, note: String, fields: Fields) -> Self {
         Self { accepted: true, output: Output::Bytes(bytes), note, fields }

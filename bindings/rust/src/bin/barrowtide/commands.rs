@@ -1,95 +1,32 @@
 //! The commands: each makes one call of the library and says what it answered.
 
 use std::borrow::Cow;
-use std::ffi::{OsStr, OsString};
 
-use barrowtide::{
-    hex, Blames, Claim, Difference, Hash, Proof, Reason, Record, Refusal, Side, MAX_PAGE,
-};
-use barrowtide::{LeafList, ListedLeaf, Received, TransactionReader, MAX_TRANSACTIONS};
+use barrowtide::{hex, Blames, Claim, Difference, Hash, Proof, Reason, Refusal, Side, MAX_PAGE};
+use barrowtide::{LeafList, ListedLeaf, MAX_TRANSACTIONS};
 
 use crate::answer::{Answer, Failure, Output, Told};
+use crate::bundles;
 use crate::draw;
-use crate::input;
+use crate::input::{self, Word};
 use crate::json::{Fields, Json};
 use crate::leaves::{Kind, Leaf, Levels};
+use crate::tsc::{Parts, Target};
 use crate::words::{Asked, Form, Refused};
 
-fn refused(asked: Asked, data: &[u8]) -> impl Fn(Refusal) -> Failure + '_ {
+/// The refusal of a call over some bytes.
+pub fn refused(asked: Asked, data: &[u8]) -> impl Fn(Refusal) -> Failure + '_ {
     move |refusal| Failure::Refused(Refused::of(data, refusal, asked))
 }
 
 /// "1 leaf", "2 leaves".
-fn counted(count: u64, one: &str, many: &str) -> String {
+pub fn counted(count: u64, one: &str, many: &str) -> String {
     format!("{count} {}", if count == 1 { one } else { many })
 }
 
 /// What the library has read and the walk for showing it can't take apart: it never happens.
-fn unreadable() -> Failure {
+pub fn unreadable() -> Failure {
     Failure::unusable("this program and its library are not of one version")
-}
-
-pub fn judge(words: &[OsString]) -> Answer {
-    let (fee, mut words) = input::option("--fee", words)?;
-    let cost = input::flag("--cost", &mut words);
-    let [beef, roots] = words[..] else { return Err(Failure::Misused) };
-    let fee = fee.map_or(Ok(0), |word| input::number("fee", word))?;
-    let (bundle, roots) = (input::bytes(beef)?, input::hashes(roots)?);
-    let verdict = match barrowtide::judge(&bundle, &roots, fee) {
-        Ok(verdict) => verdict,
-        Err(refusal) => {
-            let refused = Refused::of(&bundle, refusal, Asked::Judge);
-            let work = refusal.work.filter(|_| cost).ok_or(Failure::Refused(refused))?;
-            let (text, fields) = (format!("{refused}\n"), vec![("refusal", refused.json())]);
-            return Ok(Told { accepted: false, ..with_cost(text, fields, work) });
-        }
-    };
-    let count = counted(verdict.records.len() as u64, "transaction", "transactions");
-    let mut text = format!(
-        "accepted: each transaction is mined under a trusted root or spends what earlier ones of \
-         the bundle pay, once, and leaves more than the fee; {count}\n"
-    );
-    text += "  no     start    length  anchored  bump    position  outputs             total  id\n";
-    for (number, record) in verdict.records.iter().enumerate() {
-        text += &row(number, record);
-    }
-    let records = verdict.records.iter().map(record_json).collect();
-    let fields = vec![("transactions", Json::List(records))];
-    Ok(if cost { with_cost(text, fields, verdict.work) } else { Told::text(text, fields) })
-}
-
-/// What is told, and the hash work that it took.
-fn with_cost(mut text: String, mut fields: Fields, work: u64) -> Told {
-    text += &format!("SHA-256 compressions: {work}\n");
-    fields.push(("compressions", work.into()));
-    Told::text(text, fields)
-}
-
-fn row(number: usize, record: &Record) -> String {
-    let (anchored, bump, position) = if record.is_anchored() {
-        ("yes", record.bump.to_string(), record.position.to_string())
-    } else {
-        ("no", "-".to_string(), "-".to_string())
-    };
-    let Record { start, length, id, outputs, total, .. } = record;
-    format!(
-        "{number:4}  {start:8}  {length:8}  {anchored:8}  {bump:>4}  {position:>10}  {outputs:7}  \
-         {total:16}  {id}\n"
-    )
-}
-
-fn record_json(record: &Record) -> Json {
-    let anchored = record.is_anchored();
-    Json::Object(vec![
-        ("start", record.start.into()),
-        ("length", record.length.into()),
-        ("id", record.id.to_string().into()),
-        ("anchored", anchored.into()),
-        ("bump", anchored.then_some(u64::from(record.bump)).into()),
-        ("position", anchored.then_some(record.position).into()),
-        ("outputs", record.outputs.into()),
-        ("total", record.total.into()),
-    ])
 }
 
 /// A proof given on the command line: its form, its bytes, and the id that it is to prove.
@@ -101,9 +38,9 @@ struct Given {
 
 impl Given {
     /// Takes `bump FILE ID`, `cmp FILE ID` or `tsc FILE` from the front.
-    fn take<'a, 'b>(words: &'a [&'b OsStr]) -> Result<(Self, &'a [&'b OsStr]), Failure> {
+    fn take<'a, 'b>(words: &'a [&'b Word]) -> Result<(Self, &'a [&'b Word]), Failure> {
         let [form, path, rest @ ..] = words else { return Err(Failure::Misused) };
-        let form = match form.to_str() {
+        let form = match form.text() {
             Some("bump") => Form::Bump,
             Some("cmp") => Form::Cmp,
             Some("tsc") => Form::Tsc,
@@ -134,16 +71,44 @@ impl Given {
     }
 }
 
-pub fn prove(words: &[OsString]) -> Answer {
-    let words: Vec<&OsStr> = words.iter().map(OsString::as_os_str).collect();
+pub fn prove(words: &[Word]) -> Answer {
+    if let [form, path, id] = words {
+        if form.text() == Some("beef") {
+            return bundles::prove(path, &input::id(id)?);
+        }
+    }
+    let words: Vec<&Word> = words.iter().collect();
     let (given, []) = Given::take(&words)? else { return Err(Failure::Misused) };
     let proof = given.prove().map_err(refused(Asked::Prove(given.form), &given.data))?;
+    let (mut text, mut fields) = (proof_text(&proof), proof_fields(&proof));
+    if given.form == Form::Tsc {
+        let parts = tsc_parts(&given.data)?;
+        if !parts.lead_to(&proof) {
+            return Err(unreadable());
+        }
+        let compared = match parts.target {
+            Target::BlockHash(_) => {
+                "compared with nothing: look up the block of this hash, and compare its root"
+            }
+            Target::Header(..) => "it holds this root; its own hash and work are not looked at",
+            Target::Root(_) => "it is this root",
+        };
+        text += &format!("target    {}\n          {compared}\n", parts.target_text());
+        text += &format!("nodes     {}\n{}", parts.nodes.len(), parts.nodes_text());
+        fields.push(("target", parts.target.word().into()));
+        fields.push(("compared", parts.target.root().is_some().into()));
+        fields.extend(parts.fields());
+    }
+    Ok(Told::text(text, fields))
+}
+
+/// A proof in lines.
+pub fn proof_text(proof: &Proof) -> String {
     let Proof { id, position, layers, root } = proof;
-    let text = format!(
+    format!(
         "accepted: the id is under this root, and worth as much as the root is trusted\n\
          id        {id}\nposition  {position}\nlayers    {layers}\nroot      {root}\n"
-    );
-    Ok(Told::text(text, proof_fields(&proof)))
+    )
 }
 
 /// The fields of a proof.
@@ -156,7 +121,7 @@ pub fn proof_fields(proof: &Proof) -> Fields {
     ]
 }
 
-pub fn clients(words: &[OsString]) -> Answer {
+pub fn clients(words: &[Word]) -> Answer {
     let [path] = words else { return Err(Failure::Misused) };
     let data = input::bytes(path)?;
     let root = barrowtide::check_clients(&data).map_err(refused(Asked::Clients, &data))?;
@@ -166,14 +131,14 @@ pub fn clients(words: &[OsString]) -> Answer {
     Ok(Told::text(text, vec![("clients", clients.into()), ("root", root.into())]))
 }
 
-pub fn list(words: &[OsString]) -> Answer {
+pub fn list(words: &[Word]) -> Answer {
     let [form, path] = words else { return Err(Failure::Misused) };
-    match form.to_str() {
+    match form.text() {
         Some("bump") => list_bump(&input::bytes(path)?),
         Some("cmp") => list_cmp(&input::bytes(path)?),
         Some("tsc") => list_tsc(&input::bytes(path)?),
-        Some("transaction") => list_transaction(path),
-        Some("beef") => list_beef(&input::bytes(path)?),
+        Some("transaction") => bundles::list_transaction(path),
+        Some("beef") => bundles::list(&input::bytes(path)?),
         _ => Err(Failure::Misused),
     }
 }
@@ -232,65 +197,39 @@ fn kind_json(kind: Kind) -> Json {
     Json::Object(vec![("kind", kind.word().into()), ("hash", hash.into())])
 }
 
+/// The parts of a TSC proof.
+fn tsc_parts(data: &[u8]) -> Result<Parts, Failure> {
+    let proof = barrowtide::read_tsc(data).map_err(refused(Asked::Read(Form::Tsc), data))?;
+    Parts::of(data, &proof).ok_or_else(unreadable)
+}
+
 fn list_tsc(data: &[u8]) -> Answer {
     let proof = barrowtide::read_tsc(data).map_err(refused(Asked::Read(Form::Tsc), data))?;
+    let parts = tsc_parts(data)?;
     let holds = if proof.flags & 1 == 1 { "transaction" } else { "id" };
-    let target = match proof.flags & 6 {
-        0 => "block hash",
-        2 => "header",
-        _ => "root",
+    let (id, index, nodes) = (parts.id, proof.index, proof.nodes);
+    let compared = match parts.target {
+        Target::BlockHash(_) => "compared with nothing, here and in prove tsc",
+        Target::Header(..) | Target::Root(_) => "compared with nothing here; prove tsc compares it",
     };
-    let (index, nodes) = (proof.index, proof.nodes);
     let text = format!(
-        "accepted: a TSC proof\nholds   {holds}\ntarget  {target}\nindex   {index}\n\
-         nodes   {nodes}\n"
+        "accepted: a TSC proof\nholds     {holds}\nid        {id}\nindex     {index}\n\
+         target    {}\n          {compared}\nnodes     {nodes}\n{}",
+        parts.target_text(),
+        parts.nodes_text()
     );
-    let fields = vec![
+    let mut fields = vec![
         ("holds", holds.into()),
-        ("target", target.into()),
+        ("target", parts.target.word().into()),
         ("index", index.into()),
         ("nodes", nodes.into()),
-    ];
-    Ok(Told::text(text, fields))
-}
-
-/// In parts, so that it may be longer than the memory.
-fn list_transaction(path: &OsStr) -> Answer {
-    let mut reader = TransactionReader::new();
-    let mut first = Vec::new();
-    input::in_parts(path, |part| {
-        if first.is_empty() {
-            first = part.to_vec();
-        }
-        reader.push(part).is_ok()
-    })?;
-    let received = reader.finish().map_err(refused(Asked::Read(Form::Transaction), &first))?;
-    let Received { length, inputs, outputs, id } = received;
-    let text = format!(
-        "accepted: a transaction\nid       {id}\nlength   {length}\ninputs   {inputs}\n\
-         outputs  {outputs}\n"
-    );
-    let fields = vec![
         ("id", id.to_string().into()),
-        ("length", length.into()),
-        ("inputs", inputs.into()),
-        ("outputs", outputs.into()),
     ];
+    fields.extend(parts.fields());
     Ok(Told::text(text, fields))
 }
 
-fn list_beef(data: &[u8]) -> Answer {
-    let beef = barrowtide::read_beef(data).map_err(refused(Asked::Read(Form::Beef), data))?;
-    let (bumps, transactions) = (beef.bumps, beef.transactions);
-    let text = format!(
-        "accepted: a BEEF bundle, well formed; judge says whether it can be trusted\n\
-         bumps         {bumps}\ntransactions  {transactions}\n"
-    );
-    let fields = vec![("bumps", bumps.into()), ("transactions", transactions.into())];
-    Ok(Told::text(text, fields))
-}
-
-pub fn compare(words: &[OsString]) -> Answer {
+pub fn compare(words: &[Word]) -> Answer {
     let (transaction, words) = input::option("--transaction", words)?;
     let (first, rest) = Given::take(&words)?;
     let (second, []) = Given::take(rest)? else { return Err(Failure::Misused) };
@@ -344,7 +283,7 @@ fn compare_depths(first: &Given, second: &Given, transaction: &[u8]) -> Answer {
     Ok(Told::text(text, fields))
 }
 
-pub fn write(words: &[OsString]) -> Answer {
+pub fn write(words: &[Word]) -> Answer {
     let [height, ids, positions @ ..] = words else { return Err(Failure::Misused) };
     let height = input::number("block height", height)?;
     let positions = positions
@@ -357,12 +296,12 @@ pub fn write(words: &[OsString]) -> Answer {
 }
 
 /// A proof that was made.
-fn bytes(made: Vec<u8>) -> Answer {
+pub fn bytes(made: Vec<u8>) -> Answer {
     let length = made.len();
     Ok(Told::bytes(made, String::new(), vec![("bytes", length.into())]))
 }
 
-pub fn page(words: &[OsString]) -> Answer {
+pub fn page(words: &[Word]) -> Answer {
     let [path, ids] = words else { return Err(Failure::Misused) };
     let (data, ids) = (input::bytes(path)?, input::hashes(ids)?);
     let by_bump = Asked::Prove(Form::Bump);
@@ -371,7 +310,7 @@ pub fn page(words: &[OsString]) -> Answer {
     let proved = answers.iter().filter(|answer| answer.is_ok()).count();
     let mut text = format!("proved: {proved} of {}\n", counted(ids.len() as u64, "id", "ids"));
     let mut rows = Vec::new();
-    for (answer, id) in answers.iter().zip(&ids) {
+    for (answer, id) in answers.iter().zip(&*ids) {
         let id = id.to_string();
         let (said, row) = match answer {
             Ok(proof) => {
@@ -398,9 +337,9 @@ pub fn page(words: &[OsString]) -> Answer {
     Ok(Told { accepted: proved == ids.len(), ..Told::text(text, fields) })
 }
 
-pub fn convert(words: &[OsString]) -> Answer {
+pub fn convert(words: &[Word]) -> Answer {
     let [to, path, word] = words else { return Err(Failure::Misused) };
-    match to.to_str() {
+    match to.text() {
         Some("to-bump") => to_bump(path, word),
         Some("to-tsc") => {
             let id = input::id(word)?;
@@ -412,7 +351,7 @@ pub fn convert(words: &[OsString]) -> Answer {
     }
 }
 
-fn to_bump(path: &OsStr, height: &OsStr) -> Answer {
+fn to_bump(path: &Word, height: &Word) -> Answer {
     let wide = input::number("block height", height)?;
     let Ok(height) = u32::try_from(wide) else {
         return Err(Failure::unusable(format!("a block height is at most {}: {wide}", u32::MAX)));
@@ -422,7 +361,7 @@ fn to_bump(path: &OsStr, height: &OsStr) -> Answer {
     bytes(made.map_err(refused(Asked::ToBump, &data))?)
 }
 
-pub fn index(words: &[OsString]) -> Answer {
+pub fn index(words: &[Word]) -> Answer {
     let [path] = words else { return Err(Failure::Misused) };
     let data = input::bytes(path)?;
     let list = LeafList::build(&data).map_err(refused(Asked::Read(Form::Bump), &data))?;
@@ -443,7 +382,7 @@ pub fn index(words: &[OsString]) -> Answer {
     Ok(Told::text(text, vec![("leaves", Json::List(leaves))]))
 }
 
-pub fn merge(words: &[OsString]) -> Answer {
+pub fn merge(words: &[Word]) -> Answer {
     let [first, second] = words else { return Err(Failure::Misused) };
     let (first, second) = (input::bytes(first)?, input::bytes(second)?);
     let merged = LeafList::merge(&first, &second).map_err(|refusal| {
@@ -459,7 +398,7 @@ pub fn merge(words: &[OsString]) -> Answer {
     bytes(merged.bump)
 }
 
-pub fn order(words: &[OsString]) -> Answer {
+pub fn order(words: &[Word]) -> Answer {
     let (proposal, paths) = input::option("--check", words)?;
     if paths.is_empty() {
         return Err(Failure::Misused);
@@ -505,7 +444,7 @@ fn ids_of(set: &[Vec<u8>]) -> Result<Vec<Hash>, Failure> {
     Ok(ids)
 }
 
-pub fn diff(words: &[OsString]) -> Answer {
+pub fn diff(words: &[Word]) -> Answer {
     let [first, second] = words else { return Err(Failure::Misused) };
     let (first, second) = (input::bytes(first)?, input::bytes(second)?);
     let differences = barrowtide::differences(&first, &second).map_err(|refusal| {
@@ -575,7 +514,7 @@ fn leaf_differs(
     (format!("level {level}, offset {offset}: {differs}\n"), fields)
 }
 
-pub fn shorter(words: &[OsString]) -> Answer {
+pub fn shorter(words: &[Word]) -> Answer {
     let [first, second, id] = words else { return Err(Failure::Misused) };
     let id = input::id(id)?;
     let (first, second) = (input::bytes(first)?, input::bytes(second)?);
@@ -597,22 +536,30 @@ pub fn shorter(words: &[OsString]) -> Answer {
     Ok(Told::bytes(part.to_vec(), note, fields))
 }
 
-pub fn draw(words: &[OsString]) -> Answer {
+pub fn draw(words: &[Word]) -> Answer {
     let (path, id) = match words {
         [path] => (path, None),
         [path, id] => (path, Some(input::id(id)?)),
         _ => return Err(Failure::Misused),
     };
     let data = input::bytes(path)?;
-    let head = barrowtide::read_bump(&data).map_err(refused(Asked::Read(Form::Bump), &data))?;
-    let levels = Levels::of_bump(&data).ok_or_else(unreadable)?;
+    if bundles::is_beef(&data) {
+        return bundles::draw(&data, id);
+    }
+    picture(&data, id, None)
+}
+
+/// The picture of a BUMP, and of the climb of an id; the line says where the BUMP is from.
+pub fn picture(data: &[u8], id: Option<Hash>, from: Option<String>) -> Answer {
+    let head = barrowtide::read_bump(data).map_err(refused(Asked::Read(Form::Bump), data))?;
+    let levels = Levels::of_bump(data).ok_or_else(unreadable)?;
     let Some(id) = id else {
-        let svg = draw::picture(&head, &levels, None).ok_or_else(unreadable)?;
+        let svg = draw::picture(&head, &levels, from, None).ok_or_else(unreadable)?;
         return Ok(Told { output: Output::Svg(svg), ..Told::text(String::new(), Vec::new()) });
     };
-    let answer = barrowtide::prove_bump(&data, &id);
+    let answer = barrowtide::prove_bump(data, &id);
     let said = answer.map_err(|refusal| Refused::new(refusal, Asked::Prove(Form::Bump)));
-    let svg = draw::picture(&head, &levels, Some((&id, &said))).ok_or_else(unreadable)?;
+    let svg = draw::picture(&head, &levels, from, Some((&id, &said))).ok_or_else(unreadable)?;
     let (note, fields) = match &said {
         Ok(proof) => (String::new(), proof_fields(proof)),
         Err(refused) => (format!("{refused}\n"), vec![("refusal", refused.json())]),

@@ -1,9 +1,8 @@
 //! The commands by name, with their help.
 
-use std::ffi::OsString;
-
 use crate::answer::Answer;
-use crate::commands;
+use crate::input::Word;
+use crate::{bundles, commands};
 
 /// A command.
 pub struct Command {
@@ -24,7 +23,7 @@ pub struct Command {
     /// Whether it gives a picture.
     pub gives_picture: bool,
     /// What it does.
-    pub run: fn(&[OsString]) -> Answer,
+    pub run: fn(&[Word]) -> Answer,
 }
 
 const PLAIN: Command = Command {
@@ -36,11 +35,11 @@ const PLAIN: Command = Command {
     options: &[],
     gives_bytes: false,
     gives_picture: false,
-    run: commands::judge,
+    run: bundles::judge,
 };
 
 /// All commands, in the order of the help.
-pub const COMMANDS: [Command; 14] = [
+pub const COMMANDS: [Command; 15] = [
     Command {
         name: "judge",
         usage: "judge BEEF ROOTS [--fee N] [--cost]",
@@ -50,7 +49,9 @@ BEEF is a file with the bundle. ROOTS is a file with a trusted Merkle root on ea
 line. If every transaction is mined under one of them, or spends only earlier ones
 of the bundle, the table of transactions is printed: where each starts, how long
 it is, the BUMP and position in the block that anchor it, how many outputs it has
-and what they come to, in satoshi.
+and what they come to, in satoshi. Then for each that is mined its BUMP's block
+height, which is the sender's word, and the root. A refusal names the transaction's
+id and its BUMP; of 17, the root and the block height to look up.
 
 A transaction that is not mined must spend outputs that are there, none of them
 spent already by itself or by another such one, and take in more than it pays out
@@ -71,22 +72,27 @@ What acceptance does not say:
         example: "    ./barrowtide judge bindings/rust/tests/data/004-bundle.hex bindings/rust/tests/data/004-roots.txt
     ./barrowtide judge bindings/rust/tests/data/004-bundle.hex bindings/rust/tests/data/004-roots.txt --fee 1 --cost",
         options: &["--fee", "--cost"],
-        run: commands::judge,
+        run: bundles::judge,
         ..PLAIN
     },
     Command {
         name: "prove",
-        usage: "prove bump FILE ID | prove cmp FILE ID | prove tsc FILE",
+        usage: "prove bump FILE ID | prove cmp FILE ID | prove tsc FILE | prove beef FILE ID",
         brief: "the root that a proof leads to",
         about: "\
 FILE holds a BUMP, a compound path or a TSC proof, which has its id in it. Position
 in the block, number of layers and the Merkle root are printed. Compare the root
 with the block's header: the proof is worth as much as its root is trusted. A TSC
 proof's target must hold the root if it is a root or a header; a block hash is
-compared with nothing, and a header's own hash and work are not looked at.",
+compared with nothing, and a header's own hash and work are not looked at.
+
+Of a BEEF the BUMP is asked that the transaction with this id names, and of an id
+that names none the first BUMP that lists it. Whether the bundle stands says judge.",
         example: "    ./barrowtide prove bump bindings/rust/tests/data/004-bump.hex \\
       3ecead27a44d013ad1aae40038acbb1883ac9242406808bb4667c15b4f164eac
-    ./barrowtide prove tsc bindings/rust/tests/data/000-proof.hex",
+    ./barrowtide prove tsc bindings/rust/tests/data/000-proof.hex
+    ./barrowtide prove beef bindings/rust/tests/data/004-bundle.hex \\
+      3ecead27a44d013ad1aae40038acbb1883ac9242406808bb4667c15b4f164eac",
         run: commands::prove,
         ..PLAIN
     },
@@ -106,12 +112,30 @@ Climbs from every leaf of the BUMP that is marked as a client's.",
         brief: "what a file holds",
         about: "\
 Reads the file and says what it holds: of a BUMP or a compound path every leaf, by
-level and offset, in the order in which they are written. Nothing is proved. A
-transaction is read in parts: it may have up to 4294967295 bytes, whatever the memory.",
+level and offset, in the order in which they are written; of a BEEF every BUMP, with
+the root if all its clients lead to one, and every transaction, with what it spends
+and pays. If a BEEF is refused, what is whole before the place of the refusal is
+listed below it. Nothing is proved.
+
+A transaction is read in parts: it may have up to 4294967295 bytes, whatever the
+memory. Its inputs and outputs are listed if it has no more than 16777216.",
         example: "    ./barrowtide list bump bindings/rust/tests/data/004-bump.hex
     ./barrowtide list beef bindings/rust/tests/data/004-bundle.hex
     ./barrowtide list transaction - < bindings/rust/tests/data/004-transaction.hex",
         run: commands::list,
+        ..PLAIN
+    },
+    Command {
+        name: "extract",
+        usage: "extract bump|tx N BEEF",
+        brief: "a BUMP or a transaction of a BEEF bundle",
+        about: "\
+Prints the BUMP or the raw transaction of this number, counted from 0 as list beef
+has them. The bundle must be well formed; whether it stands is not asked.",
+        example: "    ./barrowtide extract bump 0 bindings/rust/tests/data/004-bundle.hex | ./barrowtide clients -
+    ./barrowtide extract tx 1 bindings/rust/tests/data/004-bundle.hex | ./barrowtide list transaction -",
+        gives_bytes: true,
+        run: bundles::extract,
         ..PLAIN
     },
     Command {
@@ -254,10 +278,10 @@ kept, and a hash rather than the copy that stands for it.",
     },
     Command {
         name: "draw",
-        usage: "draw BUMP [ID]",
+        usage: "draw BUMP [ID] | draw BEEF ID",
         brief: "a BUMP as a picture (SVG)",
         about: "\
-Draws the tree with what is written. With an id its climb is drawn too: what was
+Draws the tree with what is written; of a BEEF the BUMP that prove beef asks. With an id its climb is drawn too: what was
 hashed at each layer, and if it stops, the sibling that is missing or a twin. What
 is not on the climb is small, and folded where there is much of it; the picture
 is made even if the climb is refused.",
@@ -273,7 +297,7 @@ is made even if the climb is refused.",
 const COMMON: &str = "\
 A file is in hex or binary; - is standard input. Ids and roots are 64 hex digits
 in printed order, as block explorers show them; files of them have one on a line,
-and lines that start with # are passed over.
+and what stands behind # is passed over. After -- no word is an option.
 
 --json prints the answer as one line of JSON.
 --binary prints a proof that is made as it stands, not in hex.

@@ -3,7 +3,9 @@
 
 use std::collections::BTreeMap;
 
-use barrowtide::{join, read_varint, Hash};
+use barrowtide::{join, Hash};
+
+use crate::cursor::Cursor;
 
 /// What a leaf holds.
 #[derive(Clone, Copy, PartialEq, Eq)]
@@ -50,61 +52,46 @@ pub struct Leaf {
 /// The leaves of each level, from level 0 up, in the order in which they are written.
 pub struct Levels(pub Vec<Vec<Leaf>>);
 
-struct Cursor<'a>(&'a [u8]);
+/// A leaf at the cursor.
+type ReadLeaf = fn(&mut Cursor) -> Option<Leaf>;
 
-impl Cursor<'_> {
-    fn byte(&mut self) -> Option<u8> {
-        let (first, rest) = self.0.split_first()?;
-        self.0 = rest;
-        Some(*first)
-    }
+fn level(cursor: &mut Cursor, leaf: ReadLeaf) -> Option<Vec<Leaf>> {
+    let count = cursor.number()?;
+    (0..count).map(|_| leaf(cursor)).collect()
+}
 
-    fn number(&mut self) -> Option<u64> {
-        let number = read_varint(self.0).ok()?;
-        self.0 = self.0.get(number.width as usize..)?;
-        Some(number.value)
-    }
+fn bump_leaf(cursor: &mut Cursor) -> Option<Leaf> {
+    let offset = cursor.number()?;
+    let kind = match cursor.byte()? {
+        0 => Kind::Node(cursor.hash()?),
+        1 => Kind::Copy,
+        _ => Kind::Client(cursor.hash()?),
+    };
+    Some(Leaf { offset, kind })
+}
 
-    fn hash(&mut self) -> Option<Hash> {
-        let (first, rest) = self.0.split_first_chunk()?;
-        self.0 = rest;
-        Some(Hash::from_stored(*first))
-    }
-
-    fn level(&mut self, leaf: fn(&mut Self) -> Option<Leaf>) -> Option<Vec<Leaf>> {
-        let count = self.number()?;
-        (0..count).map(|_| leaf(self)).collect()
-    }
-
-    fn bump_leaf(&mut self) -> Option<Leaf> {
-        let offset = self.number()?;
-        let kind = match self.byte()? {
-            0 => Kind::Node(self.hash()?),
-            1 => Kind::Copy,
-            _ => Kind::Client(self.hash()?),
-        };
-        Some(Leaf { offset, kind })
-    }
-
-    fn cmp_leaf(&mut self) -> Option<Leaf> {
-        Some(Leaf { offset: self.number()?, kind: Kind::Node(self.hash()?) })
-    }
+fn cmp_leaf(cursor: &mut Cursor) -> Option<Leaf> {
+    Some(Leaf { offset: cursor.number()?, kind: Kind::Node(cursor.hash()?) })
 }
 
 impl Levels {
     /// Those of a BUMP that the library has read.
     pub fn of_bump(data: &[u8]) -> Option<Self> {
-        let mut cursor = Cursor(data);
+        Self::next_bump(&mut Cursor::new(data))
+    }
+
+    /// Those of the BUMP at the cursor.
+    pub fn next_bump(cursor: &mut Cursor) -> Option<Self> {
         cursor.number()?;
         let height = cursor.byte()?;
-        (0..height).map(|_| cursor.level(Cursor::bump_leaf)).collect::<Option<_>>().map(Self)
+        (0..height).map(|_| level(cursor, bump_leaf)).collect::<Option<_>>().map(Self)
     }
 
     /// Those of a compound path that the library has read.
     pub fn of_cmp(data: &[u8]) -> Option<Self> {
-        let mut cursor = Cursor(data);
+        let mut cursor = Cursor::new(data);
         let height = u32::from(cursor.byte()?) + 1;
-        let levels: Option<Vec<_>> = (0..height).map(|_| cursor.level(Cursor::cmp_leaf)).collect();
+        let levels: Option<Vec<_>> = (0..height).map(|_| level(&mut cursor, cmp_leaf)).collect();
         levels.map(|mut levels| {
             levels.reverse();
             Self(levels)

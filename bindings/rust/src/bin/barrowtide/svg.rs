@@ -166,6 +166,7 @@ fn head(picture: &Picture) -> Vec<(&'static str, String)> {
             ),
         ),
     ];
+    lines.extend(picture.from.iter().map(|from| ("", from.clone())));
     let Some((id, said)) = picture.said else { return lines };
     lines.push(("mono", format!("id   {id}")));
     match said {

@@ -253,6 +253,11 @@ impl Refused {
                     .to_string()
             }
             (Reason::NotListed, Asked::Write) => "you chose no position.".to_string(),
+            (Reason::NotListed, Asked::Prove(Form::Beef)) => {
+                "no BUMP of the bundle lists this id. A transaction that names none rests on its \
+                 parents, which list beef shows: ask about these. Else check the id."
+                    .to_string()
+            }
             (Reason::NotListed, _) => format!(
                 "the {noun} does not list this id. Check the id; if it is right, ask the sender for \
                  the proof of this transaction."
