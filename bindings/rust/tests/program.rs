@@ -19,9 +19,9 @@ use program::{DATA, ID, PROGRAM, ROOT};
 use published::without_sibling;
 use reference::hex::{decode, encode};
 
-const COMMANDS: [&str; 15] = [
+const COMMANDS: [&str; 16] = [
     "judge", "prove", "clients", "list", "extract", "index", "compare", "write", "page", "convert",
-    "order", "diff", "shorter", "merge", "draw",
+    "order", "diff", "shorter", "merge", "draw", "batch",
 ];
 
 const JUDGED: &str = "\

@@ -16,6 +16,8 @@ pub enum Output {
     Bytes(Vec<u8>),
     /// A picture.
     Svg(String),
+    /// Nothing more: it is printed already.
+    Printed,
 }
 
 /// What a command has found.
@@ -91,22 +93,21 @@ const UNUSABLE: u8 = 2;
 /// nothing could be asked.
 pub fn print(answer: Answer, style: Style) -> ExitCode {
     let (status, out, err) = match answer {
-        Ok(told) => {
-            let status = if told.accepted { 0 } else { REFUSED };
-            if style.json {
-                (status, json(told), String::new())
-            } else {
-                let out = match told.output {
-                    Output::Text(text) | Output::Svg(text) => text.into_bytes(),
-                    Output::Bytes(bytes) if style.binary => bytes,
-                    Output::Bytes(bytes) => format!("{}\n", hex::encode(&bytes)).into_bytes(),
-                };
-                (status, out, told.note)
-            }
+        Ok(Told { output: Output::Printed, accepted, .. }) => {
+            (status(accepted), Vec::new(), String::new())
         }
-        Err(Failure::Refused(refused)) if style.json => {
-            let fields = vec![("accepted", false.into()), ("refusal", refused.json())];
-            (REFUSED, line(Json::Object(fields)), String::new())
+        answer if style.json => {
+            let (status, fields) = fields(answer, style.usage);
+            (status, format!("{}\n", Json::Object(fields)).into_bytes(), String::new())
+        }
+        Ok(told) => {
+            let out = match told.output {
+                Output::Text(text) | Output::Svg(text) => text.into_bytes(),
+                Output::Bytes(bytes) if style.binary => bytes,
+                Output::Bytes(bytes) => format!("{}\n", hex::encode(&bytes)).into_bytes(),
+                Output::Printed => Vec::new(),
+            };
+            (status(told.accepted), out, told.note)
         }
         Err(Failure::Refused(refused)) if style.for_file => {
             (REFUSED, Vec::new(), format!("{refused}\n"))
@@ -114,8 +115,8 @@ pub fn print(answer: Answer, style: Style) -> ExitCode {
         Err(Failure::Refused(refused)) => {
             (REFUSED, format!("{refused}\n").into_bytes(), String::new())
         }
-        Err(Failure::Unusable(message)) => unusable(message, style),
-        Err(Failure::Misused) => unusable(format!("usage: barrowtide {}", style.usage), style),
+        Err(Failure::Unusable(message)) => (UNUSABLE, Vec::new(), format!("{message}\n")),
+        Err(Failure::Misused) => (UNUSABLE, Vec::new(), format!("{}\n", usage(style.usage))),
     };
     // A message that nobody reads is no fault.
     let _ = io::stderr().write_all(err.as_bytes());
@@ -130,25 +131,35 @@ pub fn print(answer: Answer, style: Style) -> ExitCode {
     }
 }
 
-fn unusable(message: String, style: Style) -> (u8, Vec<u8>, String) {
-    if style.json {
-        (UNUSABLE, line(Json::Object(vec![("unusable", message.into())])), String::new())
+fn status(accepted: bool) -> u8 {
+    if accepted {
+        0
     } else {
-        (UNUSABLE, Vec::new(), format!("{message}\n"))
+        REFUSED
     }
 }
 
-fn json(told: Told) -> Vec<u8> {
-    let mut fields: Fields = vec![("accepted", told.accepted.into())];
-    fields.extend(told.fields);
-    match told.output {
-        Output::Text(_) => {}
-        Output::Bytes(bytes) => fields.push(("hex", hex::encode(&bytes).into())),
-        Output::Svg(svg) => fields.push(("svg", svg.into())),
-    }
-    line(Json::Object(fields))
+fn usage(usage: &str) -> String {
+    format!("usage: barrowtide {usage}")
 }
 
-fn line(value: Json) -> Vec<u8> {
-    format!("{value}\n").into_bytes()
+/// An answer for scripts, with its exit status.
+pub fn fields(answer: Answer, used: &str) -> (u8, Fields) {
+    match answer {
+        Ok(told) => {
+            let mut fields: Fields = vec![("accepted", told.accepted.into())];
+            fields.extend(told.fields);
+            match told.output {
+                Output::Text(_) | Output::Printed => {}
+                Output::Bytes(bytes) => fields.push(("hex", hex::encode(&bytes).into())),
+                Output::Svg(svg) => fields.push(("svg", svg.into())),
+            }
+            (status(told.accepted), fields)
+        }
+        Err(Failure::Refused(refused)) => {
+            (REFUSED, vec![("accepted", false.into()), ("refusal", refused.json())])
+        }
+        Err(Failure::Unusable(message)) => (UNUSABLE, vec![("unusable", message.into())]),
+        Err(Failure::Misused) => (UNUSABLE, vec![("unusable", usage(used).into())]),
+    }
 }

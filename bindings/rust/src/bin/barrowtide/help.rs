@@ -2,7 +2,7 @@
 
 use crate::answer::Answer;
 use crate::input::Word;
-use crate::{bundles, commands};
+use crate::{batch, bundles, commands};
 
 /// A command.
 pub struct Command {
@@ -39,7 +39,7 @@ const PLAIN: Command = Command {
 };
 
 /// All commands, in the order of the help.
-pub const COMMANDS: [Command; 15] = [
+pub const COMMANDS: [Command; 16] = [
     Command {
         name: "judge",
         usage: "judge BEEF ROOTS [--fee N] [--cost]",
@@ -289,6 +289,30 @@ is made even if the climb is refused.",
       3ecead27a44d013ad1aae40038acbb1883ac9242406808bb4667c15b4f164eac > target/climb.svg",
         gives_picture: true,
         run: commands::draw,
+        ..PLAIN
+    },
+    Command {
+        name: "batch",
+        usage: "batch [FILE] [--jobs N]",
+        brief: "many requests, a line of JSON each",
+        about: "\
+Reads one request a line, from FILE or standard input, and answers each with a line
+as --json prints it, in order. A request is an object: command is a command's name,
+arguments a list of its words, and tag, if there is one, a text or a number that comes
+back with the answer. In place of a file's name an argument may be {\"hex\": \"0100be..\"},
+or a list of texts, which are the lines of a list of ids or roots.
+
+A line that can't be used is answered as such ({\"unusable\": \"..\"}), and the run goes
+on. The exit status is 0 if every line got an answer, whatever it says. All cores are
+used, or N threads; a line has up to 134217728 bytes, and what is kept in memory does
+not grow with the number of lines. If standard error is a terminal, it shows how far
+the run is.",
+        example: "    printf '%s\\n' bindings/rust/tests/data/004-bump*.hex |
+      sed 's/.*/{\"command\":\"clients\",\"arguments\":[\"&\"]}/' | ./barrowtide batch
+    echo '{\"tag\":7,\"command\":\"list\",\"arguments\":[\"bump\",{\"hex\":\"0701010101\"}]}' |
+      ./barrowtide batch",
+        options: &["--jobs"],
+        run: batch::run,
         ..PLAIN
     },
 ];

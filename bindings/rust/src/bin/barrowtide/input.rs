@@ -21,8 +21,8 @@ pub enum Word {
     Option(String),
     /// Anything else: a file's name, an id, a number.
     Plain(OsString),
-    /// What a file would hold, given in its place, and what it is called.
-    Content { name: String, bytes: Vec<u8> },
+    /// What a file would hold, given in its place, and what it is called; text is hex or a list.
+    Content { name: String, bytes: Vec<u8>, text: bool },
 }
 
 impl Word {
@@ -33,13 +33,34 @@ impl Word {
         for word in words {
             if !ended && word == "--" {
                 ended = true;
-            } else if !ended && looks_like_option(&word) {
-                line.push(Word::Option(word.to_string_lossy().into_owned()));
             } else {
-                line.push(Word::Plain(word));
+                line.push(Self::of(word, ended));
             }
         }
         line
+    }
+
+    /// A word, before or after the end of the options.
+    pub fn of(word: OsString, ended: bool) -> Self {
+        if !ended && looks_like_option(&word) {
+            Word::Option(word.to_string_lossy().into_owned())
+        } else {
+            Word::Plain(word)
+        }
+    }
+
+    /// Lines in place of a file.
+    pub fn lines(name: String, lines: &[String]) -> Self {
+        Word::Content { name, bytes: lines.join("\n").into_bytes(), text: true }
+    }
+
+    /// Bytes in place of a file, given in hex.
+    pub fn hex(name: String, digits: &str) -> Result<Self, Failure> {
+        let text = Word::Content { name, bytes: Vec::new(), text: true };
+        let mut read = Digits::NONE;
+        let bytes = read.decode(&text, digits.as_bytes())?;
+        read.end(&text)?;
+        Ok(Word::Content { name: text.name(), bytes, text: false })
     }
 
     /// The word as text; what is given in a file's place has none.
@@ -181,7 +202,11 @@ impl Digits {
 
     /// The same, if the first bytes of a file look like text.
     fn of(word: &Word, bytes: &[u8]) -> Result<Option<Self>, Failure> {
-        if !is_text(bytes) {
+        let is_text = match word {
+            Word::Content { text, .. } => *text,
+            _ => is_text(bytes),
+        };
+        if !is_text {
             return Ok(None);
         }
         plain_text(word, bytes)?;

@@ -7,6 +7,8 @@ pub enum Json {
     Null,
     Bool(bool),
     Number(u64),
+    /// A number as it was read.
+    Written(String),
     Text(String),
     List(Vec<Json>),
     Object(Fields),
@@ -56,7 +58,10 @@ impl fmt::Display for Json {
         match self {
             Json::Null => f.write_str("null"),
             Json::Bool(value) => write!(f, "{value}"),
+            // Many readers take numbers for floating point, which has 53 bits.
+            Json::Number(value) if *value > 1 << 53 => write!(f, "\"{value}\""),
             Json::Number(value) => write!(f, "{value}"),
+            Json::Written(text) => f.write_str(text),
             Json::Text(text) => quoted(f, text),
             Json::List(items) => {
                 f.write_str("[")?;
@@ -85,7 +90,7 @@ fn quoted(f: &mut fmt::Formatter<'_>, text: &str) -> fmt::Result {
             '"' => f.write_str("\\\"")?,
             '\\' => f.write_str("\\\\")?,
             '\n' => f.write_str("\\n")?,
-            c if c < ' ' => write!(f, "\\u{:04x}", u32::from(c))?,
+            c if c.is_control() => write!(f, "\\u{:04x}", u32::from(c))?,
             c => write!(f, "{c}")?,
         }
     }
@@ -105,6 +110,9 @@ mod tests {
         let text = "{\"a\":\"x\\\"\\\\\\n\\u0001\",\"b\":[null,true]}";
         assert_eq!(Json::Object(fields).to_string(), text);
         assert_eq!(Json::from(None::<u64>).to_string(), "null");
-        assert_eq!(Json::from(Some(u64::MAX)).to_string(), "18446744073709551615");
+        assert_eq!(Json::from(Some(u64::MAX)).to_string(), "\"18446744073709551615\"");
+        assert_eq!(Json::from(1_u64 << 53).to_string(), "9007199254740992");
+        assert_eq!(Json::from((1_u64 << 53) + 1).to_string(), "\"9007199254740993\"");
+        assert_eq!(Json::from("\u{7f}\u{9b}").to_string(), "\"\\u007f\\u009b\"");
     }
 }

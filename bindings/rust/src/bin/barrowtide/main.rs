@@ -2,6 +2,7 @@
 #![deny(unsafe_code)]
 
 mod answer;
+mod batch;
 mod bundle;
 mod bundles;
 mod commands;
@@ -14,6 +15,7 @@ mod leaves;
 mod looks;
 mod svg;
 mod tsc;
+mod value;
 mod words;
 
 use std::env;
