@@ -213,15 +213,14 @@ fn one_question_after_the_other() {
 /// then all come in order.
 #[test]
 fn a_window_of_lines() {
-    let pipe = file("slow-pipe", "");
-    fs::remove_file(&pipe).expect("it was made");
+    let pipe = format!("{}/slow-pipe-{}", env!("CARGO_TARGET_TMPDIR"), std::process::id());
     assert!(Command::new("mkfifo").arg(&pipe).status().expect("mkfifo").success());
     let count = 30_000;
     let mut child = spawn(&mut command(&["batch", "--jobs", "3"]));
     let mut stdin = child.stdin.take().expect("piped");
     let mut stdout = child.stdout.take().expect("piped");
     let written = AtomicU64::new(0);
-    let text = thread::scope(|scope| {
+    let (taken, text) = thread::scope(|scope| {
         scope.spawn(|| {
             stdin.write_all(request(&["clients", &pipe]).as_bytes()).expect("it reads");
             for tag in 0..count {
@@ -236,20 +235,19 @@ fn a_window_of_lines() {
             stdout.read_to_string(&mut text).expect("text");
             text
         });
-        // Until no more lines are taken.
-        let mut before = 0;
-        loop {
-            thread::sleep(Duration::from_millis(200));
+        // Until no more lines are taken, for a second.
+        let (mut taken, mut same) = (0, 0);
+        while same < 10 {
+            thread::sleep(Duration::from_millis(100));
             let now = written.load(Ordering::Relaxed);
-            if now > 0 && now == before {
-                break;
-            }
-            before = now;
+            same = if now > 0 && now == taken { same + 1 } else { 0 };
+            taken = now;
         }
-        assert!((4_096..count).contains(&before), "{before} lines are taken");
         fs::write(&pipe, data("004-bump.hex")).expect("the pipe is read");
-        reader.join().expect("the answers are read")
+        (taken, reader.join().expect("the answers are read"))
     });
+    fs::remove_file(&pipe).expect("it was made");
+    assert!((4_096..count).contains(&taken), "{taken} lines are taken");
     assert_eq!(child.wait().expect("it ends").code(), Some(0));
     let mut lines = text.lines();
     assert!(lines.next().expect("an answer").starts_with("{\"accepted\":true,\"clients\":1,"));

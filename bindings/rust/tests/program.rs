@@ -624,7 +624,8 @@ fn write_and_page() {
     );
     refuses_beside(
         &write(&["4294967296", "ids.txt", "0"]),
-        "refused 5 OVER_LIMIT: you must give 2 to 1024 ids, and a block height of at most 4294967295.",
+        "refused 5 OVER_LIMIT: this library takes 2 to 1024 ids and a block height of at most \
+         4294967295; you gave more, or too few ids.",
     );
     let equal = file("equal.txt", format!("{ID}\n{ID}\n"));
     refuses_beside(
@@ -640,7 +641,7 @@ fn write_and_page() {
     let many = file("many.txt", format!("{ID}\n").repeat(257));
     refuses(
         &["page", "004-bump.hex", &many],
-        "refused 5 OVER_LIMIT: you may ask about 256 ids at once, not more.",
+        "refused 5 OVER_LIMIT: that is more than this library takes, which is 256 ids at once.",
     );
     let (status, text, _) = run_on(&[0xff; 9], &["page", "-", &chosen]);
     let words =
@@ -729,7 +730,8 @@ fn order() {
     let many = file("many.hex", format!("{}\n", encode(&bundle[485..485 + 191])).repeat(257));
     refuses(
         &["order", &many],
-        "refused 5 OVER_LIMIT: you may put 256 transactions in order at once, not more.",
+        "refused 5 OVER_LIMIT: that is more than this library takes, which is 256 transactions at \
+         once.",
     );
     let script = vec![7; (1 << 24) + 4];
     let long = [&[1, 0, 0, 0, 1][..], &[0xaa; 36], &[0xfe, 0, 0, 0, 1], &script, &[1], &[0; 13]];
@@ -1128,6 +1130,98 @@ fn unsaid_everywhere() {
     }
     let help = run(&["judge", "--help"]).1;
     assert!(words(&help).contains(&format!("{heading} {list} For example")), "{help}");
+}
+
+/// What is typed a little differently from the help, and means the same.
+#[test]
+fn as_people_type() {
+    let proof = run(&["prove", "bump", "004-bump.hex", ID]);
+    for id in [format!("{ID} "), format!(" {ID}\n"), ID.to_uppercase()] {
+        assert_eq!(run(&["prove", "bump", "004-bump.hex", &id]), proof);
+    }
+    let commented = format!("# roots\n{ROOT} # block 814435\n  # none\n\t{ROOT}#again \r\n");
+    accepts(&["judge", "004-bundle.hex", &file("commented.txt", commented)], JUDGED);
+    let wrong = file("wrong.txt", format!("{ROOT}\n{} # short\n", &ROOT[1..]));
+    cannot_use(
+        &["judge", "004-bundle.hex", &wrong],
+        &format!("line 2: not 64 hex digits: {}\n", &ROOT[1..]),
+    );
+
+    let clients = run(&["clients", "004-bump.hex"]);
+    let dashed = file("--dashed.hex", data("004-bump.hex"));
+    let (folder, name) = dashed.rsplit_once('/').expect("a path");
+    for words in [&["--", "clients", name][..], &["clients", "--", name]] {
+        let mut command = command(words);
+        assert_eq!(ran(command.current_dir(folder).output().expect("it starts")), clients);
+    }
+    cannot_use(&["clients", name], "no option --dashed.hex; --help lists them");
+    cannot_use(
+        &["judge", "--", "004-bundle.hex", "004-roots.txt", "--cost"],
+        "usage: barrowtide judge",
+    );
+
+    assert_eq!(run(&["help", "judge"]), run(&["judge", "--help"]));
+    assert_eq!(run(&["help", "--json", "judge"]), run(&["judge", "--help", "--json"]));
+    cannot_use(&["help", "frobnicate"], "no command frobnicate");
+    cannot_use(&["--", "--json"], "no command --json");
+}
+
+/// Nothing at standard input is no file of the sender's, but a command that failed before.
+#[test]
+fn nothing_came() {
+    let closed = |words: &str| {
+        let mut shell = Command::new("sh");
+        shell.args(["-c", &format!("\"$PROGRAM\" {words} <&-")]).env("PROGRAM", PROGRAM);
+        ran(shell.current_dir(DATA).output().expect("the shell starts"))
+    };
+    let nothing = "standard input: nothing came; it is closed, or the command before it failed\n";
+    let none = (Some(2), String::new(), nothing.to_string());
+    for words in ["clients -", "judge 004-bundle.hex -", "judge - 004-roots.txt", "order -"] {
+        assert_eq!(closed(words), none);
+        let words: Vec<&str> = words.split(' ').collect();
+        assert_eq!(run_on(b"", &words), none);
+    }
+    assert_eq!(closed("clients 004-bump.hex"), run(&["clients", "004-bump.hex"]));
+}
+
+/// Names and words of others go to no terminal as they are.
+#[test]
+fn no_control_characters() {
+    let plain =
+        |text: &str| text.chars().all(|c| c == '\n' || !(c.is_control() || c == '\u{202e}'));
+    let bad = "a\u{1b}[31m\u{7f}\n\u{9b}\u{202e}b";
+    for words in [
+        &["clients", bad][..],
+        &[bad],
+        &["clients", &format!("--{bad}")],
+        &["help", bad],
+        &["prove", "bump", "004-bump.hex", bad],
+        &["write", "1", "ids.txt", bad],
+        &["judge", "004-bundle.hex", &file("control.txt", bad)],
+        &["clients", &file("control.hex", "0000000000\u{1b}")],
+        &["batch", bad],
+    ] {
+        let (status, text, error) = run(words);
+        assert_eq!((status, text.as_str()), (Some(2), ""), "{words:?}");
+        assert!(plain(&error), "{words:?}: {error:?}");
+        let (_, json, _) = run(&[&["--json"][..], words].concat());
+        assert!(plain(&json) && json.starts_with("{\"unusable\":\""), "{words:?}: {json:?}");
+    }
+}
+
+/// 1, 3 and 5 say that it is this library which does not take more.
+#[test]
+fn more_than_this_library_takes() {
+    let takes = |input: &[u8], words: &[&str], number: &str| {
+        let (status, text, _) = run_on(input, words);
+        assert_eq!(status, Some(1));
+        assert!(text.starts_with(&format!("refused {number}")), "{text}");
+        assert!(text.contains("more than this library takes"), "{text}");
+    };
+    takes(&vec![0; (1 << 24) + 1], &["list", "bump", "-"], "1 TOO_LONG");
+    takes(&[0xfd, 1, 0], &["list", "bump", "-"], "3 LONG_VARINT");
+    takes(&[0xff; 9], &["list", "bump", "-"], "5 OVER_LIMIT");
+    takes(b"\x01\0\xbe\xef\x41", &["list", "beef", "-"], "5 OVER_LIMIT");
 }
 
 /// A reader that goes away is no fault; a full disk is.

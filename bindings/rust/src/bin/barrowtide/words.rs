@@ -171,8 +171,9 @@ impl Refused {
                  {noun}, and check that this is one."
             ),
             (Reason::LongVarint, _) => format!(
-                "the number here is not in its shortest form, and this library takes no other. Ask \
-                 the sender for a {noun} with numbers in that form."
+                "the number here has more bytes than it needs, which is more than this library \
+                 takes: it takes the shortest form alone. Ask the sender for a {noun} with numbers \
+                 in that form."
             ),
             (Reason::BadHeight, Asked::ToBump) => {
                 "the proof has no nodes: its transaction is alone in the block, and no BUMP can say \
@@ -183,18 +184,22 @@ impl Refused {
                 format!("a tree of the height written here is not allowed. {software}.")
             }
             (Reason::OverLimit, Asked::Write) => format!(
-                "you must give 2 to {MAX_IDS} ids, and a block height of at most {}.",
+                "this library takes 2 to {MAX_IDS} ids and a block height of at most {}; you gave \
+                 more, or too few ids.",
                 u32::MAX
             ),
             (Reason::OverLimit, Asked::Page) => {
-                format!("you may ask about {MAX_PAGE} ids at once, not more.")
+                format!("that is more than this library takes, which is {MAX_PAGE} ids at once.")
             }
             (Reason::OverLimit, Asked::Merge) => format!(
                 "a level of the merged BUMP would have more than {MAX_LEAVES} leaves. Keep both, or \
                  ask for BUMPs of fewer transactions."
             ),
             (Reason::OverLimit, Asked::Order) => {
-                format!("you may put {MAX_TRANSACTIONS} transactions in order at once, not more.")
+                format!(
+                    "that is more than this library takes, which is {MAX_TRANSACTIONS} transactions \
+                     at once."
+                )
             }
             (Reason::OverLimit, _) => format!(
                 "the count or block height here is more than this library takes. Ask the sender for \
