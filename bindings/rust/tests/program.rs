@@ -978,8 +978,8 @@ fn draw() {
     assert_eq!((status, note.as_str()), (Some(0), ""));
     well_formed(&svg);
     assert!(svg.contains(&format!("root {ROOT}")));
-    assert!(svg.contains("layer 0: 21 is odd, hash(0dc75b4e, 3ecead27) = "));
-    assert!(svg.contains("layer 6: 0 is even, "));
+    assert!(svg.contains("level 0: 21 is odd, hash(0dc75b4e, 3ecead27) = "));
+    assert!(svg.contains("level 6: 0 is even, "));
     assert!(svg == document("climb.svg"), "README.md shows another: draw docs/climb.svg anew");
 
     let (status, svg, note) = run(&["draw", "004-bump-gap.hex", ID]);
@@ -987,7 +987,7 @@ fn draw() {
     assert_eq!((status, note.as_str()), (Some(1), missing));
     well_formed(&svg);
     assert!(svg.contains(missing.trim_end()) && svg.contains("20 missing"));
-    assert!(svg.contains("layer 0: node 20 is missing"));
+    assert!(svg.contains("level 0: node 20 is missing"));
     assert!(svg == document("missing.svg"), "docs/REFUSALS.md shows another: draw it anew");
 
     // Position 3 of four, where the node beside its parent equals it.
@@ -996,16 +996,31 @@ fn draw() {
     let twin = [&[7, 2, 2, 2, 0][..], &sibling, &[3, 2], &id, &[1, 0, 0], &parent].concat();
     let (status, svg, _) = run(&["draw", &file("twin.bump", twin), &"aa".repeat(32)]);
     well_formed(&svg);
-    assert!(svg.contains("layer 1: node 0 equals the working hash"), "{svg}");
+    assert!(svg.contains("level 1: node 0 equals the working hash"), "{svg}");
     assert_eq!(status, Some(1));
 
     let (status, svg, _) = run(&["draw", "004-bump.hex", ROOT]);
     well_formed(&svg);
     assert!(svg.contains("refused 13 NOT_LISTED"));
     assert_eq!(status, Some(1));
-    let (status, svg, _) = run(&["draw", "004-bump-surplus.hex"]);
+    // Without an id the first client climbs, which the library is asked about.
+    let (status, svg, note) = run(&["draw", "004-bump-surplus.hex"]);
     well_formed(&svg);
-    assert_eq!(status, Some(0));
+    assert_eq!((status, note.as_str()), (Some(0), ""));
+    let told = "no id was given, so the first client's climb is drawn";
+    let (_, with_id, _) = run(&["draw", "004-bump-surplus.hex", ID]);
+    assert!(svg.contains(told) && !with_id.contains(told));
+    assert!(svg.contains(&format!("id   {ID}")) && svg.contains(&format!("root {ROOT}")));
+    let (_, json, _) = run(&["draw", "004-bump-surplus.hex", "--json"]);
+    assert!(json.starts_with(&format!("{{\"accepted\":true,\"id\":\"{ID}\",")), "{json}");
+    let (status, svg, note) = run(&["draw", "004-bump-gap.hex"]);
+    assert_eq!((status, note.as_str()), (Some(1), missing));
+    assert!(svg.contains(told) && svg.contains("20 missing"));
+    // Of two clients that with the lesser offset, in whichever order they stand.
+    let leaf = |offset: u8, byte: u8| [&[offset, 2][..], &[byte; 32]].concat();
+    let two = [&[7, 1, 2][..], &leaf(1, 0xaa), &leaf(0, 0xbb)].concat();
+    let (_, svg, _) = run(&["draw", &file("two-clients.bump", two)]);
+    assert!(svg.contains(&format!("id   {}", "bb".repeat(32))), "{svg}");
     let (_, json, _) = run(&["draw", "--json", "004-bump.hex", ID]);
     assert!(json.contains("\"position\":21,") && json.contains("\"svg\":\"<svg "), "{json}");
     refuses_beside(
@@ -1015,6 +1030,51 @@ fn draw() {
     );
     cannot_use(&["draw"], "usage: barrowtide draw");
     cannot_use(&["draw", "no such file"], "no such file");
+}
+
+/// The height at which a text stands in a picture.
+fn height_of<'a>(svg: &'a str, text: &str) -> &'a str {
+    let line = svg.lines().find(|line| line.contains(text)).expect("the text");
+    let (_, y) = line.split_once(" y=\"").expect("a height");
+    y.split('"').next().expect("it ends")
+}
+
+/// A level stands at one height on both sides, and by one name.
+#[test]
+fn draw_levels() {
+    let (_, svg, _) = run(&["draw", "004-bump.hex", ID]);
+    for level in 0..7 {
+        let left: f64 = height_of(&svg, &format!(">level {level}<")).parse().expect("a number");
+        let right: f64 = height_of(&svg, &format!(">level {level}: ")).parse().expect("a number");
+        assert!((left - right).abs() < 5.0, "{left} and {right}");
+    }
+    assert!(!svg.contains("layer"), "{svg}");
+}
+
+/// Without a client nothing climbs: what lies below the nodes shown is folded, and has no rows. A
+/// node of which nothing is known is a dot, which the legend explains.
+#[test]
+fn draw_without_a_client() {
+    let leaves: Vec<u8> = (0..64).flat_map(|at| [&[at, 0][..], &[at; 32]].concat()).collect();
+    let bump = [&[7, 6, 64][..], &leaves, &[0; 5]].concat();
+    let (status, svg, note) = run(&["draw", &file("no-client.bump", bump)]);
+    well_formed(&svg);
+    assert_eq!((status, note.as_str()), (Some(0), ""));
+    for level in 0..6 {
+        assert_eq!(svg.contains(&format!(">level {level}<")), level >= 2, "level {level}");
+    }
+    assert!(svg.contains(">levels 0 to 1 folded<") && svg.contains(">4 leaves<"), "{svg}");
+    let height = svg.split("height=\"").nth(1).and_then(|rest| rest.split('"').next());
+    let height: f64 = height.expect("a height").parse().expect("a number");
+    let lowest: f64 = height_of(&svg, ">level 2<").parse().expect("a number");
+    assert!(height - lowest < 130.0, "{height} and {lowest}");
+
+    let alone = [&[7, 2, 1, 2, 0][..], &[0xaa; 32], &[0]].concat();
+    let (_, svg, _) = run(&["draw", &file("alone.bump", alone)]);
+    let dots = svg.matches("<circle ").count();
+    assert!(dots == 3 && svg.contains(">value not known<"), "{dots} dots: {svg}");
+    assert!(svg.contains(">level 0<") && !svg.contains("level 0 folded"), "{svg}");
+    assert!(svg.contains(">tree height 2, 1 leaf written, "), "{svg}");
 }
 
 /// A busy block: what is not on the climb is folded, so the picture stays small.
@@ -1044,7 +1104,7 @@ fn draw_many_layers() {
     let (status, svg, _) = run(&["draw", &file("tall.bump", bump), &"aa".repeat(32)]);
     well_formed(&svg);
     assert_eq!(status, Some(0));
-    assert!(svg.contains("layer 29: 0 is even, ") && svg.contains("1 copy"));
+    assert!(svg.contains("level 29: 0 is even, ") && svg.contains("1 copy"));
     let width = svg.split("width=\"").nth(1).and_then(|rest| rest.split('"').next());
     assert!(width.expect("a width").parse::<u32>().expect("a number") < 1_200);
 }

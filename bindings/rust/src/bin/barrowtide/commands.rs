@@ -549,17 +549,23 @@ pub fn draw(words: &[Word]) -> Answer {
     picture(&data, id, None)
 }
 
-/// The picture of a BUMP, and of the climb of an id; the line says where the BUMP is from.
+/// The picture of a BUMP, and of the climb of an id, or else of its first client; the line says where
+/// the BUMP is from.
 pub fn picture(data: &[u8], id: Option<Hash>, from: Option<String>) -> Answer {
     let head = barrowtide::read_bump(data).map_err(refused(Asked::Read(Form::Bump), data))?;
     let levels = Levels::of_bump(data).ok_or_else(unreadable)?;
-    let Some(id) = id else {
-        let svg = draw::picture(&head, &levels, from, None).ok_or_else(unreadable)?;
+    let mut notes: Vec<String> = from.into_iter().collect();
+    let chosen = if id.is_none() { levels.first_client() } else { None };
+    if chosen.is_some() {
+        notes.push("no id was given, so the first client's climb is drawn".to_string());
+    }
+    let Some(id) = id.or(chosen) else {
+        let svg = draw::picture(&head, &levels, notes, None).ok_or_else(unreadable)?;
         return Ok(Told { output: Output::Svg(svg), ..Told::text(String::new(), Vec::new()) });
     };
     let answer = barrowtide::prove_bump(data, &id);
     let said = answer.map_err(|refusal| Refused::new(refusal, Asked::Prove(Form::Bump)));
-    let svg = draw::picture(&head, &levels, from, Some((&id, &said))).ok_or_else(unreadable)?;
+    let svg = draw::picture(&head, &levels, notes, Some((&id, &said))).ok_or_else(unreadable)?;
     let (note, fields) = match &said {
         Ok(proof) => (String::new(), proof_fields(proof)),
         Err(refused) => (format!("{refused}\n"), vec![("refusal", refused.json())]),

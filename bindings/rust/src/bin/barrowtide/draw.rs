@@ -139,8 +139,8 @@ impl Node {
 pub struct Picture<'a> {
     pub head: &'a Bump,
     pub levels: &'a Levels,
-    /// Where the BUMP is from.
-    pub from: Option<String>,
+    /// Where the BUMP is from, and which climb it is.
+    pub notes: Vec<String>,
     pub climb: Option<Climb>,
     /// What the library said of the id that was asked about.
     pub said: Option<(&'a Hash, &'a Result<Proof, Refused>)>,
@@ -153,7 +153,7 @@ pub struct Picture<'a> {
 pub fn picture(
     head: &Bump,
     levels: &Levels,
-    from: Option<String>,
+    notes: Vec<String>,
     said: Option<(&Hash, &Result<Proof, Refused>)>,
 ) -> Option<String> {
     let climb = match said {
@@ -176,7 +176,7 @@ pub fn picture(
         root.stand_straight();
         columns = 3;
     }
-    Some(svg::text(&Picture { head, levels, from, climb, said, root, columns }))
+    Some(svg::text(&Picture { head, levels, notes, climb, said, root, columns }))
 }
 
 /// The offsets of each level, rising, to count leaves under nodes.

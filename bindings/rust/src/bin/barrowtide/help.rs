@@ -281,10 +281,11 @@ kept, and a hash rather than the copy that stands for it.",
         usage: "draw BUMP [ID] | draw BEEF ID",
         brief: "a BUMP as a picture (SVG)",
         about: "\
-Draws the tree with what is written; of a BEEF the BUMP that prove beef asks. With an id its climb is drawn too: what was
-hashed at each layer, and if it stops, the sibling that is missing or a twin. What
-is not on the climb is small, and folded where there is much of it; the picture
-is made even if the climb is refused.",
+Draws the tree with what is written, and the climb of the id, or of the first client if
+none is given: what was hashed at each level, and if it stops, the sibling that is
+missing or a twin. What is not on the climb is small, and folded where there is much
+of it; the picture is made even if the climb is refused. Of a BEEF the BUMP is drawn
+that prove beef asks.",
         example: "    ./barrowtide draw bindings/rust/tests/data/004-bump.hex \\
       3ecead27a44d013ad1aae40038acbb1883ac9242406808bb4667c15b4f164eac > target/climb.svg",
         gives_picture: true,

@@ -110,6 +110,13 @@ impl Levels {
         self.0.first()?.iter().filter(carries).map(|leaf| leaf.offset).min()
     }
 
+    /// The client with the least offset.
+    pub fn first_client(&self) -> Option<Hash> {
+        let client = |leaf: &&Leaf| matches!(leaf.kind, Kind::Client(_));
+        let first = self.0.first()?.iter().filter(client).min_by_key(|leaf| leaf.offset)?;
+        first.kind.hash()
+    }
+
     /// The number of client leaves.
     pub fn clients(&self) -> usize {
         let client = |leaf: &&Leaf| matches!(leaf.kind, Kind::Client(_));

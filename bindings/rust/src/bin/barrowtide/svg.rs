@@ -2,6 +2,7 @@
 
 use barrowtide::Hash;
 
+use crate::commands::counted;
 use crate::draw::{Climb, Node, Picture, Role};
 use crate::leaves::Kind;
 
@@ -101,6 +102,8 @@ struct Sheet<'a> {
     top: f64,
     /// The width of a column.
     pitch: f64,
+    /// The lowest level of which a node is shown.
+    lowest: usize,
 }
 
 /// The picture as SVG.
@@ -114,15 +117,17 @@ pub fn text(picture: &Picture) -> String {
 
     let head = head(picture);
     let top = 22.0 * head.len() as f64 + 50.0;
-    let mut sheet = Sheet { picture, out: String::new(), top, pitch };
+    let lowest = nodes.iter().map(|node| node.place.0).min().unwrap_or(0);
+    let mut sheet = Sheet { picture, out: String::new(), top, pitch, lowest };
     let tree = LEFT + pitch * picture.columns as f64;
     let steps: Vec<String> = (0..sheet.layers()).map(|layer| sheet.step(layer)).collect();
     let longest = steps.iter().map(|step| visible(step)).max().unwrap_or(0);
     let words = head.iter().map(|(_, line)| line.len()).max().unwrap_or(0);
-    let width =
-        (tree + 20.0 + LETTER * longest as f64).max(LETTER * words as f64 + 40.0).max(LEAST_WIDTH);
-    let bottom = sheet.y(0) + ROW;
+    let bottom = sheet.y(lowest) + ROW;
     let height = bottom + 40.0;
+    let (legend, legend_width) = sheet.legend(bottom + 10.0);
+    let width =
+        (tree + 20.0 + LETTER * longest as f64).max(LETTER * words as f64 + 40.0).max(legend_width);
 
     for (index, (class, line)) in head.iter().enumerate() {
         let y = 30.0 + 22.0 * index as f64;
@@ -135,14 +140,14 @@ pub fn text(picture: &Picture) -> String {
     for node in &nodes {
         sheet.node(node);
     }
-    for (layer, step) in steps.iter().enumerate() {
-        let y = sheet.y(layer) - ROW / 2.0 + 4.0;
+    for (level, step) in steps.iter().enumerate() {
+        let y = sheet.y(level) + 4.0;
         sheet.put(&format!(
             "<text class=\"mono\" x=\"{:.1}\" y=\"{y:.1}\">{step}</text>",
             tree + 10.0
         ));
     }
-    sheet.legend(bottom + 10.0);
+    sheet.put(&legend);
     format!(
         "<svg xmlns=\"http://www.w3.org/2000/svg\" width=\"{width:.0}\" height=\"{height:.0}\" \
          viewBox=\"0 0 {width:.0} {height:.0}\">\n<style>{STYLE}</style>\n\
@@ -159,14 +164,14 @@ fn head(picture: &Picture) -> Vec<(&'static str, String)> {
         (
             "",
             format!(
-                "tree height {}, {} leaves written, clients among them: {}",
+                "tree height {}, {} written, clients among them: {}",
                 head.tree_height,
-                head.leaves,
+                counted(head.leaves, "leaf", "leaves"),
                 levels.clients()
             ),
         ),
     ];
-    lines.extend(picture.from.iter().map(|from| ("", from.clone())));
+    lines.extend(picture.notes.iter().map(|note| ("", note.clone())));
     let Some((id, said)) = picture.said else { return lines };
     lines.push(("mono", format!("id   {id}")));
     match said {
@@ -238,13 +243,21 @@ impl Sheet<'_> {
         let height = self.picture.levels.0.len();
         let y = self.y(height) + 4.0;
         self.put(&format!("<text class=\"level\" x=\"20\" y=\"{y:.1}\">root</text>"));
-        for level in 0..height {
+        for level in self.lowest..height {
             let y = self.y(level);
             let count = self.picture.levels.0[level].len();
             let leaves = if count == 1 { "leaf" } else { "leaves" };
             self.put(&format!(
                 "<text class=\"level\" x=\"20\" y=\"{y:.1}\">level {level}\
                  <tspan x=\"20\" dy=\"14\">{count} {leaves}</tspan></text>"
+            ));
+        }
+        if let Some(folded) = self.lowest.checked_sub(1) {
+            let y = self.y(self.lowest) + ROW * 0.7;
+            let levels =
+                if folded == 0 { "level 0".into() } else { format!("levels 0 to {folded}") };
+            self.put(&format!(
+                "<text class=\"level\" x=\"20\" y=\"{y:.1}\">{levels} folded</text>"
             ));
         }
     }
@@ -352,22 +365,23 @@ impl Sheet<'_> {
         ));
     }
 
-    /// What was hashed at a layer, or why nothing was.
+    /// What was hashed at a level, which a refusal calls a layer, or why nothing was.
     fn step(&self, layer: usize) -> String {
         let Some(climb) = self.climb() else { return String::new() };
         let Some(step) = climb.steps.get(layer) else {
             let twin = climb.stop.is_some_and(|(_, twin)| twin);
             let sibling = climb.stop.map_or(0, |((_, sibling), _)| sibling);
             let why = if twin { "equals the working hash" } else { "is missing" };
-            return format!("<tspan class=\"bad\">layer {layer}: node {sibling} {why}</tspan>");
+            return format!("<tspan class=\"bad\">level {layer}: node {sibling} {why}</tspan>");
         };
         let (left, right, made) = (brief(&step.left), brief(&step.right), brief(&step.made));
         let parity = if step.position % 2 == 1 { "odd" } else { "even" };
         let position = step.position;
-        format!("layer {layer}: {position} is {parity}, hash({left}, {right}) = {made}")
+        format!("level {layer}: {position} is {parity}, hash({left}, {right}) = {made}")
     }
 
-    fn legend(&mut self, y: f64) {
+    /// What the boxes and marks mean, and how wide that is.
+    fn legend(&self, y: f64) -> (String, f64) {
         let all = [
             ("climb", "climb"),
             ("sibling", "sibling taken as written"),
@@ -383,22 +397,29 @@ impl Sheet<'_> {
             ("worked", "not written, worked out"),
         ];
         let shown: &[(&str, &str)] = if self.climb().is_some() { &all } else { &without };
-        let mut x = 20.0;
-        for (class, words) in shown {
-            self.put(&format!(
-                "<rect class=\"{class}\" x=\"{x:.1}\" y=\"{:.1}\" width=\"16\" height=\"12\" rx=\"2\"/>\
-                 <text x=\"{:.1}\" y=\"{y:.1}\">{words}</text>",
-                y - 10.0,
-                x + 22.0
-            ));
+        let (mut x, mut out) = (20.0, String::new());
+        let mut entry = |mark: &dyn Fn(f64) -> String, words: &str| {
+            let (mark, at) = (mark(x), x + 22.0);
+            out += &format!("{mark}<text x=\"{at:.1}\" y=\"{y:.1}\">{words}</text>\n");
             x += 40.0 + 6.0 * words.len() as f64;
+        };
+        for (class, words) in shown {
+            let (class, top) = (*class, y - 10.0);
+            let mark = move |x: f64| {
+                format!(
+                    "<rect class=\"{class}\" x=\"{x:.1}\" y=\"{top:.1}\" width=\"16\" height=\"12\" \
+                     rx=\"2\"/>"
+                )
+            };
+            entry(&mark, words);
         }
-        self.put(&format!(
-            "<path class=\"fold\" d=\"M{:.1} {:.1}l-8 10h16z\"/>\
-             <text x=\"{:.1}\" y=\"{y:.1}\">leaves folded</text>",
-            x + 8.0,
-            y - 9.0,
-            x + 22.0
-        ));
+        let dot = |x: f64| format!("<circle cx=\"{:.1}\" cy=\"{:.1}\" r=\"3\"/>", x + 8.0, y - 4.0);
+        entry(&dot, "value not known");
+        let fold = |x: f64| {
+            format!("<path class=\"fold\" d=\"M{:.1} {:.1}l-8 10h16z\"/>", x + 8.0, y - 9.0)
+        };
+        entry(&fold, "leaves folded");
+        out.truncate(out.trim_end().len());
+        (out, x.max(LEAST_WIDTH))
     }
 }
