@@ -43,7 +43,7 @@ impl Record {
     }
 }
 
-/// What [`judge_beef`] says of an accepted bundle beside the table.
+/// What [`judge_into`] says of an accepted bundle beside the table.
 #[derive(Debug, Clone, Copy, PartialEq, Eq)]
 pub struct Judged {
     /// How many transactions it has.
@@ -59,14 +59,14 @@ pub struct Judged {
 /// the first n records are filled, the others are zero. A refusal zeroes the whole table.
 ///
 /// ```
-/// use barrowtide::{judge_beef, Reason, Record};
+/// use barrowtide::{judge_into, Reason, Record};
 /// let mut table = [Record { length: 7, ..Record::default() }];
 /// let bundle = [0x01, 0x00, 0xbe, 0xef, 0x00, 0x00];
-/// let refusal = judge_beef(&bundle, &[], 0, &mut table).unwrap_err();
+/// let refusal = judge_into(&bundle, &[], 0, &mut table).unwrap_err();
 /// assert_eq!((refusal.reason, refusal.carried, refusal.work), (Reason::Empty, 5, Some(0)));
 /// assert_eq!(table, [Record::default()]);
 /// ```
-pub fn judge_beef(
+pub fn judge_into(
     data: &[u8],
     roots: &[u8],
     fee: u64,
@@ -138,7 +138,7 @@ pub struct Verdict {
 /// ```
 pub fn judge(data: &[u8], roots: &[Hash], fee: u64) -> Result<Verdict, Refusal> {
     let mut records = vec![Record::default(); MAX_TRANSACTIONS];
-    let judged = judge_beef(data, &Hash::end_to_end(roots), fee, &mut records)?;
+    let judged = judge_into(data, &Hash::end_to_end(roots), fee, &mut records)?;
     records.truncate(judged.transactions as usize);
     Ok(Verdict { records, work: judged.work })
 }

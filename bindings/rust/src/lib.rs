@@ -12,11 +12,12 @@
 //! - [`compare`]: two proofs under one root that disagree on the id hold two strings of one hash
 //! - [`compare_depths`]: so do two of different numbers of layers, one of which proves a payment
 //!   where the other has a node of the tree
-//! - [`judge`], [`judge_beef`]: does every transaction of a BEEF bundle rest on a trusted root, and
+//! - [`judge`], [`judge_into`]: does every transaction of a BEEF bundle rest on a trusted root, and
 //!   spend what is there? And how much hashing does it take to say so?
 //! - [`order`], [`order_into`], [`check_order`]: transactions in an order with parents
 //!   first, as a BEEF needs them
 //! - [`differences`], [`differences_into`], [`shorter`]: two BUMPs side by side
+//! - [`bump_leaves`]: the leaves of a BUMP, one after the other as they are written
 //! - [`LeafList`], and over lent room [`list_leaves_into`], [`search_leaves`], [`merge_into`]: a list
 //!   of leaves beside a busy BUMP, by which it is searched, and two BUMPs of one block merged
 //! - [`write_bump`], [`write_bump_into`]: the BUMP that proves some of a block's ids
@@ -75,6 +76,7 @@ mod transaction;
 mod tsc;
 mod varint;
 mod version;
+mod walk;
 mod write;
 
 pub use beef::{read_beef, Beef};
@@ -87,7 +89,7 @@ pub use convert::{
 };
 pub use difference::{differences, differences_into, shorter, Difference, Side, MAX_DIFFERENCES};
 pub use hash::{join, sha256d, Hash, ParseHashError, MAX_INPUT};
-pub use judge::{judge, judge_beef, Judged, Record, Verdict, MAX_TOTAL, MAX_TRANSACTIONS};
+pub use judge::{judge, judge_into, Judged, Record, Verdict, MAX_TOTAL, MAX_TRANSACTIONS};
 pub use leaves::{
     list_leaves_into, merge_into, search_leaves, LeafList, ListedLeaf, Merged, MergedBump,
     MAX_LEAVES, MAX_LISTED, MERGE_EXTRA,
@@ -101,4 +103,5 @@ pub use transaction::{read_transaction, Transaction};
 pub use tsc::{read_tsc, Tsc};
 pub use varint::{read_varint, VarInt};
 pub use version::{version, Version, VERSION};
+pub use walk::{bump_leaves, BumpLeaf, BumpLeaves, LeafKind};
 pub use write::{write_bump, write_bump_into, MAX_IDS, WRITE_ROOM};

@@ -581,10 +581,10 @@ fn longer_table() {
     assert_eq!(check(&bundle, &root, room).map(|records| records.len()), Ok(2));
 
     let mut table = vec![FILLED; room];
-    assert!(barrowtide::judge_beef(&[], &[0], 0, &mut table).is_err());
+    assert!(barrowtide::judge_into(&[], &[0], 0, &mut table).is_err());
     assert!(bytes(&table).iter().all(|&byte| byte == 0));
     table.fill(FILLED);
-    let judged = barrowtide::judge_beef(&bundle, &root, 0, &mut table);
+    let judged = barrowtide::judge_into(&bundle, &root, 0, &mut table);
     assert_eq!(judged.map(|judged| judged.transactions), Ok(2));
     assert!(bytes(&table[2..]).iter().all(|&byte| byte == 0));
 }

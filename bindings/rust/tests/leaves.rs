@@ -4,7 +4,8 @@ mod common;
 
 use std::collections::BTreeMap;
 
-use barrowtide::{ffi, search_leaves, LeafList, ListedLeaf, MAX_INPUT, MAX_LISTED};
+use barrowtide::{bump_leaves, ffi, search_leaves, BumpLeaf, LeafKind, LeafList, ListedLeaf};
+use barrowtide::{MAX_INPUT, MAX_LISTED};
 use common::{expected, plain, FILL, GUARDED};
 use reference::generate::damage::{field_edits, random_edit, truncations};
 use reference::generate::path::{Leaf, Plan};
@@ -13,6 +14,7 @@ use reference::generate::tally::Tally;
 use reference::generate::tree::Tree;
 use reference::hex::{expand, show};
 use reference::leaves::{build, search, Row};
+use reference::path::Node;
 use reference::refusal::Refusal;
 
 type List = Result<Vec<Row>, Refusal>;
@@ -47,6 +49,7 @@ fn check(data: &[u8]) -> List {
     let list = build(data, usize::MAX);
     let safe = LeafList::build(data).map_err(plain);
     assert_eq!(safe.map(|list| list.as_numbers().to_vec()), list.clone().map(|l| l.concat()));
+    check_walk(data, &list);
     let needed = list.as_ref().map_or(5, Vec::len);
     for numbers in [3 * needed, 3 * needed + 2, 3 * needed + 31] {
         assert_eq!(check_room(data, numbers), list);
@@ -58,6 +61,36 @@ fn check(data: &[u8]) -> List {
         }
     }
     list
+}
+
+/// Compares the leaves one after the other with the independent reading, and their places with the
+/// list.
+fn check_walk(data: &[u8], list: &List) {
+    let walked = bump_leaves(data);
+    let Ok(bump) = reference::bump::read(data) else {
+        assert_eq!(walked.map(drop).map_err(plain), list.clone().map(drop), "{}", show(data));
+        return;
+    };
+    let mut walked = walked.expect("a well-formed path");
+    let mut places = Vec::new();
+    for (level, leaves) in (0..).zip(&bump.path.levels) {
+        for leaf in leaves {
+            let before = walked.len();
+            let BumpLeaf { level: in_level, offset, place, kind } = walked.next().expect("a leaf");
+            assert_eq!((in_level, offset, walked.len()), (level, leaf.offset, before - 1));
+            let expected = match leaf.node {
+                Node::Plain(hash) => LeafKind::Node(barrowtide::Hash::from_stored(hash)),
+                Node::Copy => LeafKind::Copy,
+                Node::Client(hash) => LeafKind::Client(barrowtide::Hash::from_stored(hash)),
+            };
+            assert_eq!(kind, expected, "{}", show(data));
+            assert_eq!(kind.hash().map(|hash| hash.stored()), leaf.node.hash());
+            places.push([level, offset, place]);
+        }
+    }
+    assert_eq!((walked.len(), walked.next(), walked.next()), (0, None, None));
+    places.sort_unstable();
+    assert_eq!(Ok(&places), list.as_ref(), "{}", show(data));
 }
 
 /// Asks a list for a leaf; memory for the place stays where there is none.

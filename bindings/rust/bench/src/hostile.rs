@@ -54,9 +54,9 @@ pub fn run() {
         let plan = bundle::Plan { bumps: vec![path], entries, roots, fee: 0 };
         let (beef, roots) = (plan.draft().bytes, plan.root_list());
         let mut table = [Record::default(); 256];
-        assert_eq!(barrowtide::judge_beef(&beef, &roots, 0, &mut table).is_ok(), !missing);
+        assert_eq!(barrowtide::judge_into(&beef, &roots, 0, &mut table).is_ok(), !missing);
         most(&format!("256 transactions judged{name}"), 256 * HEIGHT + leaves, || {
-            barrowtide::judge_beef(&beef, &roots, 0, &mut table)
+            barrowtide::judge_into(&beef, &roots, 0, &mut table)
         });
     }
 }

@@ -62,7 +62,7 @@ fn compare(name: &str, bundle: &[u8], roots: &[u8]) {
     let read = beef::read(bundle).expect("a well-formed bundle");
     let count = read.entries.len();
     let mut table = vec![Record::default(); count];
-    let judged = barrowtide::judge_beef(bundle, roots, 0, &mut table).expect("a sound bundle");
+    let judged = barrowtide::judge_into(bundle, roots, 0, &mut table).expect("a sound bundle");
     assert_eq!(judged.transactions, count as u64);
 
     let transactions: Vec<&[u8]> = read
@@ -74,7 +74,7 @@ fn compare(name: &str, bundle: &[u8], roots: &[u8]) {
     let joins: u64 = read.entries.iter().filter_map(|entry| entry.anchor).map(height).sum();
     let node = [7; 32];
     let times = seconds(vec![
-        subject(|| barrowtide::judge_beef(bundle, roots, 0, &mut table)),
+        subject(|| barrowtide::judge_into(bundle, roots, 0, &mut table)),
         subject(|| judge(bundle, roots, 0, count)),
         subject(|| transactions.iter().filter_map(|bytes| sha256d(bytes).ok()).count()),
         subject(|| join(&node, &node)),
@@ -100,12 +100,12 @@ fn of_250_bytes(random: &mut Random, count: usize) {
     });
     let (bundle, roots) = (plan.draft().bytes, plan.root_list());
     let mut table = vec![Record::default(); count];
-    let judged = barrowtide::judge_beef(&bundle, &roots, 0, &mut table);
+    let judged = barrowtide::judge_into(&bundle, &roots, 0, &mut table);
     assert_eq!(judged.map(|judged| judged.transactions), Ok(count as u64));
     let transactions: Vec<_> = plan.entries.iter().map(|entry| entry.0.draft().bytes).collect();
     assert!(transactions.iter().all(|bytes| bytes.len() == 250));
     let mut subjects = vec![
-        subject(|| barrowtide::judge_beef(&bundle, &roots, 0, &mut table)),
+        subject(|| barrowtide::judge_into(&bundle, &roots, 0, &mut table)),
         subject(|| transactions.iter().filter_map(|bytes| sha256d(bytes).ok()).count()),
     ];
     if let Some(openssl) = OpenSsl::find() {
@@ -126,7 +126,7 @@ fn worst(name: &str, plan: &Plan) {
     let (bundle, roots) = (plan.draft().bytes, plan.root_list());
     let count = plan.entries.len();
     let mut table = vec![Record::default(); count];
-    let answer = barrowtide::judge_beef(&bundle, &roots, 0, &mut table);
+    let answer = barrowtide::judge_into(&bundle, &roots, 0, &mut table);
     let told = judge(&bundle, &roots, 0, count);
     assert_eq!(
         answer.map(|judged| (judged.transactions, judged.work)).map_err(|refusal| (
@@ -143,7 +143,7 @@ fn worst(name: &str, plan: &Plan) {
     row(
         name,
         bundle.len(),
-        seconds_of(|| barrowtide::judge_beef(&bundle, &roots, 0, &mut table)),
+        seconds_of(|| barrowtide::judge_into(&bundle, &roots, 0, &mut table)),
         seconds_of(|| judge(&bundle, &roots, 0, count)),
     );
 }

@@ -58,12 +58,12 @@ fn clients_alone(random: &mut Random, order: &str) {
     let plan = bundle::Plan { bumps: vec![path], entries, roots: vec![tree.root()], fee: 0 };
     let (beef, roots) = (plan.draft().bytes, plan.root_list());
     let mut table = [Record::default(); 256];
-    let judged = barrowtide::judge_beef(&beef, &roots, 0, &mut table);
+    let judged = barrowtide::judge_into(&beef, &roots, 0, &mut table);
     assert_eq!(judged.map(|judged| judged.transactions), Ok(256));
     long_row(
         "  256 of them judged",
         256 * 1_023,
-        subject(|| barrowtide::judge_beef(&beef, &roots, 0, &mut table)),
+        subject(|| barrowtide::judge_into(&beef, &roots, 0, &mut table)),
         subject(|| judge(&beef, &roots, 0, 256)),
     );
 }

@@ -51,7 +51,7 @@ pub fn judged(
     assert_eq!(bytes(&table), bytes(&left), "{}", describe());
 
     table.fill(FILLED);
-    let safe = barrowtide::judge_beef(data, roots, fee, &mut table);
+    let safe = barrowtide::judge_into(data, roots, fee, &mut table);
     let counted = safe.map_or_else(|refusal| refusal.work, |judged| Some(judged.work));
     assert_eq!(counted, Some(work), "{}", describe());
     let safe = safe.map(|Judged { transactions, .. }| transactions).map_err(plain);
