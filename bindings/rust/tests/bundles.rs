@@ -15,6 +15,7 @@ use published::without_sibling;
 use reference::generate::bundle::Plan;
 use reference::generate::damage::random_edit;
 use reference::generate::random::Random;
+use reference::generate::tsc;
 use reference::hex::{encode, printed};
 use reference::{beef, bump, prove};
 
@@ -221,6 +222,56 @@ fn random_bundles() {
     );
 }
 
+/// Whatever the bytes, what is shown agrees with the library: no command ends because it doesn't.
+#[test]
+fn shown_as_answered() {
+    let mut random = Random::of("shown_as_answered");
+    let (mut lines, mut answered) = (Vec::new(), [0; 3]);
+    for round in 0..300 {
+        let transactions = random.within(1..=8);
+        let mut plan = Plan::random(&mut random, transactions);
+        if round % 2 == 1 {
+            plan.spoil(&mut random);
+        }
+        let proof = tsc::Plan::random(&mut random, 20);
+        let path = plan.bumps[random.index(plan.bumps.len())].bump();
+        let drafts = [plan.draft(), proof.draft(), path];
+        let [bundle, proof, path] = drafts.map(|draft| {
+            let whole = random.one_in(2);
+            let bytes = if whole { draft.bytes.clone() } else { random_edit(&mut random, &draft) };
+            format!("{{\"hex\":\"{}\"}}", encode(&bytes))
+        });
+        let roots: Vec<String> =
+            plan.roots.iter().map(|root| format!("\"{}\"", printed(root))).collect();
+        let roots = format!("[{}]", roots.join(","));
+        let id = plan.entries.first().map_or_else(|| random.hash(), |entry| entry.0.id());
+        let (id, fee) = (printed(&id), plan.fee);
+        for (command, arguments) in [
+            ("judge", format!("{bundle},{roots},\"--fee\",{fee}")),
+            ("judge", format!("{bundle},[],\"--cost\"")),
+            ("list", format!("\"beef\",{bundle}")),
+            ("prove", format!("\"beef\",{bundle},\"{id}\"")),
+            ("draw", format!("{bundle},\"{id}\"")),
+            ("draw", path.clone()),
+            ("draw", format!("{path},\"{id}\"")),
+            ("extract", format!("\"tx\",0,{bundle}")),
+            ("list", format!("\"tsc\",{proof}")),
+            ("prove", format!("\"tsc\",{proof}")),
+        ] {
+            lines.push(format!("{{\"command\":\"{command}\",\"arguments\":[{arguments}]}}\n"));
+        }
+    }
+    let (status, text, error) = run_on(lines.concat().as_bytes(), &["batch"]);
+    assert_eq!((status, error.as_str()), (Some(0), ""));
+    assert_eq!(text.lines().count(), lines.len());
+    for (line, answer) in lines.iter().zip(text.lines()) {
+        let kind = ["{\"accepted\":true", "{\"accepted\":false", "{\"unusable\":\"the bundle has "];
+        let kind = kind.iter().position(|start| answer.starts_with(start));
+        answered[kind.unwrap_or_else(|| panic!("{line}{answer}"))] += 1;
+    }
+    assert!(answered[0] > 800 && answered[1] > 800, "{answered:?}");
+}
+
 #[test]
 fn extract() {
     let whole = data("004-bundle.hex");
@@ -328,7 +379,7 @@ fn prove_by_the_bump_that_is_named() {
 }
 
 #[test]
-fn tsc() {
+fn tsc_proofs() {
     let id = "ffeff11c25cde7c06d407490d81ef4d0db64aad6ab3d14393530701561a465ef";
     let (_, text, _) = run(&["list", "tsc", "000-proof.hex"]);
     let target = "75edb0a69eb195cdd81e310553aa4d25e18450e08f168532a2c2e9cf447bf169";

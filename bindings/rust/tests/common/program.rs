@@ -5,6 +5,7 @@ use std::fs;
 use std::io::Write;
 use std::path::PathBuf;
 use std::process::{Command, Output, Stdio};
+use std::thread;
 
 use reference::hex::decode;
 
@@ -31,13 +32,17 @@ pub fn run(arguments: &[&str]) -> Ran {
     ran(command(arguments).output().expect("the program starts"))
 }
 
-/// Runs it with standard input.
+/// Runs it with standard input, which it may leave unread.
 pub fn run_on(input: &[u8], arguments: &[&str]) -> Ran {
     let mut command = command(arguments);
     command.stdin(Stdio::piped()).stdout(Stdio::piped()).stderr(Stdio::piped());
     let mut child = command.spawn().expect("the program starts");
-    child.stdin.take().expect("piped").write_all(input).expect("it reads");
-    ran(child.wait_with_output().expect("it ends"))
+    let mut stdin = child.stdin.take().expect("piped");
+    // Beside reading, as it may answer before it has read all.
+    thread::scope(|scope| {
+        scope.spawn(move || stdin.write_all(input));
+        ran(child.wait_with_output().expect("it ends"))
+    })
 }
 
 /// A file of its own for a test.
