@@ -359,6 +359,31 @@ fn a_list_that_changes() {
     assert_eq!(child.wait().expect("it ends").code(), Some(0));
 }
 
+/// README's line for an archive, with one process in place of parallel's many.
+#[test]
+fn as_readme_shows() {
+    let readme = fs::read_to_string(format!("{DATA}/../../../../README.md")).expect("README.md");
+    let line = readme.lines().find(|line| line.contains(" batch ")).expect("the line").trim();
+    let line = line.replace("parallel -k --pipe ./barrowtide", "\"$PROGRAM\"");
+    assert!(line.contains("\"$PROGRAM\""), "{line}");
+    let folder = format!("{}/readme-{}", env!("CARGO_TARGET_TMPDIR"), std::process::id());
+    fs::create_dir_all(format!("{folder}/archive/2023")).expect("a folder");
+    for name in ["archive/a.beef", "archive/2023/b c.beef"] {
+        fs::write(format!("{folder}/{name}"), data("004-bundle.hex")).expect("a bundle");
+    }
+    fs::write(format!("{folder}/roots.txt"), ROOT).expect("a list");
+    let mut shell = Command::new("sh");
+    shell.args(["-c", &line]).env("PROGRAM", PROGRAM).current_dir(&folder);
+    assert!(shell.status().expect("the shell starts").success());
+    let answers = fs::read_to_string(format!("{folder}/answers.jsonl")).expect("the answers");
+    fs::remove_dir_all(&folder).expect("it was made");
+    let mut tags: Vec<&str> =
+        answers.lines().filter_map(|line| line.split(",\"accepted\":true,").next()).collect();
+    tags.sort_unstable();
+    let expected = ["{\"tag\":\"archive/2023/b c.beef\"", "{\"tag\":\"archive/a.beef\""];
+    assert_eq!(tags, expected, "{answers}");
+}
+
 /// Numbers that floating point does not hold are texts.
 #[test]
 fn great_numbers() {

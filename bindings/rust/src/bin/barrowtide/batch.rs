@@ -112,7 +112,6 @@ impl Requests {
         if line.is_empty() {
             return Ok(None);
         }
-        self.count += 1;
         let mut whole = true;
         if line.last() == Some(&b'\n') {
             line.pop();
@@ -120,6 +119,8 @@ impl Requests {
             whole = false;
             self.pass_over()?;
         }
+        // A number that is given is answered, or those behind it would wait for ever.
+        self.count += 1;
         Ok(Some((self.count - 1, whole.then_some(line))))
     }
 

@@ -358,10 +358,12 @@ static LAST: Mutex<Option<List>> = Mutex::new(None);
 pub fn hashes(word: &Word) -> Result<Arc<[Hash]>, Failure> {
     let last = || LAST.lock().unwrap_or_else(PoisonError::into_inner);
     let file = match word {
-        Word::Plain(path) => fs::metadata(path).ok().filter(fs::Metadata::is_file).map(|file| {
-            let seen = (file.len(), file.modified().ok());
-            (path, seen)
-        }),
+        Word::Plain(path) if path != "-" => {
+            fs::metadata(path).ok().filter(fs::Metadata::is_file).map(|file| {
+                let seen = (file.len(), file.modified().ok());
+                (path, seen)
+            })
+        }
         _ => None,
     };
     let Some((path, seen)) = file else { return read_hashes(word).map(Arc::from) };
