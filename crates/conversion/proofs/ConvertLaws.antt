@@ -10,14 +10,14 @@ use lib.Dec.{eqb}
 use native.Mathlib.Omega.{arith}
 use native.Mathlib.Nat.{sub-zero}
 use borrow.Author.Tests.{eq-eqb, ne-eqb}
-use Rattle.format.specs.Basics.{one-less}
+use Rattle.format.proofs.Basics.{one-less}
 use Rattle.format.specs.declared.level.Kind.{Kind}
 use Rattle.format.specs.declared.level.Kind.the-variants.{Plain, Copy, Client}
 use Rattle.format.specs.Parse.{pick, times, many, got, bad}
-use Rattle.format.specs.ParseLaws.{many-told}
+use Rattle.format.proofs.ParseLaws.{many-told}
 use Rattle.format.specs.Node.{nodeField}
 use Rattle.format.specs.Bytes.{hashAt}
-use Rattle.format.specs.BytesLaws.{hash-at-length}
+use Rattle.format.proofs.BytesLaws.{hash-at-length}
 use Rattle.encoding.specs.Digits.{varintBytes}
 use Rattle.encoding.proofs.VarintSpelling.{varint-length}
 use Rattle.encoding.specs.Spells.{spells}
@@ -27,21 +27,21 @@ use Rattle.encoding.specs.BumpBytes.{Entry, carriedBytes, entryBytes, levelByte
 use Rattle.encoding.specs.TscBytes.{ID-AND-ROOT, tscBytes}
 use Rattle.format.specs.declared.tsc.TscHead.{TscHead}
 use Rattle.format.specs.Tsc.{Tsc, tscField, tscWhole, tscHeadOf}
-use Rattle.format.specs.TscLaws.{TscRead, tsc-whole-told}
-use Rattle.format.specs.Whole.{whole-size}
+use Rattle.format.proofs.TscLaws.{TscRead, tsc-whole-told}
+use Rattle.format.proofs.Whole.{whole-size}
 use Rattle.format.specs.Id.{subjectId}
 use Rattle.format.specs.Refusals.{BAD-HEIGHT, NO-ROOM, MAX-INPUT, MAX-HEIGHT}
 use Rattle.spv.specs.declared.rejection.Rejection.{Rejection}
 use Rattle.spv.specs.Result.{accepted, refused, carrying}
 use Rattle.spv.specs.Compare.{Proof, any, read, prove}
 use Rattle.spv.specs.Readings.{tscTarget, tscReading, bumpReading}
-use Rattle.spv.specs.ReadingsLaws.{tsc-read}
+use Rattle.spv.proofs.ReadingsLaws.{tsc-read}
 use Rattle.spv.specs.Climb.{Sibling, siblingPosition}
 use Rattle.spv.specs.Siblings.{written, levelSiblings, nodeSiblings}
 use Rattle.spv.specs.declared.prove.Outcome.the-variants.{Accepted}
 use Rattle.spv.specs.declared.trace.Traced.{Traced}
 use Rattle.spv.specs.Trace.{asCarried, nodesText, TRACE-ROOM, tracedOf}
-use Rattle.spv.specs.TraceLaws.{traced-accepted}
+use Rattle.spv.proofs.TraceLaws.{traced-accepted}
 use Rattle.block.proofs.LeavesLaws.{wrote-hashed}
 use Rattle.block.specs.Output.{roomFor}
 use Rattle.block.proofs.OutputLaws.{room-short, room-enough}

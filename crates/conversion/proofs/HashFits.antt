@@ -7,7 +7,7 @@ use lib.ListN.{length, take, drop, replicate}
 use lib.Dec.{eqb, leb}
 use native.Mathlib.Omega.{arith}
 use Rattle.hash.specs.Sha256.{sha256d}
-use Rattle.hash.specs.Sha256Laws.{sha256d-length, sha256d-bytes}
+use Rattle.hash.proofs.Sha256Laws.{sha256d-length, sha256d-bytes}
 use Rattle.format.specs.declared.level.Kind.{Kind}
 use Rattle.format.specs.declared.level.Kind.the-variants.{Plain, Copy, Client}
 use Rattle.format.specs.declared.level.Leaf.{Leaf}
@@ -15,7 +15,7 @@ use Rattle.path.specs.declared.path.Found.{Found}
 use Rattle.path.specs.declared.path.Found.the-variants.{Here, Missing}
 use Rattle.path.specs.declared.path.Start.the-variants.{At}
 use Rattle.format.specs.Parse.{pick}
-use Rattle.format.specs.BytesLaws.{same-eq, hash-at-length}
+use Rattle.format.proofs.BytesLaws.{same-eq, hash-at-length}
 use Rattle.path.specs.Search.{carries, leastOffset}
 use Rattle.encoding.proofs.Spelling.{part-bytes}
 use Rattle.encoding.specs.BumpBytes.{HashFit}
@@ -23,10 +23,10 @@ use Rattle.encoding.specs.TscBytes.{NodeFit, NodesFit}
 use Rattle.format.specs.Id.{subjectId}
 use Rattle.spv.specs.Result.{accepted}
 use Rattle.spv.specs.Climb.{Sibling, value, copied, absent, Siblings, Step, joins, fails, odd, siblingPosition, step, ascendBy, ascend, endBy, endOf}
-use Rattle.spv.specs.ClimbLaws.{ascended}
+use Rattle.spv.proofs.ClimbLaws.{ascended}
 use Rattle.spv.specs.Values.{valueBy, joinBoth, joinOf, valueOf, workedOut}
 use Rattle.spv.specs.Siblings.{written, sibling, writtenBy, findIn, levelSiblings}
-use Rattle.spv.specs.Surplus.{carriedAt, Least, least-is}
+use Rattle.spv.proofs.Surplus.{carriedAt, Least, least-is}
 use Rattle.spv.specs.Trace.{asCarried}
 use Rattle.format.specs.declared.tsc.Subject.{Subject}
 use Rattle.conversion.proofs.TakenLaws.{Every}

@@ -9,7 +9,7 @@ use Rattle.path.specs.declared.path.Form.{Form}
 use Rattle.format.specs.Parse.{got}
 use Rattle.format.specs.Refusals.{MAX-BLOCK}
 use Rattle.encoding.specs.Spells.{AllBytes}
-use Rattle.format.specs.BumpLaws.{bump-whole-told}
+use Rattle.format.proofs.BumpLaws.{bump-whole-told}
 use Rattle.encoding.specs.BumpBytes.{bumpBytes}
 use Rattle.encoding.proofs.BumpRoundTrip.{bump-read-back}
 use Rattle.format.specs.Tsc.{Tsc, tscWhole}
@@ -18,17 +18,17 @@ use Rattle.format.specs.Id.{subjectId}
 use Rattle.spv.specs.Result.{accepted}
 use Rattle.spv.specs.Climb.{Siblings}
 use Rattle.spv.specs.Compare.{any, Proof, proofOf, prove}
-use Rattle.spv.specs.CompareLaws.{prove-accepted}
-use Rattle.spv.specs.Position.{position-exists}
+use Rattle.spv.proofs.CompareLaws.{prove-accepted}
+use Rattle.spv.proofs.Position.{position-exists}
 use Rattle.spv.specs.Readings.{bumpReading, tscReading, tscTarget, reading}
-use Rattle.spv.specs.ReadingsLaws.{read-proved, tsc-read}
+use Rattle.spv.proofs.ReadingsLaws.{read-proved, tsc-read}
 use Rattle.spv.specs.Siblings.{levelSiblings, nodeSiblings}
 use Rattle.block.proofs.OutputLaws.{room-enough}
 use Rattle.conversion.specs.Convert.{clientBump, tscToBump, bumpToTsc}
 use Rattle.conversion.proofs.Taken.{proof-id, proof-layers, proof-position}
 use Rattle.conversion.proofs.TakenLaws.{bump-climb, siblings-whole}
 use Rattle.conversion.proofs.HashFits.{level-siblings-fit, start-fits}
-use Rattle.conversion.proofs.ToBump.{content-fits, back-proves, to-bump-proves}
+use Rattle.conversion.proofs.ToBump.{content-fits, back-proves, to-bump-is, to-bump-proves}
 use Rattle.conversion.proofs.ToTsc.{to-tsc-proves, tsc-round-trip-by}
 
 -- a TSC proof with id and root target, to BUMP and back by its id
@@ -69,13 +69,14 @@ to-bump-of s block room t q p w e some enough =
     let ne : p .layers ≡ 0 → ⊥ = λ z. omega arith in
     rw (w, e, ne-eqb (p .layers) 0 ne) (room-enough room (bumpBytes (clientBump block p)) enough)
 
--- one id's climb in a BUMP, to TSC and back: the bytes that the way back writes wherever they have room prove the id again, at the same position over the
--- same layers to the same root
+-- one id's climb in a BUMP, to TSC and back: the bytes that the way back writes wherever they have room, and no others, prove the id again, at the same
+-- position over the same layers to the same root
 pub record ThereAndBack (s id tsc : List ℕ) (block : ℕ) : Type 0 where
   pub proof : Proof
   pub bumped : List ℕ
   pub proves : prove (bumpReading s id) ≡ accepted proof
   pub writes : (room : ℕ) → length bumped ≤ room → tscToBump tsc block room ≡ accepted bumped
+  pub only : (room : ℕ) (other : List ℕ) → tscToBump tsc block room ≡ accepted other → other ≡ bumped
   pub again : prove (bumpReading bumped id) ≡ accepted proof
 
 pub bump-round-trip : (s id : List ℕ) (room block : ℕ) (tsc : List ℕ) → AllBytes s → block ≤ MAX-BLOCK → bumpToTsc s id room ≡ accepted tsc → ThereAndBack s id tsc block
@@ -88,5 +89,9 @@ bump-round-trip s id room block tsc all b there =
       bumped = bumpBytes (clientBump block (x .0));
       proves = x .1;
       writes = λ back enough. to-bump-of tsc block back (r .0) (r .1) (x .0) (r .2) (x .2) (siblings-whole s id (x .0) (x .1) .some) enough;
+      only = λ back other f. let y = to-bump-is tsc block back other f in y .6 ∙ ap (λ (p : Proof). bumpBytes (clientBump block p)) (proof-same (sym (y .4) ∙ x .2));
       again = climb-alone s id block (x .0) all b (x .1);
     }
+  where
+    proof-same : {p q : Proof} → accepted p ≡ accepted q → p ≡ q
+    proof-same e = cc

@@ -14,18 +14,18 @@ use Rattle.format.specs.Refusals.{MAX-HEIGHT}
 use Rattle.path.specs.Search.{leastOffset}
 use Rattle.encoding.specs.Spells.{spells}
 use Rattle.format.specs.Bump.{Bump, bumpWhole}
-use Rattle.format.specs.BumpLaws.{bump-whole-told}
+use Rattle.format.proofs.BumpLaws.{bump-whole-told}
 use Rattle.encoding.specs.BumpBytes.{carriedBytes}
 use Rattle.format.specs.Tsc.{Tsc, tscWhole}
 use Rattle.format.specs.Id.{subjectId}
 use Rattle.spv.specs.Result.{accepted}
 use Rattle.spv.specs.Climb.{Sibling, value, copied, absent, Siblings, siblingPosition, siblingPositions}
 use Rattle.spv.specs.Compare.{any, read, Proof, proveBy, prove}
-use Rattle.spv.specs.Collide.{Whole}
+use Rattle.spv.proofs.Collide.{Whole}
 use Rattle.spv.specs.Siblings.{written, levelSiblings, nodeSiblings}
-use Rattle.spv.specs.SiblingsLaws.{levelSiblings-whole}
+use Rattle.spv.proofs.SiblingsLaws.{levelSiblings-whole}
 use Rattle.spv.specs.Readings.{starting, levelsReading, bumpReading, tscTarget, tscReading}
-use Rattle.spv.specs.ReadingsLaws.{read-proved, tsc-read}
+use Rattle.spv.proofs.ReadingsLaws.{read-proved, tsc-read}
 use Rattle.spv.specs.Trace.{asCarried, nodesText, TRACE-ROOM}
 use Rattle.conversion.proofs.Taken.{taken, proof-siblings, proof-count, proof-layers}
 

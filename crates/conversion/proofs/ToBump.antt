@@ -18,17 +18,17 @@ use Rattle.format.specs.Bump.{Bump, bumpWhole}
 use Rattle.encoding.specs.BumpBytes.{client, Content, bumpBytes, entryOf, contentOf, HashFit, LevelFit, nextLevel, ContentFit}
 use Rattle.encoding.proofs.BumpRoundTrip.{bump-read-back}
 use Rattle.format.specs.Tsc.{Tsc, tscWhole, indexFits}
-use Rattle.format.specs.TscLaws.{tsc-whole-told}
+use Rattle.format.proofs.TscLaws.{tsc-whole-told}
 use Rattle.format.specs.Id.{subjectId}
 use Rattle.spv.specs.Result.{Result, accepted, refused, carrying, follow, afterReading}
 use Rattle.spv.specs.Climb.{Sibling, absent, Siblings, siblingPosition, ascend, endOf}
-use Rattle.spv.specs.ClimbLaws.{ascend-agree}
+use Rattle.spv.proofs.ClimbLaws.{ascend-agree}
 use Rattle.spv.specs.Values.{workedOut}
 use Rattle.spv.specs.Compare.{any, read, Proof, hits, proofOf, prove}
-use Rattle.spv.specs.CompareLaws.{prove-climb, prove-root, prove-accepted}
+use Rattle.spv.proofs.CompareLaws.{prove-climb, prove-root, prove-accepted}
 use Rattle.spv.specs.Siblings.{writtenBy, findIn, levelSiblings, nodeSiblings}
 use Rattle.spv.specs.Readings.{starting, levelsReading, bumpReading, tscTarget, tscReading}
-use Rattle.spv.specs.ReadingsLaws.{bump-read, tsc-read}
+use Rattle.spv.proofs.ReadingsLaws.{bump-read, tsc-read}
 use Rattle.spv.specs.Trace.{asCarried}
 use Rattle.block.specs.Output.{roomFor}
 use Rattle.block.proofs.OutputLaws.{room-told}
@@ -172,6 +172,10 @@ told s block room bytes e = of-tsc (tscWhole s) refl e
         → ToBump s block room bytes
     of-tsc (got t q) w f = of-proof t q w (prove (tscReading s)) refl f
     of-tsc (bad number place) w f = let z : _≡_ {A = ℕ} 0 1 = cc in absurd (omega arith)
+
+pub to-bump-is : (s : List ℕ) (block room : ℕ) (bytes : List ℕ) → tscToBump s block room ≡ accepted bytes
+    → (t : Tsc) × (q : ℕ) × (p : Proof) × (tscWhole s ≡ got t q) × (prove (tscReading s) ≡ accepted p) × (p .layers ≡ 0 → ⊥) × (bytes ≡ bumpBytes (clientBump block p))
+to-bump-is s block room bytes e = let x = told s block room bytes e in (x .tsc, x .end, x .proof, x .whole, x .proves, x .layered, x .is)
 
 pub to-bump-fits : (s : List ℕ) (block room : ℕ) (bytes : List ℕ) → tscToBump s block room ≡ accepted bytes → length bytes ≤ room
 to-bump-fits s block room bytes e = told s block room bytes e .fits

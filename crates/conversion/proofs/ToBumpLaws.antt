@@ -17,9 +17,9 @@ use Rattle.format.specs.declared.level.Kind.the-variants.{Copy}
 use Rattle.format.specs.declared.level.Leaf.{Leaf}
 use Rattle.path.specs.declared.path.Start.{Start}
 use Rattle.path.specs.declared.path.Start.the-variants.{At, Nowhere}
-use Rattle.format.specs.Basics.{and-false, or-true}
+use Rattle.format.proofs.Basics.{and-false, or-true}
 use Rattle.format.specs.Bytes.{same}
-use Rattle.format.specs.BytesLaws.{same-refl}
+use Rattle.format.proofs.BytesLaws.{same-refl}
 use Rattle.format.specs.Parse.{pick}
 use Rattle.format.specs.Level.{holds}
 use Rattle.format.specs.Refusals.{TWIN}
@@ -28,12 +28,12 @@ use Rattle.encoding.specs.Spells.{AllBytes, Fits}
 use Rattle.encoding.specs.BumpBytes.{plain, copy, client, entryOf, HashFit, CarriedFit, LevelFit, nextLevel}
 use Rattle.spv.specs.Result.{accepted}
 use Rattle.spv.specs.Climb.{Sibling, value, copied, absent, Siblings, Step, joins, fails, odd, siblingPosition, joined, step, ascendBy, ascend, endBy, endOf}
-use Rattle.spv.specs.ClimbLaws.{joined-twin, sibling-odd, sibling-even, ascended}
+use Rattle.spv.proofs.ClimbLaws.{joined-twin, sibling-odd, sibling-even, ascended}
 use Rattle.spv.specs.Values.{valueOf}
-use Rattle.spv.specs.ValuesLaws.{value-written, value-copied}
+use Rattle.spv.proofs.ValuesLaws.{value-written, value-copied}
 use Rattle.spv.specs.Siblings.{nodeSiblings}
 use Rattle.spv.specs.Trace.{asCarried}
-use Rattle.spv.specs.Surplus.{carriedAt, Least, least-is}
+use Rattle.spv.proofs.Surplus.{carriedAt, Least, least-is}
 use Rattle.conversion.specs.Convert.{clientEntry, siblingEntry, clientLevel, siblingLevels, clientLevels}
 use Rattle.conversion.proofs.Taken.{taken, Present, AllPresent}
 use Rattle.block.proofs.RisingLaws.{at-offset, From, at-none, at-first, at-later}

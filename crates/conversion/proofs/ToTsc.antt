@@ -13,8 +13,8 @@ use Rattle.encoding.proofs.TscRoundTrip.{tsc-read-back, tsc-written}
 use Rattle.spv.specs.Result.{Result, accepted, refused, follow}
 use Rattle.spv.specs.Climb.{Siblings}
 use Rattle.spv.specs.Compare.{any, Proof, prove}
-use Rattle.spv.specs.CompareLaws.{prove-accepted}
-use Rattle.spv.specs.Position.{position-exists}
+use Rattle.spv.proofs.CompareLaws.{prove-accepted}
+use Rattle.spv.proofs.Position.{position-exists}
 use Rattle.spv.specs.Siblings.{levelSiblings}
 use Rattle.spv.specs.Readings.{bumpReading, tscReading, reading}
 use Rattle.conversion.specs.Convert.{idTsc, bumpToTsc}

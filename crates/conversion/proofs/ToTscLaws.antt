@@ -9,7 +9,7 @@ use native.Mathlib.Nat.{zero-add}
 use Rattle.format.specs.declared.level.Kind.{Kind}
 use Rattle.format.specs.declared.level.Kind.the-variants.{Plain, Copy, Client}
 use Rattle.format.specs.Parse.{pick, got}
-use Rattle.format.specs.BytesLaws.{same-eq, eq-same}
+use Rattle.format.proofs.BytesLaws.{same-eq, eq-same}
 use Rattle.format.specs.Refusals.{ROOTS-DIFFER}
 use Rattle.format.specs.Bytes.{hashAt}
 use Rattle.encoding.specs.Spells.{AllBytes, Fits}
@@ -20,12 +20,12 @@ use Rattle.encoding.proofs.TscRoundTrip.{tsc-written, content-index, content-no
 use Rattle.format.specs.Id.{subjectId}
 use Rattle.spv.specs.Result.{Result, accepted, refused, carrying}
 use Rattle.spv.specs.Climb.{Sibling, value, copied, absent, Siblings, siblingPositions, ascend, endOf}
-use Rattle.spv.specs.ClimbLaws.{ascend-agree}
+use Rattle.spv.proofs.ClimbLaws.{ascend-agree}
 use Rattle.spv.specs.Compare.{Target, any, bound, targetOf, hits, read, settle, Proof, proofOf, proveBy, prove}
-use Rattle.spv.specs.CompareLaws.{prove-climb, prove-root, prove-accepted}
+use Rattle.spv.proofs.CompareLaws.{prove-climb, prove-root, prove-accepted}
 use Rattle.spv.specs.Siblings.{written, levelSiblings, nodeSiblings}
 use Rattle.spv.specs.Readings.{bumpReading, tscTarget, tscReading}
-use Rattle.spv.specs.ReadingsLaws.{tsc-read}
+use Rattle.spv.proofs.ReadingsLaws.{tsc-read}
 use Rattle.spv.specs.Trace.{asCarried}
 use Rattle.conversion.specs.Convert.{idTsc}
 use Rattle.conversion.proofs.Taken.{taken, Present, AllPresent, proof-siblings, proof-present, proof-layers, proof-position, proof-id}

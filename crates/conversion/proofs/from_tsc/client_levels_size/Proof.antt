@@ -1,5 +1,5 @@
 use Rattle.format.specs.LevelAnswer.{kindOf}
-use Rattle.format.specs.ParseLaws.{answered}
+use Rattle.format.proofs.ParseLaws.{answered}
 use native.Mathlib.Omega.{arith}
 use Rattle.encoding.proofs.VarintSpelling.{varint-length}
 use Rattle.conversion.proofs.ConvertLaws.{client-short-counted, client-counted}

@@ -1,5 +1,5 @@
 use Rattle.format.specs.LevelAnswer.{kindOf}
-use Rattle.format.specs.ParseLaws.{answered}
+use Rattle.format.proofs.ParseLaws.{answered}
 use Rattle.encoding.proofs.VarintSpelling.{varint-length}
 use borrow.Author.Needs.{needs}
 use Prim.Native.Nat.{_-_}

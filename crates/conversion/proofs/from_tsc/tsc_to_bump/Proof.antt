@@ -1,9 +1,9 @@
 use mathlib.Core.Path.{refl, ap, _∙_}
-use Rattle.format.specs.ParseLaws.{answered, each-got, each-bad}
+use Rattle.format.proofs.ParseLaws.{answered, each-got, each-bad}
 use Rattle.format.specs.Tsc.{tscHeadOf, tscWhole}
 use Rattle.format.specs.TscAnswer.{tscAnswer, refusalOfTsc}
 use Rattle.spv.specs.Result.{refusedReading}
-use Rattle.spv.specs.ShapesLaws.{told-accepted, told-unproved}
+use Rattle.spv.proofs.ShapesLaws.{told-accepted, told-unproved}
 use Rattle.block.proofs.OutputLaws.{refused-so}
 use Rattle.conversion.proofs.ConvertLaws.{from-unread, from-refused}
 use borrow.Author.Needs.{needs}

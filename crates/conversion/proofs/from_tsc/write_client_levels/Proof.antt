@@ -1,5 +1,5 @@
 use Rattle.format.specs.LevelAnswer.{kindOf}
-use Rattle.format.specs.ParseLaws.{answered}
+use Rattle.format.proofs.ParseLaws.{answered}
 use Rattle.conversion.proofs.ConvertLaws.{client-short-wrote, client-wrote}
 use borrow.Author.Needs.{needs}
 use Rattle.conversion.proofs.from_tsc.write_client_levels.Statement.{statement}

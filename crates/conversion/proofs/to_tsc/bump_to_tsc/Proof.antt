@@ -1,7 +1,7 @@
 use mathlib.Core.Path.{_≡_, refl}
 use lib.ListN.{length}
 use native.Mathlib.Omega.{arith}
-use Rattle.spv.specs.TraceLaws.{traced-refused}
+use Rattle.spv.proofs.TraceLaws.{traced-refused}
 use Rattle.block.proofs.OutputLaws.{refused-so, written-whole}
 use Rattle.block.proofs.CallLaws.{fits-in}
 use Rattle.conversion.proofs.ConvertLaws.{varint-low, to-refused, traced-room, traced-short, traced-writes, traced-size}
