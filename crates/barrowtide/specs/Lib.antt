@@ -1,11 +1,8 @@
+-- What public contracts cite, in reading order.
 pub mod Interface
-pub mod InterfaceLaws
-pub mod Forms
-pub mod FormsLaws
 pub mod Answers
-pub mod AnswersLaws
+pub mod Forms
 pub mod Choices
-pub mod ChoicesLaws
 pub mod Depths
-pub mod Leaves
 pub mod Parts
+pub mod Leaves

@@ -9,13 +9,13 @@ use lib.Dec.{ltb, eqb}
 use lib.Pow.{pow-mono}
 use native.Mathlib.Omega.{arith}
 use borrow.Author.Tests.{ltb-true, ltb-false, eqb-true, eqb-false, eq-eqb, ne-eqb}
-use Rattle.format.specs.Basics.{or-true}
+use Rattle.format.proofs.Basics.{or-true}
 use Rattle.format.specs.Parse.{pick}
 use Rattle.format.specs.Level.{holds}
-use Rattle.format.specs.LevelLaws.{holds-snoc}
+use Rattle.format.proofs.LevelLaws.{holds-snoc}
 use Rattle.format.specs.Refusals.{MAX-BLOCK}
 use Rattle.spv.specs.Climb.{siblingPosition}
-use Rattle.spv.specs.ClimbLaws.{sibling-even}
+use Rattle.spv.proofs.ClimbLaws.{sibling-even}
 use Rattle.encoding.specs.Spells.{Fits}
 use Rattle.encoding.specs.BumpBytes.{Carried, plain, copy, client, CarriedFit, EntryFit, andEntry, LevelFit, nextLevel, ContentFit}
 use Rattle.block.specs.Tree.{size, node, height}

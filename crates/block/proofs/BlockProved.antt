@@ -10,7 +10,7 @@ use lib.Pow.{shr-shr}
 use native.Mathlib.Omega.{arith}
 use native.Mathlib.Nat.{zero-add, div-one}
 use borrow.Author.Tests.{eqb-true, eqb-false, ltb-true}
-use Rattle.format.specs.Basics.{or-true}
+use Rattle.format.proofs.Basics.{or-true}
 use Rattle.format.specs.declared.level.Kind.{Kind}
 use Rattle.format.specs.declared.level.Kind.the-variants.{Plain, Copy, Client}
 use Rattle.format.specs.declared.level.Leaf.{Leaf}
@@ -18,19 +18,19 @@ use Rattle.path.specs.declared.path.Start.{Start}
 use Rattle.path.specs.declared.path.Start.the-variants.{At, Nowhere}
 use Rattle.format.specs.Parse.{pick}
 use Rattle.format.specs.Bytes.{same}
-use Rattle.format.specs.BytesLaws.{same-eq, same-refl, eq-same}
+use Rattle.format.proofs.BytesLaws.{same-eq, same-refl, eq-same}
 use Rattle.format.specs.Level.{holds}
 use Rattle.path.specs.Search.{carries, leastOffset}
 use Rattle.spv.specs.Hashes.{among}
 use Rattle.spv.specs.Climb.{Siblings, siblingPosition, siblingPositions}
-use Rattle.spv.specs.ClimbLaws.{ascend-agree}
+use Rattle.spv.proofs.ClimbLaws.{ascend-agree}
 use Rattle.spv.specs.Result.{accepted}
 use Rattle.spv.specs.Compare.{any, read, hits, proofOf, prove}
-use Rattle.spv.specs.CompareLaws.{prove-climb, prove-root}
+use Rattle.spv.proofs.CompareLaws.{prove-climb, prove-root}
 use Rattle.spv.specs.Siblings.{levelSiblings}
 use Rattle.spv.specs.Readings.{starting, levelsReading, bumpReading}
-use Rattle.spv.specs.ReadingsLaws.{bump-read}
-use Rattle.spv.specs.Surplus.{carriedAt, Least, least-is}
+use Rattle.spv.proofs.ReadingsLaws.{bump-read}
+use Rattle.spv.proofs.Surplus.{carriedAt, Least, least-is}
 use Rattle.encoding.specs.BumpBytes.{Carried, plain, copy, client, Entry, carriedOf, entryOf}
 use Rattle.block.specs.Tree.{layer, size, node, height, root, treeSiblings, treeClimb, reaches}
 use Rattle.block.proofs.TreeLaws.{height-holds}

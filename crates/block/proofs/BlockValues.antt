@@ -12,7 +12,7 @@ use native.Mathlib.Omega.{arith}
 use native.Mathlib.Nat.{pow-suc, zero-lt-suc}
 use native.Mathlib.Numerals.{add-one}
 use borrow.Author.Tests.{eqb-true, eqb-false, ne-eqb, lt-ltb, ltb-true, ltb-false}
-use Rattle.format.specs.Basics.{or-true, or-comm}
+use Rattle.format.proofs.Basics.{or-true, or-comm}
 use Rattle.hash.specs.Sha256.{sha256d}
 use Rattle.format.specs.declared.level.Kind.the-variants.{Plain, Copy, Client}
 use Rattle.path.specs.declared.path.Found.{Found}
@@ -21,9 +21,9 @@ use Rattle.format.specs.Parse.{pick}
 use Rattle.format.specs.Level.{holds}
 use Rattle.path.specs.Search.{lookup}
 use Rattle.spv.specs.Climb.{Sibling, value, copied, absent, Siblings, siblingPosition}
-use Rattle.spv.specs.ClimbLaws.{sibling-odd, sibling-even}
+use Rattle.spv.proofs.ClimbLaws.{sibling-odd, sibling-even}
 use Rattle.spv.specs.Values.{joinBoth, joinOf, valueOf, workedOut}
-use Rattle.spv.specs.ValuesLaws.{value-written, value-copied, value-absent}
+use Rattle.spv.proofs.ValuesLaws.{value-written, value-copied, value-absent}
 use Rattle.spv.specs.Siblings.{written, sibling, writtenBy, findIn, levelSiblings}
 use Rattle.encoding.specs.BumpBytes.{Carried, plain, copy, client, carriedOf}
 use Rattle.block.specs.Tree.{layer, size, node, height, treeSiblings}

@@ -7,7 +7,7 @@ use lib.ListN.{length, length-append}
 use lib.Dec.{leb, eqb}
 use native.Mathlib.Omega.{arith}
 use borrow.Author.Tests.{le-leb, lt-leb, leb-true, eq-eqb, ne-eqb}
-use Rattle.format.specs.Basics.{and-true}
+use Rattle.format.proofs.Basics.{and-true}
 use Rattle.encoding.specs.Buffer.{Buffer, buffer, putOn, writeOn}
 use Rattle.encoding.specs.Digits.{varintBytes}
 use Rattle.encoding.specs.Spells.{spells}
@@ -18,7 +18,7 @@ use Rattle.spv.specs.Result.{accepted, refused, carrying}
 use Rattle.spv.specs.Hashes.{hashesOf}
 use Rattle.block.specs.Tree.{heightFor}
 use Rattle.block.proofs.TreeLaws.{height-holds, height-least}
-use Rattle.spv.specs.HashesLaws.{hashes-length}
+use Rattle.spv.proofs.HashesLaws.{hashes-length}
 use Rattle.block.specs.BlockBump.{levelsFor, blockBump, sized, noneChosen, allBelow, distinct, climbsFrom, writing}
 use Rattle.block.specs.Output.{roomFor}
 use Rattle.block.proofs.OutputLaws.{room-short, room-enough}

@@ -7,7 +7,7 @@ use lib.Dec.{eqb}
 use native.Mathlib.Omega.{arith}
 use native.Mathlib.Nat.{sub-zero}
 use borrow.Author.Tests.{eqb-true, eqb-false}
-use Rattle.format.specs.Basics.{one-less}
+use Rattle.format.proofs.Basics.{one-less}
 use Rattle.format.specs.Parse.{pick}
 use Rattle.spv.specs.declared.rejection.Rejection.{Rejection}
 use Rattle.spv.specs.Result.{Result, accepted, refused, follow}

@@ -5,7 +5,7 @@ use Prim.Native.Nat.{ℕ}
 use lib.ListN.{replicate}
 use Rattle.hash.specs.Sha256.{sha256d}
 use Rattle.format.specs.Bytes.{same}
-use Rattle.format.specs.BytesLaws.{same-refl}
+use Rattle.format.proofs.BytesLaws.{same-refl}
 use Rattle.spv.specs.Result.{accepted, refused, carrying, atSibling}
 use Rattle.spv.specs.Climb.{siblingPosition, joined, step, ascendBy, endBy}
 use Rattle.spv.specs.Hashes.{hashes, hashesOf, among}

@@ -12,12 +12,12 @@ use native.Mathlib.Nat.{pow-suc, sub-zero}
 use native.Mathlib.Numerals.{add-one}
 use borrow.Author.Tests.{lt-ltb, le-ltb, ltb-true, ltb-false, leb-true, leb-false, eq-eqb, ne-eqb}
 use Rattle.hash.specs.Sha256.{sha256d}
-use Rattle.hash.specs.Sha256Laws.{sha256d-length}
+use Rattle.hash.proofs.Sha256Laws.{sha256d-length}
 use borrow.Author.Count.{below-more}
 use Rattle.lanes.specs.declared.Nodes.{Nodes}
 use Rattle.lanes.specs.Lanes as L
 use Rattle.format.specs.Bytes.{same, setHash, hashAt}
-use Rattle.format.specs.BytesLaws.{set-inside, hash-there, hash-at-length}
+use Rattle.format.proofs.BytesLaws.{set-inside, hash-there, hash-at-length}
 use Rattle.format.specs.Parse.{pick}
 use Rattle.format.specs.Refusals.{TWIN}
 use Rattle.spv.specs.Result.{atSibling}
@@ -25,8 +25,8 @@ use Rattle.spv.specs.Climb.{siblingPosition}
 use Rattle.spv.specs.Hashes.{hashesOf}
 use Rattle.block.specs.Tree.{above, layer, size, node, heightFor, treeClimb}
 use Rattle.block.proofs.TreeLaws.{above-length, above-pair, above-last, height-holds, height-least, size-suc}
-use Rattle.spv.specs.HashesLaws.{hashes-length, hashes-at}
-use Rattle.spv.specs.Stored.{stored-here, stored-other}
+use Rattle.spv.proofs.HashesLaws.{hashes-length, hashes-at}
+use Rattle.spv.proofs.Stored.{stored-here, stored-other}
 use Rattle.block.proofs.TreeClimb.{twinAt, endFrom, from-end, from-twin, from-on, from-all}
 use Rattle.block.specs.declared.tree.Climb.the-variants.{Free, Twin}
 use Rattle.block.specs.Heap.{nodeIn, rightIn, pairIn, setFour, Stored, Heap, Level, twinIn, Grown, climbOf}

@@ -10,12 +10,12 @@ use native.Mathlib.Omega.{arith}
 use native.Mathlib.Nat.{sub-zero, mul-zero, add-zero}
 use native.Mathlib.Numerals.{add-one}
 use borrow.Author.Tests.{lt-ltb, le-ltb, ltb-true, eqb-true, eqb-false}
-use Rattle.format.specs.Basics.{and-false, one-less}
+use Rattle.format.proofs.Basics.{and-false, one-less}
 use Rattle.format.specs.Bytes.{same, hashAt}
-use Rattle.format.specs.BytesLaws.{ne-same, hash-there}
+use Rattle.format.proofs.BytesLaws.{ne-same, hash-there}
 use Rattle.encoding.proofs.Spelling.{part-bytes}
-use Rattle.spv.specs.Hashes.{hashes, hashesOf}
-use Rattle.spv.specs.HashesLaws.{hashes-length, hashes-at, searching, search-here, search-on, search-end}
+use Rattle.spv.specs.Hashes.{hashes, hashesOf, searching}
+use Rattle.spv.proofs.HashesLaws.{hashes-length, hashes-at, search-here, search-on, search-end}
 use Rattle.block.proofs.TreeLaws.{Hashes}
 use Rattle.block.specs.BlockBump.{allBelow, distinct}
 use Rattle.block.specs.Ids.{idAt, slotAt}

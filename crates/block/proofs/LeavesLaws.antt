@@ -9,10 +9,10 @@ use native.Mathlib.Omega.{arith}
 use native.Mathlib.Nat.{sub-zero, add-zero}
 use borrow.Author.Tests.{eqb-true, eqb-false, lt-ltb, le-ltb}
 use Rattle.spv.specs.Climb.{siblingPosition}
-use Rattle.spv.specs.ClimbLaws.{sibling-odd, sibling-even}
+use Rattle.spv.proofs.ClimbLaws.{sibling-odd, sibling-even}
 use Rattle.block.specs.declared.level.Asked.{Asked}
 use Rattle.block.specs.declared.level.Asked.the-variants.{Nothing, Plain, Copy, Client}
-use Rattle.format.specs.Basics.{one-less}
+use Rattle.format.proofs.Basics.{one-less}
 use Rattle.encoding.specs.Digits.{varintBytes}
 use Rattle.encoding.proofs.VarintSpelling.{varint-length}
 use Rattle.encoding.specs.Buffer.{Buffer, putOn, writeOn}

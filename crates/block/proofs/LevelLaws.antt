@@ -24,7 +24,7 @@ use Rattle.block.specs.Heap.{Stored, Heap, Level}
 use Rattle.block.specs.Marks.{Marked}
 use Rattle.encoding.specs.Buffer.{Buffer, writeOn}
 use Rattle.encoding.proofs.BufferLaws.{write-then, write-none}
-use Rattle.spv.specs.HashesLaws.{hashes-length}
+use Rattle.spv.proofs.HashesLaws.{hashes-length}
 use Rattle.block.proofs.TreeLaws.{size-suc}
 use native.Mathlib.Nat.{pow-suc, sub-zero, zero-lt-suc}
 use native.Mathlib.Numerals.{add-one}

@@ -16,7 +16,7 @@ use Rattle.format.specs.Parse.{pick}
 use Rattle.format.specs.Refusals.{TWIN}
 use Rattle.spv.specs.Result.{Result, accepted, refused, atSibling}
 use Rattle.spv.specs.Climb.{value, copied, odd, siblingPosition, Step, joins, fails, joined, step, ascend, endOf, ascendBy, endBy}
-use Rattle.spv.specs.ClimbLaws.{joined-even, joined-odd, joined-twin, sibling-odd, sibling-even, ascend-joins, ascend-fails}
+use Rattle.spv.proofs.ClimbLaws.{joined-even, joined-odd, joined-twin, sibling-odd, sibling-even, ascend-joins, ascend-fails}
 use Rattle.block.specs.Tree.{layer, size, node, height, root, treeSiblings, treeClimb, reaches}
 use Rattle.block.proofs.TreeLaws.{above-pair, above-last, size-suc, height-holds}
 

@@ -11,7 +11,7 @@ use native.Mathlib.Nat.{pow-suc, add-zero, zero-add, div-one}
 use native.Mathlib.Numerals.{add-one}
 use borrow.Author.Tests.{leb-true, leb-false, ltb-true, ltb-false}
 use Rattle.hash.specs.Sha256.{sha256d}
-use Rattle.hash.specs.Sha256Laws.{sha256d-length, sha256d-bytes}
+use Rattle.hash.proofs.Sha256Laws.{sha256d-length, sha256d-bytes}
 use Rattle.encoding.specs.BumpBytes.{HashFit}
 use Rattle.block.specs.Tree.{above, layer, size, leastFrom, heightFor}
 

@@ -8,7 +8,7 @@ use lib.Dec.{leb, eqb}
 use native.Mathlib.Omega.{arith}
 use native.Mathlib.Nat.{div-one}
 use borrow.Author.Tests.{leb-true}
-use Rattle.format.specs.Basics.{and-true}
+use Rattle.format.proofs.Basics.{and-true}
 use Rattle.format.specs.Parse.{pick}
 use Rattle.format.specs.Level.{holds}
 use Rattle.format.specs.Refusals.{NOT-LISTED, MAX-BLOCK}
@@ -23,7 +23,7 @@ use Rattle.block.specs.Tree.{node, height, root, treeSiblings, treeClimb
 use Rattle.block.specs.BlockBump.{blockBump, sized, noneChosen, allBelow, distinct, climbsFrom, writing, Meets}
 use Rattle.block.proofs.OutputLaws.{room-told}
 use Rattle.block.proofs.ClimbsLaws.{climbs-reach}
-use Rattle.spv.specs.HashesLaws.{hashes-length}
+use Rattle.spv.proofs.HashesLaws.{hashes-length}
 use Rattle.block.proofs.IdsLaws.{ids-hashes}
 use Rattle.block.proofs.BlockFit.{Sizes, below-told, under-chosen}
 use Rattle.block.proofs.BlockMeets.{read-back, bump-meets}

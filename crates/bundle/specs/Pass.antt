@@ -6,18 +6,19 @@ use mathlib.Core.List.{List, [], map}
 use lib.Dec.{ltb, eqb}
 use lib.ListN.{length, getD, take, drop}
 use Rattle.format.specs.Parse.{pick}
-use Rattle.spv.specs.Result.{accepted, refused, carrying, blaming}
+use Rattle.spv.specs.Result.{accepted, refused, carrying, blaming, Result}
 use Rattle.bundle.specs.declared.pass.Fault.{Fault}
 use Rattle.bundle.specs.Amounts.{Payment, Standing, fresh, spends, worths, total}
-use Rattle.bundle.specs.AmountLaws.{noPayment}
+use Rattle.bundle.specs.Payments.{noPayment}
 use Rattle.format.specs.Refusals.{U32}
 use Rattle.bundle.specs.declared.sums.Walk.{Walk}
-use Rattle.bundle.specs.Numbering.{outputCount, freshNumbers}
+use Rattle.bundle.specs.Numbers.{outputCount, freshNumbers}
 use Rattle.bundle.specs.Windows.{numbersOf, numbersIn, spenderFrom, freshIn}
 use Rattle.bundle.specs.Walks.{Here, Sums}
 use Rattle.bundle.specs.FlatForm.{column}
 use Rattle.bundle.specs.Pictured.{Pictured}
 use Rattle.bundle.specs.Second.{second, faultIn}
+use Rattle.bundle.specs.Bundle.{Judgement}
 
 abbrev pub WINDOW : ℕ
 WINDOW = 65536
@@ -71,3 +72,12 @@ pub record Settles (numbers sums : List ℕ) (fee n first : ℕ) (l : List Payme
 -- the answer of the whole pass
 abbrev pub Judged : List ℕ → List ℕ → List ℕ → ℕ → ℕ → Fault → Type 0
 Judged s ids numbers fee n r = (l : List Payment) → length l ≡ n → Pictured s ids numbers l → faultOf r ≡ faultIn (second fee) n [] l
+
+-- so many without a mark
+abbrev pub Blank : ℕ → List ℕ → Type 0
+Blank size marks = (length marks ≡ size) × ((j : ℕ) → getD marks j 0 ≡ 0)
+
+-- a judgement after a second pass: its refusal comes first
+unfoldable pub settled : Result (Unit {0}) → Judgement → Judgement
+settled (refused why) j = refused why
+settled (accepted u) j = j

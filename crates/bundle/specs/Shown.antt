@@ -11,9 +11,8 @@ use Rattle.format.specs.Refusals.{U32}
 use Rattle.spv.specs.Hashes.{hashesOf}
 use Rattle.bundle.specs.declared.pass.Fault.{Fault}
 use Rattle.bundle.specs.Amounts.{Payment, outpointOf, idsOf, total, exist, amounts}
-use Rattle.bundle.specs.AmountLaws.{noPayment}
-use Rattle.bundle.specs.Balance.{Different}
-use Rattle.bundle.specs.Numbering.{outputCount}
+use Rattle.bundle.specs.Payments.{noPayment, Different}
+use Rattle.bundle.specs.Numbers.{outputCount}
 use Rattle.bundle.specs.FlatForm.{column}
 use Rattle.bundle.specs.Walks.{Counted}
 use Rattle.bundle.specs.Second.{faultIn}

@@ -9,8 +9,8 @@ use Rattle.format.specs.Parse.{got, pick, many}
 use Rattle.format.specs.Transaction.{takes, outputField, outputsField}
 use Rattle.bundle.specs.declared.sums.Walk.{Walk}
 use Rattle.bundle.specs.Amounts.{Payment, total}
-use Rattle.bundle.specs.AmountLaws.{noPayment}
-use Rattle.bundle.specs.Numbering.{outputCount}
+use Rattle.bundle.specs.Payments.{noPayment}
+use Rattle.bundle.specs.Numbers.{outputCount}
 use Rattle.bundle.specs.Windows.{amountsIn, sumTo}
 use Rattle.bundle.specs.FlatForm.{column}
 

@@ -5,9 +5,8 @@ use mathlib.Core.List.{List, [], _∷_, _++_, map}
 use lib.Dec.{ltb, leb, eqb}
 use lib.ListN.{getD, set}
 use Rattle.format.specs.Parse.{pick}
-use Rattle.bundle.specs.Listed.{listed}
+use Rattle.bundle.specs.Numbers.{listed, flat}
 use Rattle.bundle.specs.Amounts.{Payment}
-use Rattle.bundle.specs.Numbering.{flat}
 
 -- the numbers of the outputs that a transaction spends, none if it is anchored; those of several, end to end
 unfoldable pub numbersOf : List Payment → Payment → List ℕ

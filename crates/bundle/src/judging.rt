@@ -44,8 +44,7 @@ ghost use Rattle.bundle.specs.BundleHeads.{numbersOf, restsFrom, headSta
 ghost use Rattle.format.specs.declared.bump.BumpHead.{BumpHead};
 ghost use Rattle.bundle.specs.BundleAnswer.{judgementOf, reachedBy};
 ghost use Rattle.bundle.specs.Work.{judgeWork};
-ghost use Rattle.bundle.specs.Phases.{settled};
-ghost use Rattle.bundle.specs.Pass.{faultOf};
+ghost use Rattle.bundle.specs.Pass.{faultOf, settled};
 ghost use Rattle.bundle.specs.Table.{IDS-ROOM, NUMBERS-ROOM};
 ghost use mathlib.Core.List.{List, []};
 

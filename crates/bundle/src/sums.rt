@@ -7,7 +7,7 @@ ghost use Prim.Native.Nat.{ℕ, _+_, _<_, _≤_, _*_};
 ghost use lib.ListN.{length, getD, set};
 ghost use Rattle.bundle.specs.Amounts.{Payment};
 ghost use Rattle.bundle.specs.Walks.{walkAt, onwardOf, Counted, Here, Says, Sums};
-ghost use Rattle.bundle.specs.Numbering.{outputCount};
+ghost use Rattle.bundle.specs.Numbers.{outputCount};
 ghost use Rattle.bundle.specs.BundleHeads.{totalFrom};
 
 // No sum of a bundle's amounts is above it.

@@ -4,16 +4,16 @@ use mathlib.Core.Path.{_≡_, refl, ap, _∙_}
 use mathlib.Core.List.{List, [], _∷_}
 use lib.ListN.{getD}
 use native.Mathlib.Omega.{arith}
-use Rattle.format.specs.Basics.{one-less}
+use Rattle.format.proofs.Basics.{one-less}
 use Rattle.format.specs.declared.level.Kind.{Kind}
 use Rattle.format.specs.declared.level.Kind.the-variants.{Plain, Copy, Client}
 use Rattle.format.specs.declared.level.Leaf.{Leaf}
 use Rattle.format.specs.declared.level.Layout.{Layout}
 use Rattle.format.specs.Parse.{Parse, got, bad, otherwise, many, times}
-use Rattle.format.specs.ParseLaws.{many-told, onward-told, otherwise-got, otherwise-bad}
+use Rattle.format.proofs.ParseLaws.{many-told, onward-told, otherwise-got, otherwise-bad}
 use Rattle.format.specs.Field.{varint}
 use Rattle.path.specs.Path.{bumpPath}
-use Rattle.format.specs.BumpLaws.{BumpRead, bump-whole-told}
+use Rattle.format.proofs.BumpLaws.{BumpRead, bump-whole-told}
 use Rattle.path.proofs.LooseLaws.{level-loose}
 use Rattle.format.specs.Level.{levelInTurn, nextTurn}
 use Rattle.format.specs.Refusals.{NOT-LISTED}
@@ -23,8 +23,8 @@ use Rattle.spv.specs.Result.{Result, accepted, refused, carrying, follow}
 use Rattle.spv.specs.Climb.{Siblings}
 use Rattle.spv.specs.Compare.{Target, any}
 use Rattle.spv.specs.Siblings.{levelSiblings, pathSiblings}
-use Rattle.spv.specs.SiblingsLaws.{path-levels}
-use Rattle.spv.specs.ReadingsLaws.{prove-same, bump-layers, bump-leads}
+use Rattle.spv.proofs.SiblingsLaws.{path-levels}
+use Rattle.spv.proofs.ReadingsLaws.{prove-same, bump-layers, bump-leads}
 use Rattle.spv.specs.Clients.{wantedBy, afterKind, afterLeaf, closing, clients, bumpClients}
 use Rattle.climbs.specs.ClientsShapes.{clientsIn, clientsOfLevel}
 use Rattle.format.specs.Bytes.{hashAt}

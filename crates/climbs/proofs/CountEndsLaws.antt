@@ -13,10 +13,10 @@ use Rattle.format.specs.Refusals.{TWIN}
 use Rattle.spv.specs.declared.rejection.Rejection.{Rejection}
 use Rattle.spv.specs.Result.{Result, accepted, refused, atSibling}
 use Rattle.spv.specs.Climb.{Sibling, value, copied, absent, Siblings, Step, joins, fails, step, joined, odd, siblingPosition, ascend, ascendBy, endOf, endBy}
-use Rattle.spv.specs.ClimbLaws.{ascended}
+use Rattle.spv.proofs.ClimbLaws.{ascended}
 use Rattle.spv.specs.Values.{workedOut}
 use Rattle.climbs.specs.Count.{costOf, climbCost}
-use Rattle.climbs.specs.CountEnds.{layersCost, faultCost, endCost}
+use Rattle.climbs.proofs.CountEnds.{layersCost, faultCost, endCost}
 use Rattle.climbs.proofs.CountLaws.{climb-joins, climb-fails, missing-none}
 
 -- only a sibling that can't be had fails by 14

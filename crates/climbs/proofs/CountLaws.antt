@@ -13,14 +13,14 @@ use Rattle.path.specs.declared.path.Start.{Start}
 use Rattle.path.specs.declared.path.Start.the-variants.{At, Nowhere}
 use Rattle.spv.specs.Result.{accepted}
 use Rattle.spv.specs.Climb.{Sibling, value, copied, absent, Siblings, Step, joins, fails, step, odd, siblingPosition, siblingPositions, ascend, ascendBy, endOf, endBy}
-use Rattle.spv.specs.ClimbLaws.{ascended}
+use Rattle.spv.proofs.ClimbLaws.{ascended}
 use Rattle.spv.specs.Values.{hasValue, valueBy, joinBoth, joinOf, valueOf, workedOut}
-use Rattle.spv.specs.ValuesLaws.{join-same, worked-same}
+use Rattle.spv.proofs.ValuesLaws.{join-same, worked-same}
 use Rattle.spv.specs.Joins.{one, joinsBy, joinsMade, siblingJoins, climbJoins, leavesIn}
-use Rattle.spv.specs.JoinsLaws.{climb-few}
+use Rattle.spv.proofs.JoinsLaws.{climb-few}
 use Rattle.spv.specs.Siblings.{writtenBy, findIn}
 use Rattle.climbs.specs.Count.{joinCost, costOf, climbCost, startCost}
-use Rattle.climbs.specs.CountEnds.{AllWritten}
+use Rattle.climbs.proofs.CountEnds.{AllWritten}
 
 left-valued : (l r : Sibling) → hasValue (joinBoth l r) ≡ true → hasValue l ≡ true
 unfolding joinBoth hasValue

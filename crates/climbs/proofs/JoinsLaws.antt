@@ -13,8 +13,8 @@ use Rattle.spv.specs.Climb.{Sibling, value, copied, absent, Siblings}
 use Rattle.spv.specs.Values.{hasValue, valueBy, valueOf, joinOf}
 use Rattle.spv.specs.Siblings.{sibling, writtenBy, findIn}
 use Rattle.spv.specs.Joins.{one, leavesBelow, leavesIn}
-use Rattle.spv.specs.JoinsLaws.{below-two, below-all, count-here, both-valued, joins-fewer}
-use Rattle.climbs.specs.Joins.{toJoin, tried, untried, Visit, rests, goes, Pass}
+use Rattle.spv.proofs.JoinsLaws.{below-two, below-all, count-here, both-valued, joins-fewer}
+use Rattle.climbs.proofs.Joins.{toJoin, tried, untried, Visit, rests, goes, Pass}
 
 -- the layers below k that rows have not tried
 unfoldable left : ℕ → List ℕ → ℕ

@@ -14,3 +14,5 @@ pub mod JoinsLaws
 pub mod CountLaws
 pub mod CountEndsLaws
 pub mod SpentLaws
+pub mod Joins
+pub mod CountEnds

@@ -14,16 +14,16 @@ use Rattle.format.specs.declared.level.Kind.the-variants.{Plain, Copy, Client}
 use Rattle.path.specs.declared.path.Found.{Found}
 use Rattle.path.specs.declared.path.Found.the-variants.{Here, Missing}
 use Rattle.spv.specs.Climb.{Sibling, value, copied, absent, Siblings, siblingPosition}
-use Rattle.spv.specs.ClimbLaws.{sibling-odd, sibling-even}
+use Rattle.spv.proofs.ClimbLaws.{sibling-odd, sibling-even}
 use Rattle.spv.specs.Values.{hasValue, valueBy, joinBoth, joinOf, valueOf, workedOut}
-use Rattle.spv.specs.ValuesLaws.{join-two, both-left}
+use Rattle.spv.proofs.ValuesLaws.{join-two, both-left}
 use Rattle.spv.specs.Siblings.{written, sibling, writtenBy}
 use Rattle.hash.specs.Sha256.{sha256d}
-use Rattle.hash.specs.Sha256Laws.{sha256d-length}
+use Rattle.hash.proofs.Sha256Laws.{sha256d-length}
 use Rattle.format.specs.Bytes.{hashAt}
 use Rattle.spv.specs.Climb.{odd, step}
 use Rattle.spv.specs.Shapes.{siblingBy, siblingOf, joinedOf}
-use Rattle.spv.specs.ShapesLaws.{sibling-node}
+use Rattle.spv.proofs.ShapesLaws.{sibling-node}
 use Rattle.spv.specs.declared.climb.Joined.{Joined}
 use Rattle.spv.specs.declared.node.Node.{Node}
 use Rattle.spv.specs.declared.node.NodeKind.the-variants.{Value, Copied, Absent}

@@ -11,11 +11,11 @@ use lib.Seq.{ext-getD, getD-set-same, getD-set-other, length-take-le, take-all, 
 use lib.Dec.{eqb, ltb, leb}
 use borrow.Author.Tests.{lt-ltb, le-ltb, lt-leb, le-leb, leb-true, eq-eqb, ne-eqb, eqb-true, eqb-false}
 use Rattle.hash.specs.Sha256.{sha256d}
-use Rattle.hash.specs.Sha256Laws.{sha256d-length}
+use Rattle.hash.proofs.Sha256Laws.{sha256d-length}
 use Rattle.format.specs.declared.level.Layout.{Layout}
 use Rattle.format.specs.declared.level.Leaf.{Leaf}
 use Rattle.format.specs.Bytes.{setHash, hashAt}
-use Rattle.format.specs.BytesLaws.{set-inside, hash-there, hash-at-length}
+use Rattle.format.proofs.BytesLaws.{set-inside, hash-there, hash-at-length}
 use Rattle.format.specs.Parse.{pick}
 use Rattle.format.specs.Refusals.{NOT-LISTED}
 use Rattle.path.specs.declared.path.Form.{Form}
@@ -25,15 +25,15 @@ use Rattle.path.specs.declared.path.Start.the-variants.{At, Nowhere}
 use Rattle.path.specs.Path.{leafIn, startIn}
 use Rattle.spv.specs.Result.{Result, accepted, refused, carrying, atSibling}
 use Rattle.spv.specs.Climb.{Siblings, siblingPosition, odd, Step, joins, fails, step, Ascent, ascendBy, ascend, endBy, endOf}
-use Rattle.spv.specs.ClimbLaws.{ascend-joins, ascend-fails, ascend-same}
+use Rattle.spv.proofs.ClimbLaws.{ascend-joins, ascend-fails, ascend-same}
 use Rattle.spv.specs.Compare.{any, hits, proofOf, settle, proveBy, prove}
-use Rattle.spv.specs.Stored.{stored-here, stored-other}
+use Rattle.spv.proofs.Stored.{stored-here, stored-other}
 use Rattle.spv.specs.Readings.{starting, pathReading}
 use Rattle.spv.specs.Rows.{rows}
-use Rattle.spv.specs.RowsLaws.{rows-length, rows-at}
+use Rattle.spv.proofs.RowsLaws.{rows-length, rows-at}
 use Rattle.spv.specs.Shapes.{acceptedOf, provedOf}
 use Rattle.spv.specs.Siblings.{sibling, writtenBy, findIn, findAt, pathSiblings}
-use Rattle.spv.specs.SiblingsLaws.{LeadsTo}
+use Rattle.spv.proofs.SiblingsLaws.{LeadsTo}
 use Rattle.spv.specs.Values.{workedOut}
 use Rattle.spv.specs.declared.rejection.Rejection.{Rejection}
 use Rattle.climbs.specs.Row.{refusalOf, leads, leadsAt, came, cameAt}

@@ -6,7 +6,7 @@ use mathlib.Core.List.{List}
 use native.Mathlib.Omega.{arith}
 use lib.Dec.{leb}
 use borrow.Author.Tests.{leb-true}
-use Rattle.format.specs.Basics.{and-true}
+use Rattle.format.proofs.Basics.{and-true}
 use Rattle.format.specs.Parse.{got, bad, otherwise}
 use Rattle.format.specs.Field.{varint}
 use Rattle.path.specs.declared.path.Form.{Form}

@@ -9,8 +9,8 @@ use lib.Seq.{getD-set-other}
 use lib.Dec.{eqb}
 use borrow.Author.Tests.{eqb-true, eqb-false}
 use Rattle.hash.specs.Sha256.{sha256d}
-use Rattle.hash.specs.Sha256Laws.{sha256d-length}
-use Rattle.format.specs.BytesLaws.{set-inside}
+use Rattle.hash.proofs.Sha256Laws.{sha256d-length}
+use Rattle.format.proofs.BytesLaws.{set-inside}
 use Rattle.format.specs.Bytes.{hashAt}
 use Rattle.format.specs.Parse.{pick}
 use Rattle.lanes.specs.Lanes as L
@@ -18,7 +18,7 @@ use Rattle.lanes.specs.declared.Nodes.{Nodes}
 use Rattle.spv.specs.Climb.{Sibling, Siblings, siblingPosition, odd, step}
 use Rattle.spv.specs.Values.{workedOut}
 use Rattle.spv.specs.Shapes.{siblingOf, joinedOf}
-use Rattle.spv.specs.Stored.{stored-other}
+use Rattle.spv.proofs.Stored.{stored-other}
 use Rattle.spv.specs.declared.climb.Joined.{Joined}
 use Rattle.spv.specs.declared.climb.StepKind.{StepKind}
 use Rattle.spv.specs.declared.climb.StepKind.the-variants.{Joins, Fails}

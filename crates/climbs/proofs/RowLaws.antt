@@ -12,15 +12,15 @@ use lib.Pow.{shr-shr}
 use borrow.Author.Tests.{lt-ltb, le-ltb, eq-eqb, ne-eqb, eqb-true, eqb-false, ltb-true, ltb-false}
 use Rattle.hash.specs.Sha256.{sha256d}
 use Rattle.format.specs.Bytes.{same, setHash, hashAt}
-use Rattle.format.specs.BytesLaws.{set-inside}
+use Rattle.format.proofs.BytesLaws.{set-inside}
 use Rattle.format.specs.Parse.{pick}
 use Rattle.format.specs.Refusals.{NOT-LISTED, MISSING, TWIN}
 use Rattle.spv.specs.Result.{Result, accepted, refused, carrying, atSibling}
 use Rattle.spv.specs.Climb.{Sibling, value, copied, absent, Siblings, siblingPosition, odd, Step, joins, fails, joined, step, top, ascend, endBy, endOf}
-use Rattle.spv.specs.ClimbLaws.{turn-joins, turn-fails, turn-none}
+use Rattle.spv.proofs.ClimbLaws.{turn-joins, turn-fails, turn-none}
 use Rattle.spv.specs.Shapes.{joinedOf}
-use Rattle.spv.specs.ShapesLaws.{told-joins, told-fails}
-use Rattle.spv.specs.Stored.{stored-here, stored-other}
+use Rattle.spv.proofs.ShapesLaws.{told-joins, told-fails}
+use Rattle.spv.proofs.Stored.{stored-here, stored-other}
 use Rattle.spv.specs.declared.climb.StepKind.{StepKind}
 use Rattle.spv.specs.declared.climb.StepKind.the-variants.{Joins, Fails}
 use Rattle.spv.specs.declared.climb.Joined.{Joined}

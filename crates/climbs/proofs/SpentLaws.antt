@@ -12,7 +12,7 @@ use lib.Pow.{pow-mono}
 use borrow.Author.Tests.{lt-ltb, le-ltb, eq-eqb, ne-eqb, eqb-true, eqb-false}
 use Rattle.hash.specs.Sha256.{sha256d}
 use Rattle.format.specs.Bytes.{setHash, hashAt}
-use Rattle.format.specs.BytesLaws.{set-inside}
+use Rattle.format.proofs.BytesLaws.{set-inside}
 use Rattle.format.specs.Parse.{pick}
 use Rattle.path.specs.declared.path.Start.{Start}
 use Rattle.path.specs.declared.path.Start.the-variants.{At, Nowhere}
@@ -20,8 +20,8 @@ use Rattle.spv.specs.Climb.{Sibling, value, copied, absent, Siblings, siblingPo
 use Rattle.spv.specs.Values.{hasValue, joinOf, workedOut}
 use Rattle.spv.specs.Joins.{joinsBy}
 use Rattle.spv.specs.Shapes.{joinedOf}
-use Rattle.spv.specs.ShapesLaws.{told-joins, told-fails}
-use Rattle.spv.specs.Stored.{stored-here, stored-other}
+use Rattle.spv.proofs.ShapesLaws.{told-joins, told-fails}
+use Rattle.spv.proofs.Stored.{stored-here, stored-other}
 use Rattle.spv.specs.declared.climb.StepKind.{StepKind}
 use Rattle.spv.specs.declared.climb.StepKind.the-variants.{Joins, Fails}
 use Rattle.spv.specs.declared.climb.Joined.{Joined}

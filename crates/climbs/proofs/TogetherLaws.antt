@@ -17,7 +17,7 @@ use Rattle.path.specs.Path.{leafIn, leafAtPlace}
 use Rattle.spv.specs.Climb.{Sibling, copied, Siblings}
 use Rattle.spv.specs.Values.{valueBy, valueOf, workedOut}
 use Rattle.spv.specs.Siblings.{sibling, writtenBy, findAt, pathSiblings}
-use Rattle.spv.specs.SiblingsLaws.{join-bump}
+use Rattle.spv.proofs.SiblingsLaws.{join-bump}
 use Rattle.spv.specs.Low.{Low}
 use Rattle.climbs.specs.Row.{startOf, leadsAt, cameAt, Under, Reached, Moved}
 use Rattle.climbs.specs.Order.{Placed}

@@ -10,9 +10,9 @@ use lib.Dec.{ltb}
 use borrow.Author.Tests.{ltb-true, ltb-false}
 use Rattle.spv.specs.Climb.{Sibling, Siblings}
 use Rattle.spv.specs.Values.{hasValue, joinOf, workedOut}
-use Rattle.spv.specs.ValuesLaws.{join-zero}
+use Rattle.spv.proofs.ValuesLaws.{join-zero}
 use Rattle.spv.specs.Shapes.{siblingOf}
-use Rattle.spv.specs.LowLaws.{low-left, low-right}
+use Rattle.spv.proofs.LowLaws.{low-left, low-right}
 use Rattle.climbs.specs.declared.pass.Known.{Known}
 use Rattle.climbs.specs.Row.{startOf, stateOf, Rows, Sorted, Under, NotAt, Reached, Moved}
 use Rattle.climbs.proofs.RowLaws.{moved-none, moved-on, moved-up}

@@ -15,7 +15,7 @@ use Rattle.format.specs.declared.level.Layout.{Layout}
 use Rattle.format.specs.declared.level.Leaf.{Leaf}
 use Rattle.format.specs.declared.bump.BumpHead.{BumpHead}
 use Rattle.format.specs.Bytes.{setHash, hashAt}
-use Rattle.format.specs.BytesLaws.{set-inside, hash-at-length}
+use Rattle.format.proofs.BytesLaws.{set-inside, hash-at-length}
 use Rattle.format.specs.Parse.{pick, got, bad}
 use Rattle.format.specs.Refusals.{NOT-LISTED, ROOTS-DIFFER}
 use Rattle.path.specs.declared.path.Path.{Path}
@@ -28,7 +28,7 @@ use Rattle.spv.specs.Clients.{wantedBy, afterKind, afterLeaf, closing}
 use Rattle.spv.specs.Shapes.{climbedOf}
 use Rattle.spv.specs.Siblings.{writtenBy, findAt, pathSiblings}
 use Rattle.spv.specs.Values.{workedOut}
-use Rattle.spv.specs.Stored.{stored-here, stored-other}
+use Rattle.spv.proofs.Stored.{stored-here, stored-other}
 use Rattle.spv.specs.declared.rejection.Rejection.{Rejection}
 use Rattle.spv.specs.declared.prove.Status.the-variants.{Unread}
 use Rattle.spv.specs.declared.climb.End.{End}

@@ -1,15 +1,15 @@
-pub mod Row
+-- What public contracts cite, in reading order.
+pub mod Count
 pub mod LookUp
-pub mod Pass
-pub mod Order
-pub mod Together
-pub mod Rise
-pub mod Begun
+pub mod Row
 pub mod Proofs
 pub mod ClientsShapes
 pub mod Reach
-pub mod Waiting
-pub mod Joins
-pub mod Count
-pub mod CountEnds
+-- How the code holds it: cited by private contracts alone.
+pub mod Order
+pub mod Pass
+pub mod Rise
 pub mod Spent
+pub mod Together
+pub mod Begun
+pub mod Waiting

@@ -1,16 +1,7 @@
+-- What public contracts cite, in reading order.
 pub mod Differences
-pub mod Once
-pub mod Rising
-pub mod NoDifference
 pub mod Listing
-pub mod Filling
-pub mod FillingLaws
-pub mod Merge
-pub mod MergeLaws
-pub mod MergeTheorem
-pub mod WalkTheorem
-pub mod SameLeaves
-pub mod ListingLaws
-pub mod Examples
 pub mod Shorter
-pub mod ShorterLaws
+-- How the code holds it: cited by private contracts alone.
+pub mod Merge
+pub mod Filling

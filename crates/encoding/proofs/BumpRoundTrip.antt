@@ -5,8 +5,8 @@ use Prim.Native.Nat.{ℕ, _+_, _*_, _^_, _-_, _≤_}
 use lib.ListN.{length, length-append}
 use native.Mathlib.Omega.{arith}
 use Rattle.format.specs.Parse.{got}
-use Rattle.format.specs.ParseLaws.{whole-told}
-use Rattle.format.specs.Whole.{whole-got, whole-ends}
+use Rattle.format.proofs.ParseLaws.{whole-told}
+use Rattle.format.proofs.Whole.{whole-got, whole-ends}
 use Rattle.format.specs.Bump.{Bump, bumpField, bumpWhole}
 use Rattle.format.specs.Refusals.{MAX-INPUT}
 use Rattle.encoding.proofs.Stands.{stands-self, stands-all}

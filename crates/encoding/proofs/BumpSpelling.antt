@@ -13,17 +13,17 @@ use Rattle.format.specs.declared.level.Kind.{Kind}
 use Rattle.format.specs.declared.level.Kind.the-variants.{Plain, Copy, Client}
 use Rattle.format.specs.declared.level.Leaf.{Leaf}
 use Rattle.format.specs.Parse.{Parse, Reader, pick, each, given, pure, _passing_else_, got}
-use Rattle.format.specs.ParseLaws.{onward-told, each-got}
+use Rattle.format.proofs.ParseLaws.{onward-told, each-got}
 use Rattle.format.specs.Field.{bytes, varint}
-use Rattle.format.specs.FieldLaws.{bytes-here}
+use Rattle.format.proofs.FieldLaws.{bytes-here}
 use Rattle.format.specs.Level.{holds, offsetField, flagAllowed, flagField, kindField, carriedField, leafField, andOffset, leafFields, levelField, levelInTurn, nextTurn, levelFields, levelOfTurn}
 use Rattle.format.specs.Bytes.{hashAt}
-use Rattle.format.specs.BytesLaws.{hash-there, hash-at-length}
-use Rattle.format.specs.Basics.{and-true}
+use Rattle.format.proofs.BytesLaws.{hash-there, hash-at-length}
+use Rattle.format.proofs.Basics.{and-true}
 use Rattle.format.specs.Bump.{Bump, blockField, heightField, bumpField}
 use Rattle.format.specs.Refusals.{BAD-OFFSET, REPEATED, BAD-FLAG, OVER-LIMIT, BAD-HEIGHT, MAX-BLOCK, MAX-HEIGHT, MAX-LEAVES}
 use Rattle.encoding.proofs.Stands.{Stands, stands-join, stands-split, stands-fits, stands-take, stands-here}
-use Rattle.format.specs.Span.{bytes-told}
+use Rattle.format.proofs.Span.{bytes-told}
 use Rattle.encoding.proofs.Spelling.{Spelling, itself, part-bytes, byte-spelling, tested-spelling, many-spelling}
 use Rattle.encoding.proofs.VarintSpelling.{varint-spelling}
 use Rattle.encoding.specs.Digits.{varintBytes}

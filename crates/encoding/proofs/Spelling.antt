@@ -10,9 +10,9 @@ use native.Mathlib.Omega.{arith}
 use native.Mathlib.Nat.{add-zero}
 use borrow.Author.Tests.{lt-ltb, ltb-true, ltb-false}
 use Rattle.format.specs.Parse.{Reader, _passing_else_, many, each, got}
-use Rattle.format.specs.ParseLaws.{passing-told, many-told}
+use Rattle.format.proofs.ParseLaws.{passing-told, many-told}
 use Rattle.format.specs.Field.{byte}
-use Rattle.format.specs.Span.{byte-told}
+use Rattle.format.proofs.Span.{byte-told}
 use Rattle.encoding.proofs.Stands.{Stands, stands-none, stands-join, stands-split, stands-fits, stands-get, stands-here}
 use Rattle.encoding.specs.Spells.{AllBytes, spells, Fits}
 

@@ -12,7 +12,7 @@ use Rattle.format.specs.declared.level.Kind.{Kind}
 use Rattle.format.specs.declared.level.Kind.the-variants.{Plain, Copy, Client}
 use Rattle.format.specs.declared.tsc.Subject.{Subject}
 use Rattle.format.specs.Parse.{Parse, pick, each, given, pure, require, _passing_else_, times, got}
-use Rattle.format.specs.ParseLaws.{onward-told, each-got}
+use Rattle.format.proofs.ParseLaws.{onward-told, each-got}
 use Rattle.format.specs.Field.{bytes, byte, varint}
 use Rattle.format.specs.Level.{kindField}
 use Rattle.format.specs.Node.{nodeField}
@@ -21,7 +21,7 @@ use Rattle.format.specs.Tsc.{flagsAllowed, flagsField, subjectField, targetFiel
 use Rattle.format.specs.Id.{subjectId}
 use Rattle.format.specs.Refusals.{BAD-FLAG, BAD-OFFSET, OVER-LIMIT, MAX-HEIGHT}
 use Rattle.encoding.proofs.Stands.{Stands, stands-join, stands-split}
-use Rattle.format.specs.Span.{picked-told}
+use Rattle.format.proofs.Span.{picked-told}
 use Rattle.encoding.proofs.Spelling.{Spelling, itself, byte-spelling, tested-spelling, many-spelling}
 use Rattle.encoding.proofs.VarintSpelling.{varint-spelling}
 use Rattle.encoding.specs.Digits.{varintBytes}

@@ -8,12 +8,12 @@ use lib.Dec.{ltb, leb, eqb}
 use native.Mathlib.Omega.{arith}
 use borrow.Author.Tests.{le-ltb, lt-ltb, ltb-true, ltb-false, leb-true, eqb-true, eqb-false}
 use Rattle.format.specs.Parse.{Parse, pick, _passing_else_, at-start, got, bad}
-use Rattle.format.specs.ParseLaws.{passing-told, onward-told}
+use Rattle.format.proofs.ParseLaws.{passing-told, onward-told}
 use Rattle.format.specs.Field.{bytes, number, varint, le2, le4, le8}
-use Rattle.format.specs.FieldLaws.{long-value, varint-none, varint-announced, varint-small}
+use Rattle.format.proofs.FieldLaws.{long-value, varint-none, varint-announced, varint-small}
 use Rattle.format.specs.Refusals.{LONG-VARINT}
 use Rattle.encoding.proofs.Stands.{Stands, stands-join, stands-split, stands-fits, stands-here}
-use Rattle.format.specs.Span.{bytes-told}
+use Rattle.format.proofs.Span.{bytes-told}
 use Rattle.encoding.proofs.Spelling.{Spelling, itself, first-is, stands-one, part-bytes}
 use Rattle.encoding.specs.Digits.{little, varintBytes}
 use Rattle.encoding.proofs.DigitsLaws.{num, numAt, little-length, num-little, little-num, num-below, num-stands, le2-is, le4-is, le8-is}

@@ -1,3 +1,4 @@
+-- What public contracts cite, in reading order.
 pub mod Spells
 pub mod Digits
 pub mod Buffer

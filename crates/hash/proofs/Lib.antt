@@ -4,3 +4,5 @@ pub mod Digests
 pub mod Bitwise
 pub mod Stages
 pub mod Known
+pub mod Sha256Laws
+pub mod Examples

@@ -1,4 +1,3 @@
+-- What public contracts cite, in reading order.
 pub mod Sha256
-pub mod Sha256Laws
 pub mod Parts
-pub mod Examples

@@ -11,7 +11,7 @@ use lib.Seq.{take-all, take-suc}
 use borrow.Author.Tests.{le-leb, lt-leb, leb-true, leb-false}
 use Rattle.hash.specs.declared.compress.State.{State}
 use Rattle.hash.specs.Sha256.{pad, words, digest, compress, H0, H, hashValue, sha256, sha256d, hashed, MAX-INPUT}
-use Rattle.hash.specs.Sha256Laws.{hashed-accepted}
+use Rattle.hash.proofs.Sha256Laws.{hashed-accepted}
 use Rattle.hash.specs.Parts.{blocks, blockOf}
 use Rattle.hash.proofs.Words.{grow, words-same}
 use Rattle.hash.proofs.Padding.{pad-front, H-step, H-done, block-within}

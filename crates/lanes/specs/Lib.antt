@@ -1,1 +1,2 @@
+-- What public contracts cite, in reading order.
 pub mod Lanes

@@ -9,7 +9,7 @@ use borrow.Author.Tests.{eq-eqb, ne-eqb, lt-ltb, le-ltb, ltb-true, ltb-false}
 use Rattle.format.specs.declared.level.Layout.{Layout}
 use Rattle.format.specs.declared.level.Leaf.{Leaf}
 use Rattle.format.specs.Parse.{pick, many, got}
-use Rattle.format.specs.ParseLaws.{many-told}
+use Rattle.format.proofs.ParseLaws.{many-told}
 use Rattle.format.specs.Field.{varint}
 use Rattle.format.specs.Refusals.{MAX-LEAVES}
 use Rattle.format.specs.Level.{levelOfTurn, levelInTurn, nextTurn}

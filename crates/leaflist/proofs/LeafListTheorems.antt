@@ -10,12 +10,12 @@ use native.Mathlib.Omega.{arith}
 use native.Mathlib.Nat.{zero-add}
 use borrow.Author.Tests.{eq-eqb, lt-ltb, le-ltb, ltb-true, ltb-false, eqb-true}
 use Rattle.format.specs.declared.level.Leaf.{Leaf}
-use Rattle.format.specs.Basics.{and-true}
+use Rattle.format.proofs.Basics.{and-true}
 use Rattle.format.specs.Parse.{pick, got}
 use Rattle.format.specs.Level.{total}
 use Rattle.path.specs.Search.{lookup}
 use Rattle.format.specs.Bump.{Bump, bumpWhole}
-use Rattle.format.specs.BumpLaws.{bump-whole-told}
+use Rattle.format.proofs.BumpLaws.{bump-whole-told}
 use Rattle.path.specs.Path.{leafIn, bumpPath, bumpPathOf}
 use Rattle.path.proofs.PathLaws.{bump-leaf-in, past-layers}
 use Rattle.levels.specs.Places.{offsetAt, levelLeaves, nextLevel, leafThere}

@@ -10,9 +10,9 @@ use borrow.Author.Tests.{le-leb, lt-leb}
 use Rattle.format.specs.declared.level.Leaf.{Leaf}
 use Rattle.format.specs.declared.refusal.Refusal.{Refusal}
 use Rattle.format.specs.declared.bump.BumpHead.{BumpHead}
-use Rattle.format.specs.Basics.{one-less}
+use Rattle.format.proofs.Basics.{one-less}
 use Rattle.format.specs.Parse.{each, got, bad}
-use Rattle.format.specs.ParseLaws.{each-got, each-bad}
+use Rattle.format.proofs.ParseLaws.{each-got, each-bad}
 use Rattle.format.specs.Refusals.{NO-ROOM}
 use Rattle.format.specs.Bump.{Bump, bumpWhole, headOf}
 use Rattle.spv.specs.declared.rejection.Rejection.{Rejection}

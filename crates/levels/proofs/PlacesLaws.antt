@@ -8,13 +8,13 @@ use lib.Dec.{leb, ltb, eqb}
 use borrow.Author.Tests.{eq-eqb, ne-eqb, leb-true, ltb-true}
 use Rattle.format.specs.declared.level.Layout.{Layout}
 use Rattle.format.specs.declared.level.Leaf.{Leaf}
-use Rattle.format.specs.Basics.{or-true}
+use Rattle.format.proofs.Basics.{or-true}
 use Rattle.format.specs.Parse.{pick, many, times, _passing_else_, got, bad}
-use Rattle.format.specs.ParseLaws.{onward-told, passing-told, many-told}
+use Rattle.format.proofs.ParseLaws.{onward-told, passing-told, many-told}
 use Rattle.format.specs.Field.{varint}
 use Rattle.format.specs.Refusals.{BAD-OFFSET, REPEATED, OVER-LIMIT, MAX-LEAVES}
 use Rattle.format.specs.Level.{holds, offsetField, carriedField, leafField, andOffset, levelField}
-use Rattle.format.specs.LevelLaws.{holds-snoc}
+use Rattle.format.proofs.LevelLaws.{holds-snoc}
 use Rattle.path.specs.declared.path.Found.the-variants.{Here}
 use Rattle.path.specs.Search.{lookup}
 use Rattle.path.specs.Loose.{looseCarried, looseLeaf, looseLevel}

@@ -7,10 +7,10 @@ use native.Mathlib.Omega.{arith}
 use Rattle.format.specs.declared.level.Layout.{Layout}
 use Rattle.format.specs.declared.level.Leaf.{Leaf}
 use Rattle.format.specs.Parse.{many, got}
-use Rattle.format.specs.ParseLaws.{many-told, many-length}
+use Rattle.format.proofs.ParseLaws.{many-told, many-length}
 use Rattle.format.specs.Level.{levelOfTurn, levelInTurn, nextTurn}
 use Rattle.format.specs.Bump.{Bump, bumpWhole}
-use Rattle.format.specs.BumpLaws.{bump-whole-told}
+use Rattle.format.proofs.BumpLaws.{bump-whole-told}
 use Rattle.encoding.specs.BumpBytes.{Content, entryOf, contentOf}
 use Rattle.levels.specs.Standing.{nothing, at, standing}
 use Rattle.levels.specs.Places.{entries}

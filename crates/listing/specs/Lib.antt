@@ -1,9 +1,5 @@
+-- What public contracts cite, in reading order.
 pub mod Text
-pub mod TextLaws
 pub mod Listing
+-- How the code holds it: cited by private contracts alone.
 pub mod Walk
-pub mod WalkLaws
-pub mod ListingLaws
-pub mod Bounded
-pub mod Room
-pub mod Examples

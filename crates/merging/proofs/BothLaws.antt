@@ -10,7 +10,7 @@ use borrow.Author.Tests.{le-leb}
 use Rattle.format.specs.declared.bump.BumpHead.{BumpHead}
 use Rattle.format.specs.declared.level.Layout.{Layout}
 use Rattle.format.specs.declared.level.Leaf.{Leaf}
-use Rattle.format.specs.BytesLaws.{same-refl}
+use Rattle.format.proofs.BytesLaws.{same-refl}
 use Rattle.format.specs.Parse.{Parse, got, bad, otherwise}
 use Rattle.format.specs.Level.{levelOfTurn}
 use Rattle.path.specs.declared.path.Form.{Form}
@@ -22,7 +22,7 @@ use Rattle.spv.specs.Result.{Result, accepted, refused}
 use Rattle.spv.specs.Climb.{Siblings}
 use Rattle.spv.specs.Clients.{clients}
 use Rattle.spv.specs.Compare.{bound}
-use Rattle.spv.specs.ClientsTheorems.{AllReach, Still, agreed-told, told-agreed}
+use Rattle.spv.proofs.ClientsTheorems.{AllReach, Still, agreed-told, told-agreed}
 use Rattle.climbs.specs.Proofs.{isBump}
 use Rattle.climbs.specs.Reach.{isAccepted, levelReaches, bothReach}
 use Rattle.climbs.proofs.ClientsLaws.{clients-in}

@@ -7,7 +7,7 @@ use lib.ListN.{length, length-append}
 use lib.Dec.{leb, ltb}
 use native.Mathlib.Omega.{arith}
 use borrow.Author.Tests.{le-leb, lt-leb, ltb-true, ltb-false}
-use Rattle.format.specs.Basics.{one-less}
+use Rattle.format.proofs.Basics.{one-less}
 use Rattle.encoding.specs.Digits.{varintBytes}
 use Rattle.encoding.specs.Spells.{spells}
 use Rattle.encoding.specs.Buffer.{Buffer, writeOn}

@@ -11,21 +11,21 @@ use borrow.Author.Tests.{eqb-true, eq-eqb, ne-eqb, leb-true, le-leb, lt-leb}
 use Rattle.format.specs.declared.bump.BumpHead.{BumpHead}
 use Rattle.format.specs.declared.level.Layout.{Layout}
 use Rattle.format.specs.declared.level.Leaf.{Leaf}
-use Rattle.format.specs.Basics.{and-true, and-false}
+use Rattle.format.proofs.Basics.{and-true, and-false}
 use Rattle.format.specs.Bytes.{same}
-use Rattle.format.specs.BytesLaws.{same-eq}
+use Rattle.format.proofs.BytesLaws.{same-eq}
 use Rattle.encoding.specs.Buffer.{Buffer, buffer, writeOn}
 use Rattle.encoding.proofs.BufferLaws.{write-whole}
 use Rattle.encoding.specs.Digits.{varintBytes}
 use Rattle.format.specs.Parse.{Parse, got, bad, each, pick, many}
-use Rattle.format.specs.ParseLaws.{each-got, each-bad, many-told}
+use Rattle.format.proofs.ParseLaws.{each-got, each-bad, many-told}
 use Rattle.format.specs.Refusals.{OVER-LIMIT, ROOTS-DIFFER, NO-ROOM, UNLIKE}
 use Rattle.format.specs.Level.{levelOfTurn, levelInTurn, nextTurn}
 use Rattle.path.specs.Loose.{looseLevel}
 use Rattle.path.proofs.LooseLaws.{level-loose}
 use Rattle.encoding.specs.Spells.{AllBytes, spells}
 use Rattle.format.specs.Bump.{Bump, bumpWhole, headOf}
-use Rattle.format.specs.BumpLaws.{bump-whole-told}
+use Rattle.format.proofs.BumpLaws.{bump-whole-told}
 use Rattle.encoding.specs.BumpBytes.{Content, ContentFit, bumpBytes, contentOf}
 use Rattle.encoding.proofs.BumpRoundTrip.{bump-written}
 use Rattle.path.specs.declared.path.Path.{Path}
@@ -37,7 +37,7 @@ use Rattle.spv.specs.Result.{Result, accepted, refused, carrying, afterReading,
 use Rattle.spv.specs.Climb.{Siblings}
 use Rattle.spv.specs.Clients.{bumpClients}
 use Rattle.climbs.specs.ClientsShapes.{checkedOf, refusedCheck}
-use Rattle.spv.specs.ClientsTheorems.{HasClient, clients-agree}
+use Rattle.spv.proofs.ClientsTheorems.{HasClient, clients-agree}
 use Rattle.levels.proofs.Within.{within}
 use Rattle.merging.specs.declared.joining.Tally.{Tally}
 use Rattle.merging.specs.declared.merging.Merged.{Merged}

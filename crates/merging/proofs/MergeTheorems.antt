@@ -7,9 +7,9 @@ use lib.ListN.{length, getD}
 use lib.Dec.{eqb}
 use native.Mathlib.Omega.{arith}
 use borrow.Author.Tests.{eqb-true}
-use Rattle.format.specs.Basics.{and-true}
+use Rattle.format.proofs.Basics.{and-true}
 use Rattle.format.specs.Bytes.{same}
-use Rattle.format.specs.BytesLaws.{same-eq}
+use Rattle.format.proofs.BytesLaws.{same-eq}
 use Rattle.format.specs.Parse.{got}
 use Rattle.encoding.specs.Spells.{AllBytes}
 use Rattle.format.specs.Bump.{Bump, bumpWhole, headOf}
@@ -17,7 +17,7 @@ use Rattle.encoding.specs.BumpBytes.{Content, bumpBytes, contentOf}
 use Rattle.encoding.proofs.BumpRoundTrip.{bump-written}
 use Rattle.spv.specs.Result.{Result, accepted, refused}
 use Rattle.spv.specs.Clients.{bumpClients}
-use Rattle.spv.specs.ClientsTheorems.{clients-agree}
+use Rattle.spv.proofs.ClientsTheorems.{clients-agree}
 use Rattle.levels.specs.Standing.{standing}
 use Rattle.levels.proofs.InOrder.{InOrder}
 use Rattle.levels.proofs.Within.{within}

@@ -13,15 +13,15 @@ use Rattle.format.specs.declared.level.Kind.the-variants.{Plain, Copy, Client}
 use Rattle.format.specs.declared.level.Leaf.{Leaf}
 use Rattle.path.specs.declared.path.Found.the-variants.{Here}
 use Rattle.format.specs.declared.level.Layout.{Layout}
-use Rattle.format.specs.Basics.{or-true}
+use Rattle.format.proofs.Basics.{or-true}
 use Rattle.format.specs.Bytes.{same, hashAt}
-use Rattle.format.specs.BytesLaws.{same-eq}
+use Rattle.format.proofs.BytesLaws.{same-eq}
 use Rattle.format.specs.Parse.{pick, got}
 use Rattle.format.specs.Level.{holds}
-use Rattle.format.specs.LevelLaws.{holds-snoc}
+use Rattle.format.proofs.LevelLaws.{holds-snoc}
 use Rattle.path.specs.Search.{lookup}
 use Rattle.format.specs.Bump.{Bump, bumpWhole, headOf}
-use Rattle.format.specs.BumpLaws.{bump-whole-told}
+use Rattle.format.proofs.BumpLaws.{bump-whole-told}
 use Rattle.encoding.specs.BumpBytes.{Carried, plain, copy, client, Entry, Content, carriedOf, entryOf, EntryFit, andEntry, LevelFit, nextLevel, ContentFit, bumpBytes, contentOf}
 use Rattle.encoding.specs.Spells.{Fits}
 use Rattle.path.specs.Path.{LAYERS, layersOf, leafIn, leafAtPlace, bumpPathOf, bumpPath}
@@ -29,11 +29,11 @@ use Rattle.format.specs.Refusals.{MAX-HEIGHT}
 use Rattle.path.proofs.PathLaws.{bump-leaf-in}
 use Rattle.spv.specs.Result.{accepted}
 use Rattle.spv.specs.Climb.{Sibling, value, copied, absent, Siblings, ascend, endOf}
-use Rattle.spv.specs.ClimbLaws.{ascend-same}
-use Rattle.spv.specs.ValuesLaws.{worked-same}
+use Rattle.spv.proofs.ClimbLaws.{ascend-same}
+use Rattle.spv.proofs.ValuesLaws.{worked-same}
 use Rattle.spv.specs.Siblings.{written, sibling, writtenBy, findIn, findAt, levelSiblings}
 use Rattle.spv.specs.Clients.{bumpClients}
-use Rattle.spv.specs.ClientsTheorems.{noLeaf, HasClient, AllReach, Agrees, clients-agree}
+use Rattle.spv.proofs.ClientsTheorems.{noLeaf, HasClient, AllReach, Agrees, clients-agree}
 use Rattle.levels.specs.Standing.{Standing, stands, nothing, at, standing}
 use Rattle.levels.proofs.Within.{Within}
 use Rattle.merging.specs.Merging.{Kept, keeps, clash, hasHash, agree, leftOf, spotsFrom, isClash, clashes, anyOf, allSpots, overLimit, merged}

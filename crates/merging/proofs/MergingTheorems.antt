@@ -11,7 +11,7 @@ use Rattle.format.specs.Bytes.{same}
 use Rattle.format.specs.Parse.{pick, got}
 use Rattle.format.specs.Refusals.{MAX-LEAVES}
 use Rattle.format.specs.Level.{holds}
-use Rattle.format.specs.LevelLaws.{holds-snoc}
+use Rattle.format.proofs.LevelLaws.{holds-snoc}
 use Rattle.format.specs.Bump.{Bump, bumpWhole}
 use Rattle.encoding.specs.BumpBytes.{Carried, plain, copy, client, Entry, Content, CarriedFit, EntryFit, andEntry, LevelFit, nextLevel, ContentFit, bumpBytes, contentOf}
 use Rattle.encoding.proofs.BumpRoundTrip.{bump-read-back}

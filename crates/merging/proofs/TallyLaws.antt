@@ -9,13 +9,13 @@ use native.Mathlib.Omega.{arith}
 use borrow.Author.Tests.{eq-eqb}
 use Rattle.format.specs.declared.level.Kind.{Kind}
 use Rattle.format.specs.declared.level.Kind.the-variants.{Plain, Copy, Client}
-use Rattle.format.specs.Basics.{one-less, or-true}
+use Rattle.format.proofs.Basics.{one-less, or-true}
 use Rattle.format.specs.Parse.{pick}
 use Rattle.encoding.specs.Digits.{varintBytes}
 use Rattle.encoding.specs.Buffer.{Buffer, putOn, writeOn}
 use Rattle.encoding.proofs.BufferLaws.{write-then, wrote-then, wrote-cons}
 use Rattle.format.specs.Bytes.{hashAt}
-use Rattle.format.specs.BytesLaws.{hash-at-length}
+use Rattle.format.proofs.BytesLaws.{hash-at-length}
 use Rattle.encoding.specs.Spells.{spells}
 use Rattle.encoding.specs.BumpBytes.{Carried, Entry, carriedBytes, entryBytes, carriedOf}
 use Rattle.levels.specs.declared.level.Next.the-variants.{Offset, End}

@@ -11,10 +11,10 @@ use lib.Seq.{length-take-le, getD-take, take-suc, drop-cons, take-length, drop-l
 use borrow.Author.Tests.{lt-ltb, le-ltb, le-leb}
 use Rattle.format.specs.Parse.{pick}
 use Rattle.format.specs.Bytes.{same, hashAt}
-use Rattle.format.specs.BytesLaws.{same-eq, same-ne, ne-same}
+use Rattle.format.proofs.BytesLaws.{same-eq, same-ne, ne-same}
 use Rattle.spv.specs.Hashes.{among, hashes, indexOf, Distinct, Among}
-use Rattle.spv.specs.HashesLaws.{hashes-length, hashes-at, among-told, told-among}
-use Rattle.spv.specs.TestLaws.{clash, and-left, and-right}
+use Rattle.spv.proofs.HashesLaws.{hashes-length, hashes-at, among-told, told-among}
+use Rattle.spv.proofs.TestLaws.{clash, and-left, and-right}
 use Rattle.order.specs.Set.{newFrom}
 use Rattle.order.specs.Ids.{keyOf, Keys}
 

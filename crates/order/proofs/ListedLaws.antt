@@ -9,7 +9,7 @@ use lib.Dec.{eqb}
 use lib.ListN.{length, getD, take, length-take}
 use lib.Seq.{getD-take}
 use borrow.Author.Tests.{eqb-true, eq-eqb, ne-eqb}
-use Rattle.spv.specs.TestLaws.{clash, or-told, or-left, or-right}
+use Rattle.spv.proofs.TestLaws.{clash, or-told, or-left, or-right}
 use Rattle.order.specs.Listed.{listed}
 
 pub listed-told : (x : ℕ) (l : List ℕ) → listed x l ≡ true → (k : ℕ) × (k < length l) × (getD l k 0 ≡ x)

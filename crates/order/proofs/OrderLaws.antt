@@ -10,7 +10,7 @@ use lib.Dec.{ltb}
 use lib.ListN.{length, getD, take, length-append}
 use borrow.Author.Tests.{ltb-true, lt-ltb, eqb-true, eq-eqb, not-true}
 use Rattle.format.specs.Parse.{pick}
-use Rattle.spv.specs.TestLaws.{and-left, and-right, and-both, implies-told, told-implies}
+use Rattle.spv.proofs.TestLaws.{and-left, and-right, and-both, implies-told, told-implies}
 use Rattle.order.specs.Listed.{listed}
 use Rattle.order.specs.Order.{rested, ready, checkFrom, firstFrom, first, ahead, placing}
 

@@ -9,7 +9,7 @@ use mathlib.Core.Option.{Option, none, some}
 use native.Mathlib.Decide.{decLt}
 use native.Mathlib.Omega.{arith}
 use lib.ListN.{length, getD, take, length-append}
-use Rattle.spv.specs.TestLaws.{clash, and-left, and-right, and-both, else-false}
+use Rattle.spv.proofs.TestLaws.{clash, and-left, and-right, and-both, else-false}
 use Rattle.order.proofs.ListedLaws.{listed-told, told-listed, early-told, told-early, last-told}
 use Rattle.order.proofs.Pigeon.{Once, Differ, once-differ, few, upto, upto-length, upto-told, told-upto, upto-differ}
 use Rattle.order.specs.Order.{ready, checkFrom, check, first, placing, ours, NotAfter}

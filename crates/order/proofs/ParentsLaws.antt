@@ -12,13 +12,13 @@ use lib.Seq.{getD-set-same, getD-set-other}
 use borrow.Author.Tests.{lt-ltb, le-ltb, eqb-true, eqb-false, eq-eqb, ne-eqb}
 use Rattle.format.specs.declared.tx.Input.{Input}
 use Rattle.format.specs.declared.tx.TxHead.{TxHead}
-use Rattle.format.specs.Basics.{one-less}
+use Rattle.format.proofs.Basics.{one-less}
 use Rattle.format.specs.Parse.{pick, each, got, bad}
 use Rattle.format.specs.Bytes.{same, hashAt}
-use Rattle.format.specs.BytesLaws.{same-eq, same-ne, eq-same, ne-same}
+use Rattle.format.proofs.BytesLaws.{same-eq, same-ne, eq-same, ne-same}
 use Rattle.format.specs.Transaction.{inputField, txField, txHeadOf}
 use Rattle.spv.specs.Hashes.{among, hashes, indexOf, Distinct}
-use Rattle.spv.specs.HashesLaws.{hashes-length}
+use Rattle.spv.proofs.HashesLaws.{hashes-length}
 use Rattle.order.specs.Bits.{bit, withBit}
 use Rattle.order.proofs.BitsLaws.{bit-with}
 use Rattle.order.specs.Code.{dependsIn}

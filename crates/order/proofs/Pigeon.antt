@@ -9,7 +9,7 @@ use lib.Dec.{eqb}
 use lib.ListN.{length, getD}
 use borrow.Author.Tests.{eqb-true, eqb-false, eq-eqb}
 use Rattle.format.specs.Parse.{pick}
-use Rattle.spv.specs.TestLaws.{clash, or-told, or-left, or-right, else-false}
+use Rattle.spv.proofs.TestLaws.{clash, or-told, or-left, or-right, else-false}
 use Rattle.order.proofs.ListedLaws.{listed-told}
 use Rattle.order.specs.Listed.{listed}
 

@@ -10,10 +10,10 @@ use lib.ListN.{length, getD, replicate, length-replicate, getD-replicate, length
 use borrow.Author.Tests.{leb-true, eq-eqb, ne-eqb, le-leb, lt-leb}
 use Rattle.format.specs.declared.tx.Input.{Input}
 use Rattle.format.specs.Parse.{Parse, got, bad, pick, each, many, times}
-use Rattle.format.specs.ParseLaws.{many-told}
+use Rattle.format.proofs.ParseLaws.{many-told}
 use Rattle.format.specs.Bytes.{hashAt}
 use Rattle.format.specs.Transaction.{Transaction, inputField, txField}
-use Rattle.format.specs.TransactionLaws.{TxRead, tx-told}
+use Rattle.format.proofs.TransactionLaws.{TxRead, tx-told}
 use Rattle.format.specs.Id.{txid}
 use Rattle.format.specs.Refusals.{SAME-TX, NO-ROOM, NO-ORDER, BAD-ORDER, MAX-INPUT, MAX-TXS}
 use Rattle.spv.specs.declared.rejection.Rejection.{Rejection}
@@ -21,7 +21,7 @@ use Rattle.spv.specs.Result.{carrying}
 use Rattle.spv.specs.Hashes.{among, hashes, Distinct}
 use Rattle.order.specs.declared.answer.Ordered.{Ordered}
 use Rattle.order.specs.declared.answer.Ordered.the-variants.{Accepted, Refused}
-use Rattle.spv.specs.TestLaws.{clash}
+use Rattle.spv.proofs.TestLaws.{clash}
 use Rattle.order.specs.Bits.{bit}
 use Rattle.order.specs.Order.{check, ours}
 use Rattle.order.proofs.OrderSame.{check-same, ours-same}

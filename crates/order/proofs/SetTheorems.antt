@@ -7,7 +7,7 @@ use mathlib.Core.Logic.{_↔_}
 use mathlib.Core.Option.{none, some}
 use lib.ListN.{length, getD}
 use Rattle.spv.specs.Hashes.{Among}
-use Rattle.spv.specs.HashesLaws.{among-told, told-among}
+use Rattle.spv.proofs.HashesLaws.{among-told, told-among}
 use Rattle.order.specs.Order.{NotAfter}
 use Rattle.order.proofs.OrderTheorems.{Passes, check-passes, passes-check, ours-passes, ours-least, none-passes, passes-none}
 use Rattle.order.specs.Set.{Handed, idAt, parentsAt, parentIn, InOrder, passes, oursOf}

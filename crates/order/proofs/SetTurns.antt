@@ -11,19 +11,19 @@ use lib.Seq.{drop-drop, getD-set-same, getD-set-other}
 use borrow.Author.Tests.{lt-ltb, le-ltb}
 use Rattle.format.specs.declared.tx.TxHead.{TxHead}
 use Rattle.format.specs.Parse.{each, got, bad}
-use Rattle.format.specs.ParseLaws.{each-got, each-bad}
-use Rattle.format.specs.Basics.{one-less}
+use Rattle.format.proofs.ParseLaws.{each-got, each-bad}
+use Rattle.format.proofs.Basics.{one-less}
 use Rattle.format.specs.Bytes.{hashAt}
-use Rattle.format.specs.BytesLaws.{hash-there}
+use Rattle.format.proofs.BytesLaws.{hash-there}
 use Rattle.format.specs.Transaction.{Transaction, txField, txHeadOf}
-use Rattle.format.specs.TransactionLaws.{TxRead, tx-told}
+use Rattle.format.proofs.TransactionLaws.{TxRead, tx-told}
 use Rattle.format.specs.Id.{txid, spanHash}
-use Rattle.format.specs.IdLaws.{tx-hash}
+use Rattle.format.proofs.IdLaws.{tx-hash}
 use Rattle.format.specs.Refusals.{EXTRA, MAX-INPUT, MAX-TXS}
 use Rattle.spv.specs.Result.{carrying}
 use Rattle.spv.specs.Hashes.{hashes}
 use Rattle.spv.specs.Spans.{spanId, Hashed}
-use Rattle.spv.specs.SpansLaws.{hashed-enough}
+use Rattle.spv.proofs.SpansLaws.{hashed-enough}
 use Rattle.order.specs.Set.{SetResult, accepted, refused, before, readFrom}
 use Rattle.order.specs.SetRead.{between, idsBetween, idsOf}
 

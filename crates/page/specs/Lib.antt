@@ -1,6 +1,5 @@
+-- What public contracts cite, in reading order.
 pub mod Page
-pub mod PageLaws
+-- How the code holds it: cited by private contracts alone.
 pub mod Opening
 pub mod Flat
-pub mod FlatLaws
-pub mod Examples

@@ -8,7 +8,7 @@ use Rattle.format.specs.declared.level.Layout.{Layout}
 use Rattle.format.specs.declared.level.Leaf.{Leaf}
 use Rattle.format.specs.declared.level.Kind.{Kind}
 use Rattle.format.specs.Parse.{_passing_else_, got}
-use Rattle.format.specs.ParseLaws.{passing-told, onward-told, many-loose}
+use Rattle.format.proofs.ParseLaws.{passing-told, onward-told, many-loose}
 use Rattle.format.specs.Field.{byte, varint}
 use Rattle.format.specs.Level.{holds, offsetField, flagAllowed, flagField, carriedField, leafField, andOffset, levelField}
 use Rattle.format.specs.Refusals.{OVER-LIMIT, BAD-OFFSET, BAD-FLAG, REPEATED, MAX-LEAVES}

@@ -2,7 +2,7 @@
 use mathlib.Core.Path.{_≡_, refl}
 use Rattle.path.specs.declared.walk.LeafAnswer.{LeafAnswer}
 use Rattle.path.specs.LeafAnswer.{leafOf}
-use Rattle.format.specs.OneAnswer.{one-reading, rebuilt}
+use Rattle.format.proofs.OneAnswer.{one-reading, rebuilt}
 
 pub leaf-one : (a b : LeafAnswer) → leafOf a ≡ leafOf b → a ≡ b
 leaf-one = one-reading leafOf LeafAnswer.Value LeafAnswer.Refused undone

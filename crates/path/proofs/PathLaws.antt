@@ -15,12 +15,12 @@ use Rattle.format.specs.declared.level.Leaf.{Leaf}
 use Rattle.path.specs.declared.path.Path.{Path}
 use Rattle.path.specs.declared.path.Found.the-variants.{Missing}
 use Rattle.format.specs.Parse.{Parse, many, otherwise, got, bad}
-use Rattle.format.specs.ParseLaws.{many-told, many-length}
+use Rattle.format.proofs.ParseLaws.{many-told, many-length}
 use Rattle.format.specs.Level.{levelOfTurn, levelInTurn, nextTurn, levelFields}
-use Rattle.format.specs.LevelLaws.{turn-level-below, turn-level-one}
+use Rattle.format.proofs.LevelLaws.{turn-level-below, turn-level-one}
 use Rattle.format.specs.Bump.{Bump}
 use Rattle.format.specs.Cmp.{Cmp}
-use Rattle.format.specs.BumpLaws.{BumpRead, CmpRead}
+use Rattle.format.proofs.BumpLaws.{BumpRead, CmpRead}
 use Rattle.path.specs.Search.{lookup, leastOffset}
 use Rattle.path.proofs.SearchLaws.{leaf-of-level, start-of-level}
 use Rattle.path.specs.Path.{LAYERS, layersOf, leafAtPlace, leafIn, startAtPlace, startIn, placing, places, bumpPathOf, cmpPathOf, bumpPath, cmpPath}

@@ -12,7 +12,7 @@ use Rattle.path.specs.declared.path.Found.the-variants.{Here, Missing}
 use Rattle.path.specs.declared.path.Start.{Start}
 use Rattle.path.specs.declared.path.Start.the-variants.{At, Nowhere}
 use Rattle.format.specs.Parse.{many, times, got, bad}
-use Rattle.format.specs.ParseLaws.{onward-told, many-told, many-length}
+use Rattle.format.proofs.ParseLaws.{onward-told, many-told, many-length}
 use Rattle.format.specs.Field.{varint}
 use Rattle.path.specs.Search.{lookup, carrying, lesser, leastOffset, seek, leafOfLevel, seekId, startOfLevel}
 use Rattle.path.specs.Loose.{looseLeaf, looseLevel}

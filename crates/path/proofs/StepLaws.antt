@@ -19,7 +19,7 @@ use Rattle.format.specs.Bytes.{same, hashAt}
 use Rattle.format.specs.Field.{bytes, byte, varint}
 use Rattle.format.specs.Level.{kindField}
 use Rattle.path.specs.LeafAnswer.{leafOf, refusalOfLeaf}
-use Rattle.format.specs.LevelLaws.{kind-refused}
+use Rattle.format.proofs.LevelLaws.{kind-refused}
 use Rattle.path.specs.Search.{carries, lesser, seekId}
 use Rattle.path.proofs.SearchLaws.{least-on, lesser-nowhere}
 use Rattle.path.specs.Steps.{leafWith, Tells, refusalAt}

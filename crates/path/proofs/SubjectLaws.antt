@@ -6,12 +6,12 @@ use lib.ListN.{length}
 use native.Mathlib.Omega.{arith}
 use Rattle.format.specs.declared.tsc.Subject.{Subject}
 use Rattle.format.specs.Refusals.{MAX-INPUT}
-use Rattle.format.specs.TransactionLaws.{tx-told}
+use Rattle.format.proofs.TransactionLaws.{tx-told}
 use Rattle.format.specs.Tsc.{Tsc}
-use Rattle.format.specs.TscLaws.{TscRead}
+use Rattle.format.proofs.TscLaws.{TscRead}
 use Rattle.format.specs.Id.{subjectId}
 use Rattle.path.specs.Subject.{subjectHash}
-use Rattle.format.specs.IdLaws.{span-hash}
+use Rattle.format.proofs.IdLaws.{span-hash}
 
 pub subject-hash : (s : List ℕ) {q : ℕ} (t : Tsc) → TscRead s q t → length s ≤ MAX-INPUT → subjectHash s (t .subject) ≡ subjectId s (t .subject)
 unfolding subjectHash subjectId

@@ -8,13 +8,13 @@ use borrow.Author.Tests.{lt-ltb}
 use Rattle.format.specs.declared.level.Kind.{Kind}
 use Rattle.path.specs.declared.path.Found.the-variants.{Here}
 use Rattle.format.specs.Parse.{each, many, times, got, bad}
-use Rattle.format.specs.ParseLaws.{many-told}
+use Rattle.format.proofs.ParseLaws.{many-told}
 use Rattle.format.specs.Padded.{padded}
-use Rattle.format.specs.Gather.{padded-here, each-sames}
+use Rattle.format.proofs.Gather.{padded-here, each-sames}
 use Rattle.format.specs.Node.{nodeField}
 use Rattle.path.specs.Path.{nodeAt, leafAtPlace, leafIn, layersOf}
 use Rattle.format.specs.Tsc.{Tsc}
-use Rattle.format.specs.TscLaws.{TscRead}
+use Rattle.format.proofs.TscLaws.{TscRead}
 use Rattle.path.specs.TscPath.{nodePlaceField, nodePlaces, tscPathOf, tscPath}
 
 -- a loop that kept the places

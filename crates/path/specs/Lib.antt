@@ -1,7 +1,9 @@
-pub mod LeafAnswer
-pub mod Steps
-pub mod Loose
+-- What public contracts cite, in reading order.
 pub mod Search
+pub mod Loose
+pub mod LeafAnswer
 pub mod Path
 pub mod TscPath
 pub mod Subject
+-- How the code holds it: cited by private contracts alone.
+pub mod Steps

@@ -11,7 +11,7 @@ use native.Mathlib.Numerals.{add-one}
 use borrow.Author.Tests.{eqb-true, eqb-false, eq-eqb, ne-eqb}
 use Rattle.hash.specs.Sha256.{sha256d}
 use Rattle.format.specs.Bytes.{same}
-use Rattle.format.specs.BytesLaws.{eq-same, ne-same}
+use Rattle.format.proofs.BytesLaws.{eq-same, ne-same}
 use Rattle.format.specs.declared.level.Leaf.{Leaf}
 use Rattle.path.specs.declared.path.Start.{Start}
 use Rattle.path.specs.declared.path.Start.the-variants.{At, Nowhere}
@@ -23,14 +23,14 @@ use Rattle.path.specs.Search.{leastOffset}
 use Rattle.spv.specs.declared.rejection.Rejection.{Rejection}
 use Rattle.spv.specs.Result.{Result, accepted, refused, carrying, atSibling}
 use Rattle.spv.specs.Climb.{Sibling, value, copied, absent, Siblings, odd, siblingPosition, Step, joins, fails, joined, step, ascend, ascendBy, endOf, endBy}
-use Rattle.spv.specs.ClimbLaws.{joined-odd, sibling-odd, sibling-even, ascended, turn-fails}
+use Rattle.spv.proofs.ClimbLaws.{joined-odd, sibling-odd, sibling-even, ascended, turn-fails}
 use Rattle.spv.specs.Values.{joinBoth, joinOf, valueOf, workedOut}
-use Rattle.spv.specs.ValuesLaws.{join-zero, value-written, value-copied, value-absent}
+use Rattle.spv.proofs.ValuesLaws.{join-zero, value-written, value-copied, value-absent}
 use Rattle.spv.specs.Compare.{any, Proof, hits, settle, prove, proveBy}
-use Rattle.spv.specs.CompareLaws.{prove-stop}
+use Rattle.spv.proofs.CompareLaws.{prove-stop}
 use Rattle.spv.specs.Siblings.{writtenBy, findIn, levelSiblings}
 use Rattle.spv.specs.Readings.{starting, levelsReading, bumpReading, cmpReading}
-use Rattle.spv.specs.ReadingsLaws.{bump-read, cmp-read}
+use Rattle.spv.proofs.ReadingsLaws.{bump-read, cmp-read}
 use Rattle.spv.proofs.Turns.{Climbing, climbing-start, climbing-up}
 use Rattle.spv.proofs.OddCopies.{OddCopies, bump-copies, cmp-copies}
 

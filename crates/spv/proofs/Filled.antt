@@ -10,7 +10,7 @@ use native.Mathlib.Numerals.{add-one}
 use native.Mathlib.Omega.{arith}
 use lib.ListN.{length, set, drop, length-append, length-drop, drop-of-length-le}
 use Rattle.spv.specs.Rows.{rows}
-use Rattle.spv.specs.RowsLaws.{rows-length}
+use Rattle.spv.proofs.RowsLaws.{rows-length}
 
 abbrev pub upTo : {A : Type 0} → (ℕ → A) → List A → ℕ → List A
 upTo f ys i = rows f i ++ drop i ys

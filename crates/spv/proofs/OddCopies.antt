@@ -13,12 +13,12 @@ use Rattle.format.specs.declared.level.Kind.{Kind}
 use Rattle.format.specs.declared.level.Kind.the-variants.{Plain, Copy, Client}
 use Rattle.path.specs.declared.path.Found.the-variants.{Here}
 use Rattle.format.specs.Parse.{Parse, got, pick, given, many, _passing_else_}
-use Rattle.format.specs.ParseLaws.{each-got, onward-told, passing-told, many-told}
+use Rattle.format.proofs.ParseLaws.{each-got, onward-told, passing-told, many-told}
 use Rattle.format.specs.Field.{bytes, byte, varint}
 use Rattle.format.specs.Level.{flagAllowed, flagField, kindField, offsetField, carriedField, leafField, levelField, levelInTurn, nextTurn, andOffset}
 use Rattle.format.specs.Refusals.{BAD-FLAG, OVER-LIMIT, MAX-LEAVES}
 use Rattle.format.specs.Bump.{Bump, bumpWhole}
-use Rattle.format.specs.BumpLaws.{bump-whole-told, cmp-whole-told}
+use Rattle.format.proofs.BumpLaws.{bump-whole-told, cmp-whole-told}
 use Rattle.format.specs.Cmp.{Cmp, cmpWhole}
 use Rattle.path.specs.Search.{lookup}
 use Rattle.spv.specs.Climb.{copied, Siblings}

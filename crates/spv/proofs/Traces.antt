@@ -8,9 +8,9 @@ use Rattle.encoding.specs.Buffer.{Buffer, buffer, writeOn}
 use Rattle.encoding.proofs.BufferLaws.{write-none, write-then}
 use Rattle.encoding.specs.BumpBytes.{carriedBytes}
 use Rattle.spv.specs.Climb.{Siblings, Ascent, joins, fails, step, odd, siblingPosition, ascend, siblingsOf}
-use Rattle.spv.specs.ClimbLaws.{turn-joins, turn-fails, turn-none}
+use Rattle.spv.proofs.ClimbLaws.{turn-joins, turn-fails, turn-none}
 use Rattle.spv.specs.Trace.{asCarried, nodesText}
-use Rattle.spv.specs.TraceLaws.{text-none, text-more}
+use Rattle.spv.proofs.TraceLaws.{text-none, text-more}
 
 -- the text of a climb's siblings
 abbrev pub trail : Ascent → List ℕ

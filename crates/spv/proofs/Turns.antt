@@ -10,11 +10,11 @@ use Rattle.hash.specs.Sha256.{sha256d}
 use Rattle.format.specs.Bytes.{same}
 use Rattle.spv.specs.Result.{atSibling}
 use Rattle.spv.specs.Climb.{Siblings, Step, joins, fails, Ascent, step, odd, siblingPosition, ascend, endBy, endOf, preimagesOf}
-use Rattle.spv.specs.ClimbLaws.{turn-joins, turn-fails, turn-none}
+use Rattle.spv.proofs.ClimbLaws.{turn-joins, turn-fails, turn-none}
 use Rattle.spv.specs.Compare.{at, never, meet}
-use Rattle.spv.specs.CompareLaws.{meet-left, meet-right, meet-here, meet-above}
+use Rattle.spv.proofs.CompareLaws.{meet-left, meet-right, meet-here, meet-above}
 use Rattle.spv.specs.Shapes.{climbedOf, joinedOf, isJoins}
-use Rattle.spv.specs.ShapesLaws.{is-joins, told-joins}
+use Rattle.spv.proofs.ShapesLaws.{is-joins, told-joins}
 use Rattle.spv.specs.declared.climb.Climbed.{Climbed}
 use Rattle.spv.specs.declared.climb.Joined.{Joined}
 use Rattle.spv.specs.declared.climb.End.the-variants.{Root, Stop}

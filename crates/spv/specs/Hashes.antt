@@ -1,5 +1,5 @@
 -- Hashes that stand end to end.
-use Prim.Native.Nat.{ℕ, zero, suc, _/_, _<_}
+use Prim.Native.Nat.{ℕ, zero, suc, _/_, _<_, _-_, _*_}
 use mathlib.Core.Path.{_≡_}
 use mathlib.Core.Bool.{Bool, false, _||_}
 use mathlib.Core.List.{List, [], _∷_}
@@ -32,3 +32,7 @@ indexOf x (y ∷ l) = pick (same y x) 0 (suc (indexOf x l))
 -- no two are equal
 abbrev pub Distinct : List (List ℕ) → Type 0
 Distinct l = (j k : ℕ) → j < k → k < length l → getD l j [] ≡ getD l k [] → ⊥
+
+-- what is left of a search that has passed i of the hashes
+unfoldable pub searching : List ℕ → List ℕ → ℕ → Bool
+searching x l i = among x (hashes (length l / 32 - i) (drop (32 * i) l))

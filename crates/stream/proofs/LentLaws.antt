@@ -8,7 +8,7 @@ use native.Mathlib.Nat.{zero-add}
 use lib.ListN.{length}
 use Rattle.hash.specs.Sha256.{sha256d}
 use Rattle.format.specs.Parse.{Parse, got, bad}
-use Rattle.format.specs.ParseLaws.{each-got}
+use Rattle.format.proofs.ParseLaws.{each-got}
 use Rattle.format.specs.Refusals.{SHORT}
 use Rattle.format.specs.Transaction.{Transaction}
 use Rattle.stream.specs.declared.progress.Progress.{Progress}

@@ -9,10 +9,10 @@ use lib.ListN.{length, getD}
 use lib.Dec.{leb, ltb, eqb}
 use borrow.Author.Tests.{lt-ltb, le-ltb, le-leb, lt-leb, leb-true, leb-false, ltb-true, ltb-false}
 use Rattle.format.specs.Parse.{Parse, Reader, pick, pure, onward, each, many, times, ended, at-start, _passing_else_, got, bad}
-use Rattle.format.specs.ParseLaws.{many-length}
+use Rattle.format.proofs.ParseLaws.{many-length}
 use Rattle.format.specs.Field.{bytes, number, varint, le2, le4, le8}
-use Rattle.format.specs.FieldLaws.{varint-none, varint-announced, bytes-here}
-use Rattle.format.specs.Span.{bytes-told}
+use Rattle.format.proofs.FieldLaws.{varint-none, varint-announced, bytes-here}
+use Rattle.format.proofs.Span.{bytes-told}
 use Rattle.format.specs.declared.tx.Input.{Input}
 use Rattle.format.specs.Transaction.{Listed, Transaction, scriptField, inputField, takes, outputField, outputsField, someField, listField, fieldsBy, txFieldBy, txField}
 use Rattle.format.specs.Refusals.{SHORT, LONG-VARINT, EXTRA, BAD-TX}

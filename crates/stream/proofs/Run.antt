@@ -13,8 +13,8 @@ use borrow.Author.Tests.{le-leb, leb-true, leb-false, ltb-false}
 use Rattle.hash.specs.Sha256.{sha256d}
 use Rattle.format.specs.Parse.{Parse, pick, each, ended, got, bad}
 use Rattle.format.specs.Transaction.{Transaction, txField}
-use Rattle.format.specs.ParseLaws.{onward-told}
-use Rattle.format.specs.TransactionLaws.{tx-told}
+use Rattle.format.proofs.ParseLaws.{onward-told}
+use Rattle.format.proofs.TransactionLaws.{tx-told}
 use Rattle.format.specs.Id.{txid}
 use Rattle.format.specs.Refusals.{TOO-LONG, SHORT, EXTRA}
 use Rattle.stream.specs.declared.progress.Stage.{Stage}

@@ -1,7 +1,7 @@
 use borrow.Author.Needs.{needs}
 use mathlib.Core.Path.{_∙_}
-use Rattle.barrowtide.specs.InterfaceLaws.{refused-number, refused-blame, refused-taken, given-number, given-blame, given-taken}
-use Rattle.barrowtide.specs.AnswersLaws.{hashed-given, hashed-refused}
+use Rattle.barrowtide.proofs.InterfaceLaws.{refused-number, refused-blame, refused-taken, given-number, given-blame, given-taken}
+use Rattle.barrowtide.proofs.AnswersLaws.{hashed-given, hashed-refused}
 use Rattle.barrowtide.proofs.barrowtide_sha256d.Statement.{statement}
 use Rattle.barrowtide.proofs.barrowtide_sha256d.Tie as tie
 

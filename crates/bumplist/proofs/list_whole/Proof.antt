@@ -1,5 +1,5 @@
 use native.Mathlib.Omega.{arith}
-use Rattle.listing.specs.Room.{listing-written}
+use Rattle.listing.proofs.Room.{listing-written}
 use borrow.Author.Needs.{needs}
 use Rattle.bumplist.proofs.list_whole.Statement.{statement}
 use Rattle.bumplist.proofs.list_whole.Tie as tie

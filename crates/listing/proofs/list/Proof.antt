@@ -1,5 +1,5 @@
 use borrow.Author.Needs.{needs}
-use Rattle.listing.specs.ListingLaws.{listing-long, listing-whole, wrote-whole}
+use Rattle.listing.proofs.ListingLaws.{listing-long, listing-whole, wrote-whole}
 use Rattle.listing.proofs.list.Statement.{statement}
 use Rattle.listing.proofs.list.Tie as tie
 

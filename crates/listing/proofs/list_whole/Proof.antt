@@ -1,6 +1,6 @@
-use Rattle.format.specs.ParseLaws.{answered}
+use Rattle.format.proofs.ParseLaws.{answered}
 use Rattle.format.specs.Bump.{bumpAnswer}
-use Rattle.listing.specs.ListingLaws.{report-refused, report-read}
+use Rattle.listing.proofs.ListingLaws.{report-refused, report-read}
 use borrow.Author.Needs.{needs}
 use Rattle.listing.proofs.list_whole.Statement.{statement}
 use Rattle.listing.proofs.list_whole.Tie as tie

@@ -1,5 +1,5 @@
 use native.Mathlib.Omega.{arith}
-use Rattle.page.specs.FlatLaws.{not-both, opening-few, opening-levelled, flat-page}
+use Rattle.page.proofs.FlatLaws.{not-both, opening-few, opening-levelled, flat-page}
 use borrow.Author.Needs.{needs}
 use Rattle.page.proofs.answer_flat.Statement.{statement}
 use Rattle.page.proofs.answer_flat.Tie as tie

@@ -17,7 +17,7 @@ use Rattle.climbs.specs.Proofs.{hasRoom, fits, startsOf, statesOf, rootsOf, pro
 use Rattle.climbs.proofs.ProofsLaws.{rows-proved}
 use Rattle.page.specs.Page.{MAX-PAGE}
 use Rattle.page.specs.Flat.{ROOTS-ROOM, Copied, Levelled}
-use Rattle.page.specs.FlatLaws.{all-proved}
+use Rattle.page.proofs.FlatLaws.{all-proved}
 use Rattle.page.proofs.answer_ids.Statement.{statement}
 use Rattle.page.proofs.answer_ids.Tie as tie
 

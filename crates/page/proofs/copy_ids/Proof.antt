@@ -3,9 +3,9 @@ use mathlib.Core.Path.{_≡_, refl, _∙_}
 use native.Mathlib.Omega.{arith}
 use lib.ListN.{length}
 use borrow.Author.Needs.{needs}
-use Rattle.format.specs.BytesLaws.{hash-at-length}
+use Rattle.format.proofs.BytesLaws.{hash-at-length}
 use Rattle.page.specs.Flat.{Copied}
-use Rattle.page.specs.FlatLaws.{copied-none, copied-on, copied-all}
+use Rattle.page.proofs.FlatLaws.{copied-none, copied-on, copied-all}
 use Rattle.page.proofs.copy_ids.Statement.{statement}
 use Rattle.page.proofs.copy_ids.Tie as tie
 

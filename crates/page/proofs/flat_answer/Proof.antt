@@ -1,5 +1,5 @@
 use mathlib.Core.Path.{sym, _∙_}
-use Rattle.page.specs.FlatLaws.{flat-past, flat-over, flat-short, flat-here, flat-row}
+use Rattle.page.proofs.FlatLaws.{flat-past, flat-over, flat-short, flat-here, flat-row}
 use borrow.Author.Needs.{needs}
 use Rattle.page.proofs.flat_answer.Statement.{statement}
 use Rattle.page.proofs.flat_answer.Tie as tie

@@ -3,7 +3,7 @@ use mathlib.Core.Path.{_≡_, refl, sym, subst, _∙_}
 use native.Mathlib.Omega.{arith}
 use lib.ListN.{length, getD, length-set}
 use Rattle.page.specs.Flat.{NUMBERS-ROOM, Noted}
-use Rattle.page.specs.FlatLaws.{noted-none, noted-on, noted-end}
+use Rattle.page.proofs.FlatLaws.{noted-none, noted-on, noted-end}
 use borrow.Author.Needs.{needs}
 use Rattle.page.proofs.note_rows.Statement.{statement}
 use Rattle.page.proofs.note_rows.Tie as tie

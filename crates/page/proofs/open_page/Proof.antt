@@ -2,7 +2,7 @@ use mathlib.Core.Path.{sym, ap, _∙_}
 use Prim.Native.Nat.{_/_}
 use lib.ListN.{length}
 use Rattle.page.specs.Opening.{unopened, openingOf}
-use Rattle.page.specs.PageLaws.{page-part, page-over, page-short, page-asked}
+use Rattle.page.proofs.PageLaws.{page-part, page-over, page-short, page-asked}
 use borrow.Author.Needs.{needs}
 use Rattle.page.proofs.open_page.Statement.{statement}
 use Rattle.page.proofs.open_page.Tie as tie

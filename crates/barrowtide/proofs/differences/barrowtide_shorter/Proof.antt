@@ -1,6 +1,6 @@
-use Rattle.barrowtide.specs.ChoicesLaws.{handed-some, handed-none}
+use Rattle.barrowtide.proofs.ChoicesLaws.{handed-some, handed-none}
 use Rattle.difference.specs.Shorter.{Part}
-use Rattle.difference.specs.ShorterLaws.{weighs}
+use Rattle.difference.proofs.ShorterLaws.{weighs}
 use lib.ListN.{length}
 use mathlib.Core.Path.{ap}
 use borrow.Author.Needs.{needs}

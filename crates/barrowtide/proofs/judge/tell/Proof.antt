@@ -1,7 +1,7 @@
 use lib.ListN.{length}
 use mathlib.Core.Path.{refl, sym, _∙_}
-use Rattle.barrowtide.specs.InterfaceLaws.{refused-number, refused-blame, refused-taken, given-number, given-blame, given-taken}
-use Rattle.barrowtide.specs.AnswersLaws.{verdict-refused, verdict-accepted}
+use Rattle.barrowtide.proofs.InterfaceLaws.{refused-number, refused-blame, refused-taken, given-number, given-blame, given-taken}
+use Rattle.barrowtide.proofs.AnswersLaws.{verdict-refused, verdict-accepted}
 use borrow.Author.Needs.{needs}
 use Rattle.barrowtide.proofs.judge.tell.Statement.{statement}
 use Rattle.barrowtide.proofs.judge.tell.Tie as tie

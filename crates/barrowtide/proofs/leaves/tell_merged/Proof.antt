@@ -1,6 +1,6 @@
 use Rattle.barrowtide.specs.Leaves.{bytesOf, leavesOf}
 use Rattle.barrowtide.proofs.LeavesLaws.{merged-refused, merged-accepted}
-use Rattle.barrowtide.specs.InterfaceLaws.{refused-number, refused-blame, refused-taken, given-number, given-blame, given-taken}
+use Rattle.barrowtide.proofs.InterfaceLaws.{refused-number, refused-blame, refused-taken, given-number, given-blame, given-taken}
 use mathlib.Core.Path.{sym, _∙_}
 use borrow.Author.Needs.{needs}
 use Rattle.barrowtide.proofs.leaves.tell_merged.Statement.{statement}

@@ -1,6 +1,6 @@
 use mathlib.Core.Path.{sym, _∙_}
-use Rattle.barrowtide.specs.InterfaceLaws.{refused-number, refused-blame, given-number, given-blame}
-use Rattle.barrowtide.specs.AnswersLaws.{paged-refused, paged-accepted}
+use Rattle.barrowtide.proofs.InterfaceLaws.{refused-number, refused-blame, given-number, given-blame}
+use Rattle.barrowtide.proofs.AnswersLaws.{paged-refused, paged-accepted}
 use borrow.Author.Needs.{needs}
 use Rattle.barrowtide.proofs.pages.tell.Statement.{statement}
 use Rattle.barrowtide.proofs.pages.tell.Tie as tie

@@ -1,7 +1,7 @@
 use borrow.Author.Needs.{needs}
 use mathlib.Core.Path.{_∙_}
-use Rattle.barrowtide.specs.InterfaceLaws.{refused-number, refused-blame, refused-taken, given-number, given-blame, given-taken}
-use Rattle.barrowtide.specs.AnswersLaws.{checked-agreed, checked-refused}
+use Rattle.barrowtide.proofs.InterfaceLaws.{refused-number, refused-blame, refused-taken, given-number, given-blame, given-taken}
+use Rattle.barrowtide.proofs.AnswersLaws.{checked-agreed, checked-refused}
 use Rattle.barrowtide.proofs.prove.barrowtide_check_clients.Statement.{statement}
 use Rattle.barrowtide.proofs.prove.barrowtide_check_clients.Tie as tie
 use Rattle.barrowtide.proofs.prove.barrowtide_check_clients.Reads as reads

@@ -1,7 +1,7 @@
 use borrow.Author.Needs.{needs}
 use mathlib.Core.Path.{sym, _∙_}
-use Rattle.barrowtide.specs.InterfaceLaws.{refused-number, refused-blame, refused-taken, given-number, given-blame, given-taken}
-use Rattle.barrowtide.specs.AnswersLaws.{compared-pair, compared-refused}
+use Rattle.barrowtide.proofs.InterfaceLaws.{refused-number, refused-blame, refused-taken, given-number, given-blame, given-taken}
+use Rattle.barrowtide.proofs.AnswersLaws.{compared-pair, compared-refused}
 use Rattle.barrowtide.proofs.prove.barrowtide_compare.Statement.{statement}
 use Rattle.barrowtide.proofs.prove.barrowtide_compare.Tie as tie
 use Rattle.barrowtide.proofs.prove.barrowtide_compare.Reads as reads

@@ -1,7 +1,7 @@
 use borrow.Author.Needs.{needs}
 use mathlib.Core.Path.{_∙_}
 use Rattle.spv.specs.Depth.{secondOf}
-use Rattle.barrowtide.specs.InterfaceLaws.{refused-number, refused-blame, refused-taken, given-number, given-blame, given-taken}
+use Rattle.barrowtide.proofs.InterfaceLaws.{refused-number, refused-blame, refused-taken, given-number, given-blame, given-taken}
 use Rattle.barrowtide.specs.Depths.{isTransaction}
 use Rattle.barrowtide.proofs.DepthsLaws.{depth-refused, depth-transaction, depth-strings, first-refused, first-transaction, first-strings}
 use Rattle.barrowtide.proofs.prove.barrowtide_compare_depths.Statement.{statement}

@@ -1,4 +1,4 @@
-use Rattle.barrowtide.specs.FormsLaws.{form-bump, form-cmp, form-tsc}
+use Rattle.barrowtide.proofs.FormsLaws.{form-bump, form-cmp, form-tsc}
 use Rattle.barrowtide.proofs.prove.form_of.Statement.{statement}
 use Rattle.barrowtide.proofs.prove.form_of.Tie as tie
 use Rattle.barrowtide.proofs.prove.form_of.Reads as reads

@@ -1,8 +1,8 @@
 use borrow.Author.Needs.{needs}
 use mathlib.Core.Path.{sym, _∙_}
-use Rattle.spv.specs.ShapesLaws.{told-accepted}
-use Rattle.barrowtide.specs.InterfaceLaws.{refused-number, refused-blame, refused-taken, given-number, given-blame, given-taken}
-use Rattle.spv.specs.ShapesLaws.{told-unproved}
+use Rattle.spv.proofs.ShapesLaws.{told-accepted}
+use Rattle.barrowtide.proofs.InterfaceLaws.{refused-number, refused-blame, refused-taken, given-number, given-blame, given-taken}
+use Rattle.spv.proofs.ShapesLaws.{told-unproved}
 use Rattle.barrowtide.proofs.prove.give.Statement.{statement}
 use Rattle.barrowtide.proofs.prove.give.Tie as tie
 

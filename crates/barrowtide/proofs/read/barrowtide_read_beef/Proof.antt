@@ -1,7 +1,7 @@
 use borrow.Author.Needs.{needs}
-use Rattle.format.specs.ParseLaws.{answered, each-got, each-bad}
+use Rattle.format.proofs.ParseLaws.{answered, each-got, each-bad}
 use Rattle.format.specs.BeefAnswer.{beefAnswer, beefHeadOf}
-use Rattle.barrowtide.specs.InterfaceLaws.{refused-number, refused-blame, refused-taken, given-number, given-blame, given-view, reading-bad, reading-got}
+use Rattle.barrowtide.proofs.InterfaceLaws.{refused-number, refused-blame, refused-taken, given-number, given-blame, given-view, reading-bad, reading-got}
 use Rattle.barrowtide.proofs.read.barrowtide_read_beef.Statement.{statement}
 use Rattle.barrowtide.proofs.read.barrowtide_read_beef.Tie as tie
 use Rattle.barrowtide.proofs.read.barrowtide_read_beef.Reads as reads

@@ -1,7 +1,7 @@
 use borrow.Author.Needs.{needs}
-use Rattle.format.specs.ParseLaws.{answered, each-got, each-bad}
+use Rattle.format.proofs.ParseLaws.{answered, each-got, each-bad}
 use Rattle.format.specs.Cmp.{cmpAnswer, cmpHeadOf}
-use Rattle.barrowtide.specs.InterfaceLaws.{refused-number, refused-blame, refused-taken, given-number, given-blame, given-view, reading-bad, reading-got}
+use Rattle.barrowtide.proofs.InterfaceLaws.{refused-number, refused-blame, refused-taken, given-number, given-blame, given-view, reading-bad, reading-got}
 use Rattle.barrowtide.proofs.read.barrowtide_read_cmp.Statement.{statement}
 use Rattle.barrowtide.proofs.read.barrowtide_read_cmp.Tie as tie
 use Rattle.barrowtide.proofs.read.barrowtide_read_cmp.Reads as reads

@@ -1,12 +1,12 @@
 use borrow.Author.Needs.{needs}
-use Rattle.format.specs.ParseLaws.{answered, each-got, each-bad}
+use Rattle.format.proofs.ParseLaws.{answered, each-got, each-bad}
 use Rattle.format.specs.TransactionAnswer.{txAnswer}
 use Rattle.format.specs.Transaction.{txField, txHeadOf}
-use Rattle.format.specs.Whole.{whole-size}
-use Rattle.hash.specs.Sha256Laws.{hashed-accepted}
+use Rattle.format.proofs.Whole.{whole-size}
+use Rattle.hash.proofs.Sha256Laws.{hashed-accepted}
 use Rattle.hash.specs.declared.Hashed.{Hashed}
 use mathlib.Core.Path.{ap, _∙_}
-use Rattle.barrowtide.specs.InterfaceLaws.{refused-number, refused-blame, refused-taken, given-number, given-blame, given-taken, given-view, reading-bad, reading-got}
+use Rattle.barrowtide.proofs.InterfaceLaws.{refused-number, refused-blame, refused-taken, given-number, given-blame, given-taken, given-view, reading-bad, reading-got}
 use Rattle.barrowtide.proofs.read.barrowtide_read_transaction.Statement.{statement}
 use Rattle.barrowtide.proofs.read.barrowtide_read_transaction.Tie as tie
 use Rattle.barrowtide.proofs.read.barrowtide_read_transaction.Reads as reads

@@ -1,8 +1,8 @@
 use borrow.Author.Needs.{needs}
-use Rattle.format.specs.ParseLaws.{answered, each-got, each-bad}
+use Rattle.format.proofs.ParseLaws.{answered, each-got, each-bad}
 use Rattle.format.specs.TscAnswer.{tscAnswer}
 use Rattle.format.specs.Tsc.{tscHeadOf}
-use Rattle.barrowtide.specs.InterfaceLaws.{refused-number, refused-blame, refused-taken, given-number, given-blame, given-view, reading-bad, reading-got}
+use Rattle.barrowtide.proofs.InterfaceLaws.{refused-number, refused-blame, refused-taken, given-number, given-blame, given-view, reading-bad, reading-got}
 use Rattle.barrowtide.proofs.read.barrowtide_read_tsc.Statement.{statement}
 use Rattle.barrowtide.proofs.read.barrowtide_read_tsc.Tie as tie
 use Rattle.barrowtide.proofs.read.barrowtide_read_tsc.Reads as reads

@@ -1,7 +1,7 @@
 use borrow.Author.Needs.{needs}
 use Rattle.format.specs.FieldAnswer.{numberOf}
-use Rattle.format.specs.ParseLaws.{answered}
-use Rattle.barrowtide.specs.InterfaceLaws.{first-got, first-bad, first-too-long, refused-number, refused-blame, refused-taken, given-number, given-blame, given-taken}
+use Rattle.format.proofs.ParseLaws.{answered}
+use Rattle.barrowtide.proofs.InterfaceLaws.{first-got, first-bad, first-too-long, refused-number, refused-blame, refused-taken, given-number, given-blame, given-taken}
 use Rattle.barrowtide.proofs.read.barrowtide_read_varint.Statement.{statement}
 use Rattle.barrowtide.proofs.read.barrowtide_read_varint.Tie as tie
 use Rattle.barrowtide.proofs.read.barrowtide_read_varint.Reads as reads

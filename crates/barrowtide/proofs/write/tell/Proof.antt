@@ -1,7 +1,7 @@
 use lib.ListN.{length}
 use mathlib.Core.Path.{sym, _∙_}
-use Rattle.barrowtide.specs.InterfaceLaws.{refused-number, refused-blame, refused-taken, given-number, given-blame, given-taken}
-use Rattle.barrowtide.specs.AnswersLaws.{written-refused, written-accepted}
+use Rattle.barrowtide.proofs.InterfaceLaws.{refused-number, refused-blame, refused-taken, given-number, given-blame, given-taken}
+use Rattle.barrowtide.proofs.AnswersLaws.{written-refused, written-accepted}
 use borrow.Author.Needs.{needs}
 use Rattle.barrowtide.proofs.write.tell.Statement.{statement}
 use Rattle.barrowtide.proofs.write.tell.Tie as tie

@@ -2,10 +2,11 @@ use borrow.Author.Needs.{needs}
 use mathlib.Core.Path.{_≡_, refl, sym, _∙_}
 use Prim.Native.Nat.{_-_, _/_}
 use lib.ListN.{length}
-use Rattle.spv.specs.HashesLaws.{searching, search-end}
+use Rattle.spv.proofs.HashesLaws.{search-end}
 use Rattle.block.proofs.IdsLaws.{found-here, not-here}
 use Rattle.block.proofs.ids.among_from.Statement.{statement}
 use Rattle.block.proofs.ids.among_from.Tie as tie
+use Rattle.spv.specs.Hashes.{searching}
 
 abbrev Inv-loop : tie.InvT-loop
 Inv-loop ids id from n i₀ i = searching id ids i ≡ searching id ids «from»

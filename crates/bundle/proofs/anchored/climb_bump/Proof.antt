@@ -1,6 +1,6 @@
 use borrow.Author.Needs.{needs}
 use borrow.Author.Tests.{not-true}
-use Rattle.bundle.specs.AnchoredLaws.{risen-none}
+use Rattle.bundle.proofs.AnchoredLaws.{risen-none}
 use Rattle.bundle.proofs.anchored.climb_bump.Statement.{statement}
 use Rattle.bundle.proofs.anchored.climb_bump.Tie as tie
 

@@ -5,7 +5,7 @@ use native.Mathlib.Omega.{arith}
 use lib.ListN.{length, getD}
 use Rattle.format.specs.Refusals.{MAX-BUMPS}
 use Rattle.bundle.specs.Anchored.{Right}
-use Rattle.bundle.specs.AnchoredLaws.{risen-on}
+use Rattle.bundle.proofs.AnchoredLaws.{risen-on}
 use Rattle.bundle.proofs.anchored.climb_bumps.Statement.{statement}
 use Rattle.bundle.proofs.anchored.climb_bumps.Tie as tie
 

@@ -2,7 +2,7 @@ use mathlib.Core.Path.{sym}
 use borrow.Author.Needs.{needs}
 use native.Mathlib.Omega.{arith}
 use lib.Seq.{length-take-le}
-use Rattle.bundle.specs.AnchoredLaws.{risen-settled}
+use Rattle.bundle.proofs.AnchoredLaws.{risen-settled}
 use Rattle.bundle.proofs.anchored.climb_named.Statement.{statement}
 use Rattle.bundle.proofs.anchored.climb_named.Tie as tie
 

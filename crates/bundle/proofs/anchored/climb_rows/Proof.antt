@@ -1,6 +1,6 @@
 use borrow.Author.Needs.{needs}
 use native.Mathlib.Omega.{arith}
-use Rattle.bundle.specs.AnchoredLaws.{rows-settled}
+use Rattle.bundle.proofs.AnchoredLaws.{rows-settled}
 use Rattle.bundle.proofs.anchored.climb_rows.Statement.{statement}
 use Rattle.bundle.proofs.anchored.climb_rows.Tie as tie
 

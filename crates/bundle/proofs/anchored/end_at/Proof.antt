@@ -1,5 +1,5 @@
 use borrow.Author.Needs.{needs}
-use Rattle.bundle.specs.AnchoredLaws.{at-passes, at-refuses}
+use Rattle.bundle.proofs.AnchoredLaws.{at-passes, at-refuses}
 use Rattle.bundle.proofs.anchored.end_at.Statement.{statement}
 use Rattle.bundle.proofs.anchored.end_at.Tie as tie
 

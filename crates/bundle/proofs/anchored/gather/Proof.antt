@@ -3,9 +3,9 @@ use mathlib.Core.Path.{_≡_, refl, ap, _∙_}
 use native.Mathlib.Omega.{arith}
 use borrow.Author.Needs.{needs}
 use lib.ListN.{length, length-set}
-use Rattle.format.specs.BytesLaws.{hash-at-length}
+use Rattle.format.proofs.BytesLaws.{hash-at-length}
 use Rattle.bundle.specs.Anchored.{Gathered}
-use Rattle.bundle.specs.AnchoredLaws.{gathered-none, gathered-past, gathered-one}
+use Rattle.bundle.proofs.AnchoredLaws.{gathered-none, gathered-past, gathered-one}
 use Rattle.bundle.proofs.anchored.gather.Statement.{statement}
 use Rattle.bundle.proofs.anchored.gather.Tie as tie
 

@@ -1,6 +1,6 @@
 use borrow.Author.Needs.{needs}
 use mathlib.Core.Path.{_∙_}
-use Rattle.bundle.specs.AnchoredLaws.{put-refuses, put-passes}
+use Rattle.bundle.proofs.AnchoredLaws.{put-refuses, put-passes}
 use Rattle.bundle.proofs.anchored.put_end.Statement.{statement}
 use Rattle.bundle.proofs.anchored.put_end.Tie as tie
 

@@ -4,7 +4,7 @@ use native.Mathlib.Omega.{arith}
 use borrow.Author.Needs.{needs}
 use lib.ListN.{length}
 use Rattle.bundle.specs.Anchored.{SettlesRows}
-use Rattle.bundle.specs.AnchoredLaws.{rows-none, rows-more}
+use Rattle.bundle.proofs.AnchoredLaws.{rows-none, rows-more}
 use Rattle.bundle.proofs.anchored.settle_rows.Statement.{statement}
 use Rattle.bundle.proofs.anchored.settle_rows.Tie as tie
 

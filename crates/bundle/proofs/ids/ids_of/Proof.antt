@@ -1,5 +1,5 @@
 use borrow.Author.Needs.{needs}
-use Rattle.bundle.specs.AheadLaws.{ids-made}
+use Rattle.bundle.proofs.AheadLaws.{ids-made}
 use Rattle.bundle.proofs.ids.ids_of.Statement.{statement}
 use Rattle.bundle.proofs.ids.ids_of.Tie as tie
 

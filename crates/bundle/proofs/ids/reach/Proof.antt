@@ -1,8 +1,8 @@
 use borrow.Author.Needs.{needs}
-use Rattle.format.specs.ParseLaws.{answered}
+use Rattle.format.proofs.ParseLaws.{answered}
 use Rattle.format.specs.BeefAnswer.{entryAnswer}
 use Rattle.bundle.specs.Ahead.{spanOf}
-use Rattle.bundle.specs.AheadLaws.{reached-bad, reached-got}
+use Rattle.bundle.proofs.AheadLaws.{reached-bad, reached-got}
 use Rattle.bundle.proofs.ids.reach.Statement.{statement}
 use Rattle.bundle.proofs.ids.reach.Tie as tie
 

@@ -1,5 +1,5 @@
 use borrow.Author.Needs.{needs}
-use Rattle.bundle.specs.AheadLaws.{reached-none, reached-more}
+use Rattle.bundle.proofs.AheadLaws.{reached-none, reached-more}
 use Rattle.bundle.proofs.ids.span_at.Statement.{statement}
 use Rattle.bundle.proofs.ids.span_at.Tie as tie
 

@@ -1,7 +1,7 @@
 use borrow.Author.Needs.{needs}
 use mathlib.Core.Path.{sym, _∙_}
 use native.Mathlib.Omega.{arith}
-use Rattle.bundle.specs.WorkMadeLaws.{id-low, span-before, span-past, span-counted}
+use Rattle.bundle.proofs.WorkMadeLaws.{id-low, span-before, span-past, span-counted}
 use Rattle.bundle.proofs.ids.span_work.Statement.{statement}
 use Rattle.bundle.proofs.ids.span_work.Tie as tie
 

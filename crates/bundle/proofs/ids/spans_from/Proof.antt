@@ -1,7 +1,7 @@
 use borrow.Author.Needs.{needs}
 use Prim.Native.Nat.{suc}
 use mathlib.Core.Path.{_∙_}
-use Rattle.bundle.specs.AheadLaws.{spans-made}
+use Rattle.bundle.proofs.AheadLaws.{spans-made}
 use Rattle.bundle.proofs.ids.spans_from.Statement.{statement}
 use Rattle.bundle.proofs.ids.spans_from.Tie as tie
 

@@ -1,7 +1,7 @@
 use borrow.Author.Needs.{needs}
 use mathlib.Core.Path.{sym, _∙_}
 use native.Mathlib.Omega.{arith}
-use Rattle.bundle.specs.WorkMadeLaws.{below-past, below-counted}
+use Rattle.bundle.proofs.WorkMadeLaws.{below-past, below-counted}
 use Rattle.bundle.proofs.ids.work_below.Statement.{statement}
 use Rattle.bundle.proofs.ids.work_below.Tie as tie
 

@@ -5,9 +5,9 @@ use borrow.Author.Needs.{needs}
 use lib.ListN.{length}
 use Rattle.bundle.specs.Windows.{sumTo}
 use Rattle.bundle.specs.Ahead.{spanAt, Onward, IdsFrom, AnchorsFrom}
-use Rattle.bundle.specs.AheadLaws.{onward-start, onward-four, ids-none, ids-four, ids-enough, anchors-none, anchors-four, anchors-enough}
+use Rattle.bundle.proofs.AheadLaws.{onward-start, onward-four, ids-none, ids-four, ids-enough, anchors-none, anchors-four, anchors-enough}
 use Rattle.bundle.specs.WorkMade.{workBelow}
-use Rattle.bundle.specs.WorkMadeLaws.{made-four, made-all}
+use Rattle.bundle.proofs.WorkMadeLaws.{made-four, made-all}
 use Rattle.bundle.proofs.ids.write_ids.Statement.{statement}
 use Rattle.bundle.proofs.ids.write_ids.Tie as tie
 

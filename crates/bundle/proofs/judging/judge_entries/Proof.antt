@@ -8,17 +8,17 @@ use borrow.Author.Needs.{needs}
 use lib.ListN.{length}
 use lib.Seq.{length-take-le}
 use Rattle.format.specs.declared.bump.BumpHead.{BumpHead}
-use Rattle.format.specs.ParseLaws.{answered}
+use Rattle.format.proofs.ParseLaws.{answered}
 use Rattle.format.specs.BeefAnswer.{entryAnswer}
 use Rattle.spv.specs.declared.rejection.Rejection.{Rejection}
 use Rattle.bundle.specs.Ahead.{Onward}
-use Rattle.bundle.specs.AheadLaws.{onward-start, onward-one, id-here}
+use Rattle.bundle.proofs.AheadLaws.{onward-start, onward-one, id-here}
 use Rattle.bundle.specs.Anchored.{EndsFrom}
-use Rattle.bundle.specs.AnchoredLaws.{mined-here}
-use Rattle.bundle.specs.BundleHeadLaws.{head-told}
+use Rattle.bundle.proofs.AnchoredLaws.{mined-here}
+use Rattle.bundle.proofs.BundleHeadLaws.{head-told}
 use Rattle.bundle.specs.declared.judging.Verdict.the-variants.{Refused}
 use Rattle.bundle.specs.BundleAnswer.{judgementOf}
-use Rattle.bundle.specs.BundleTurns.{Judging, judging-start, judging-reads, judging-refused, judging-passes, judging-end, numbers-with, written-again}
+use Rattle.bundle.proofs.BundleTurns.{Judging, judging-start, judging-reads, judging-refused, judging-passes, judging-end, numbers-with, written-again}
 use Rattle.bundle.proofs.judging.judge_entries.Statement.{statement}
 use Rattle.bundle.proofs.judging.judge_entries.Tie as tie
 

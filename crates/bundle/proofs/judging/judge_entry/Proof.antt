@@ -1,6 +1,6 @@
 use mathlib.Core.Path.{ap, sym, _∙_}
 use borrow.Author.Tests.{not-true, not-false}
-use Rattle.bundle.specs.BundleHeadLaws.{stands-again, stands-mined, stands-nowhere, stands-child, stands-orphan}
+use Rattle.bundle.proofs.BundleHeadLaws.{stands-again, stands-mined, stands-nowhere, stands-child, stands-orphan}
 use Rattle.bundle.specs.declared.judging.Standing.the-variants.{Refuses}
 use Rattle.bundle.specs.Anchored.{minedBy}
 use borrow.Author.Needs.{needs}

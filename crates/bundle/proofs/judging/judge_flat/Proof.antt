@@ -1,13 +1,13 @@
 use mathlib.Core.Path.{_∙_}
 use native.Mathlib.Omega.{arith}
 use borrow.Author.Needs.{needs}
-use Rattle.format.specs.ParseLaws.{answered}
+use Rattle.format.proofs.ParseLaws.{answered}
 use Rattle.format.specs.BeefAnswer.{beefAnswer}
-use Rattle.bundle.specs.AnchoredLaws.{ends-from, joins-from}
+use Rattle.bundle.proofs.AnchoredLaws.{ends-from, joins-from}
 use Rattle.bundle.specs.BundleAnswer.{judgementOf}
-use Rattle.bundle.specs.BundleRead.{judge-long, judge-roots, judge-refused, judge-read, read-few, read-low, read-every, answers-at}
-use Rattle.bundle.specs.WorkMadeLaws.{made-low}
-use Rattle.bundle.specs.WorkRead.{work-long, work-roots, work-refused, work-read}
+use Rattle.bundle.proofs.BundleRead.{judge-long, judge-roots, judge-refused, judge-read, read-few, read-low, read-every, answers-at}
+use Rattle.bundle.proofs.WorkMadeLaws.{made-low}
+use Rattle.bundle.proofs.WorkRead.{work-long, work-roots, work-refused, work-read}
 use Rattle.bundle.proofs.judging.judge_flat.Statement.{statement}
 use Rattle.bundle.proofs.judging.judge_flat.Tie as tie
 

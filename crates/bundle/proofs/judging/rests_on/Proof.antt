@@ -3,12 +3,12 @@ use mathlib.Core.Path.{_≡_, sym, _∙_}
 use native.Mathlib.Omega.{arith}
 use native.Mathlib.Nat.{sub-zero}
 use borrow.Author.Needs.{needs}
-use Rattle.format.specs.ParseLaws.{answered}
+use Rattle.format.proofs.ParseLaws.{answered}
 use Rattle.format.specs.TransactionAnswer.{inputAnswer}
 use Rattle.spv.specs.Hashes.{hashesOf}
-use Rattle.bundle.specs.FlatLaws.{finds-some, finds-none}
+use Rattle.bundle.proofs.FlatLaws.{finds-some, finds-none}
 use Rattle.bundle.specs.BundleHeads.{restsFrom}
-use Rattle.bundle.specs.BundleHeadLaws.{parents-refused, parents-missing, parents-on, parents-end}
+use Rattle.bundle.proofs.BundleHeadLaws.{parents-refused, parents-missing, parents-on, parents-end}
 use Rattle.bundle.proofs.judging.rests_on.Statement.{statement}
 use Rattle.bundle.proofs.judging.rests_on.Tie as tie
 

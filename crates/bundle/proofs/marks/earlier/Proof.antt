@@ -1,4 +1,4 @@
-use Rattle.bundle.specs.FlatLaws.{lesser-not, lesser-first, lesser-k}
+use Rattle.bundle.proofs.FlatLaws.{lesser-not, lesser-first, lesser-k}
 use Rattle.bundle.proofs.marks.earlier.Statement.{statement}
 use Rattle.bundle.proofs.marks.earlier.Tie as tie
 

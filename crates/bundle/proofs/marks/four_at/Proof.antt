@@ -1,7 +1,7 @@
 use borrow.Author.Needs.{needs}
 use Rattle.format.specs.FieldAnswer.{numberOf}
-use Rattle.format.specs.ParseLaws.{answered}
-use Rattle.bundle.specs.FlatLaws.{four-none, four-some}
+use Rattle.format.proofs.ParseLaws.{answered}
+use Rattle.bundle.proofs.FlatLaws.{four-none, four-some}
 use Rattle.bundle.proofs.marks.four_at.Statement.{statement}
 use Rattle.bundle.proofs.marks.four_at.Tie as tie
 

@@ -1,5 +1,5 @@
 use borrow.Author.Needs.{needs}
-use Rattle.bundle.specs.FlatLaws.{inputs-anchored, inputs-free}
+use Rattle.bundle.proofs.FlatLaws.{inputs-anchored, inputs-free}
 use Rattle.bundle.proofs.marks.inputs_of.Statement.{statement}
 use Rattle.bundle.proofs.marks.inputs_of.Tie as tie
 

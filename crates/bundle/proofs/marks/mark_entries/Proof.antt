@@ -4,7 +4,7 @@ use native.Mathlib.Omega.{arith}
 use borrow.Author.Needs.{needs}
 use lib.ListN.{length}
 use Rattle.spv.specs.Hashes.{hashesOf, Distinct}
-use Rattle.bundle.specs.FlatLaws.{Passing, passing-start, passing-end, passing-on}
+use Rattle.bundle.proofs.FlatLaws.{Passing, passing-start, passing-end, passing-on}
 use Rattle.bundle.proofs.marks.mark_entries.Statement.{statement}
 use Rattle.bundle.proofs.marks.mark_entries.Tie as tie
 

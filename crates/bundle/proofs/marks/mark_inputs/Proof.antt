@@ -3,10 +3,10 @@ use mathlib.Core.Path.{_≡_, refl, _∙_}
 use native.Mathlib.Omega.{arith}
 use borrow.Author.Needs.{needs}
 use lib.ListN.{length}
-use Rattle.format.specs.ParseLaws.{answered}
+use Rattle.format.proofs.ParseLaws.{answered}
 use Rattle.format.specs.TransactionAnswer.{inputAnswer}
 use Rattle.spv.specs.Hashes.{hashesOf, Distinct}
-use Rattle.bundle.specs.FlatLaws.{Marking, marking-start, marking-end, marking-stops, marking-on}
+use Rattle.bundle.proofs.FlatLaws.{Marking, marking-start, marking-end, marking-stops, marking-on}
 use Rattle.bundle.proofs.marks.mark_inputs.Statement.{statement}
 use Rattle.bundle.proofs.marks.mark_inputs.Tie as tie
 

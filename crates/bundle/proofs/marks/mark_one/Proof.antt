@@ -1,6 +1,6 @@
 use borrow.Author.Needs.{needs}
 use mathlib.Core.Path.{refl}
-use Rattle.bundle.specs.FlatLaws.{one-below, one-past, one-again, one-new}
+use Rattle.bundle.proofs.FlatLaws.{one-below, one-past, one-again, one-new}
 use Rattle.bundle.proofs.marks.mark_one.Statement.{statement}
 use Rattle.bundle.proofs.marks.mark_one.Tie as tie
 

@@ -1,5 +1,5 @@
 use borrow.Author.Needs.{needs}
-use Rattle.bundle.specs.FlatLaws.{through-past, through-at}
+use Rattle.bundle.proofs.FlatLaws.{through-past, through-at}
 use Rattle.bundle.proofs.marks.through_bundle.Statement.{statement}
 use Rattle.bundle.proofs.marks.through_bundle.Tie as tie
 

@@ -1,7 +1,7 @@
 use Prim.Native.Nat.{_-_, _≤_}
 use native.Mathlib.Omega.{arith}
 use borrow.Author.Needs.{needs}
-use Rattle.bundle.specs.ShownLaws.{Passed, passed-start, passed-end, passed-missing, passed-on}
+use Rattle.bundle.proofs.ShownLaws.{Passed, passed-start, passed-end, passed-missing, passed-on}
 use Rattle.bundle.proofs.outputs.first_missing.Statement.{statement}
 use Rattle.bundle.proofs.outputs.first_missing.Tie as tie
 

@@ -3,7 +3,7 @@ use mathlib.Core.Path.{sym}
 use native.Mathlib.Omega.{arith}
 use lib.Seq.{length-take-le}
 use borrow.Author.Needs.{needs}
-use Rattle.bundle.specs.ShownLaws.{answers-many, answers-short, answers-narrow, answers-fault, answers-missing, answers-all}
+use Rattle.bundle.proofs.ShownLaws.{answers-many, answers-short, answers-narrow, answers-fault, answers-missing, answers-all}
 use Rattle.bundle.proofs.outputs.judge_amounts.Statement.{statement}
 use Rattle.bundle.proofs.outputs.judge_amounts.Tie as tie
 

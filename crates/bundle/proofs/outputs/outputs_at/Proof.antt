@@ -2,8 +2,8 @@ use mathlib.Core.Path.{sym, _∙_}
 use native.Mathlib.Omega.{arith}
 use borrow.Author.Needs.{needs}
 use lib.ListN.{List·getD-eq-default}
-use Rattle.bundle.specs.FlatLaws.{count-is}
-use Rattle.bundle.specs.ExistLaws.{outputs-past, outputs-at}
+use Rattle.bundle.proofs.FlatLaws.{count-is}
+use Rattle.bundle.proofs.ExistLaws.{outputs-past, outputs-at}
 use Rattle.bundle.proofs.outputs.outputs_at.Statement.{statement}
 use Rattle.bundle.proofs.outputs.outputs_at.Tie as tie
 

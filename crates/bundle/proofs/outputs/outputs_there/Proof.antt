@@ -3,11 +3,11 @@ use mathlib.Core.Path.{_≡_, sym, _∙_}
 use native.Mathlib.Omega.{arith}
 use native.Mathlib.Nat.{sub-zero}
 use borrow.Author.Needs.{needs}
-use Rattle.format.specs.ParseLaws.{answered}
+use Rattle.format.proofs.ParseLaws.{answered}
 use Rattle.format.specs.TransactionAnswer.{inputAnswer}
 use Rattle.spv.specs.Hashes.{hashesOf, Distinct}
 use Rattle.bundle.specs.FlatForm.{existFrom}
-use Rattle.bundle.specs.ExistLaws.{exist-refused, exist-end, exist-missing, exist-on}
+use Rattle.bundle.proofs.ExistLaws.{exist-refused, exist-end, exist-missing, exist-on}
 use Rattle.bundle.proofs.outputs.outputs_there.Statement.{statement}
 use Rattle.bundle.proofs.outputs.outputs_there.Tie as tie
 

@@ -3,13 +3,12 @@ use mathlib.Core.Path.{_≡_, refl, _∙_}
 use mathlib.Core.List.{List}
 use lib.ListN.{length}
 use Rattle.bundle.specs.Amounts.{Payment}
-use Rattle.bundle.specs.Numbering.{outputCount}
-use Rattle.bundle.specs.PassLaws.{Blank}
+use Rattle.bundle.specs.Numbers.{outputCount}
 use Rattle.bundle.specs.Pictured.{Pictured}
-use Rattle.bundle.specs.Pass.{Firsts, Reached}
+use Rattle.bundle.specs.Pass.{Firsts, Reached, Blank}
 use native.Mathlib.Omega.{arith}
 use borrow.Author.Needs.{needs}
-use Rattle.bundle.specs.ReachLaws.{reached-start, reached-end}
+use Rattle.bundle.proofs.ReachLaws.{reached-start, reached-end}
 use Rattle.bundle.proofs.pass.all_windows.Statement.{statement}
 use Rattle.bundle.proofs.pass.all_windows.Tie as tie
 

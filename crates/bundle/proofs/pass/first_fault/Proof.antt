@@ -1,7 +1,7 @@
 use Prim.Native.Nat.{_-_}
 use native.Mathlib.Omega.{arith}
 use borrow.Author.Needs.{needs}
-use Rattle.bundle.specs.FaultLaws.{Clear, clear-start, clear-end, clear-again, clear-little, clear-on}
+use Rattle.bundle.proofs.FaultLaws.{Clear, clear-start, clear-end, clear-again, clear-little, clear-on}
 use Rattle.bundle.proofs.pass.first_fault.Statement.{statement}
 use Rattle.bundle.proofs.pass.first_fault.Tie as tie
 

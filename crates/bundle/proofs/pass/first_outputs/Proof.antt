@@ -1,7 +1,7 @@
 use Prim.Native.Nat.{_-_}
 use native.Mathlib.Omega.{arith}
 use borrow.Author.Needs.{needs}
-use Rattle.bundle.specs.ReachLaws.{FirstsTo, firsts-start, firsts-on, firsts-end}
+use Rattle.bundle.proofs.ReachLaws.{FirstsTo, firsts-start, firsts-on, firsts-end}
 use Rattle.bundle.proofs.pass.first_outputs.Statement.{statement}
 use Rattle.bundle.proofs.pass.first_outputs.Tie as tie
 

@@ -1,5 +1,5 @@
 use borrow.Author.Needs.{needs}
-use Rattle.bundle.specs.FaultLaws.{enough-anchored, enough-less, enough-more}
+use Rattle.bundle.proofs.FaultLaws.{enough-anchored, enough-less, enough-more}
 use Rattle.bundle.proofs.pass.is_enough.Statement.{statement}
 use Rattle.bundle.proofs.pass.is_enough.Tie as tie
 

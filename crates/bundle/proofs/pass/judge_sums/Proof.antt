@@ -1,5 +1,5 @@
 use borrow.Author.Needs.{needs}
-use Rattle.bundle.specs.ReachLaws.{judged-none, judged-many, judged-short, judged-by}
+use Rattle.bundle.proofs.ReachLaws.{judged-none, judged-many, judged-short, judged-by}
 use Rattle.bundle.proofs.pass.judge_sums.Statement.{statement}
 use Rattle.bundle.proofs.pass.judge_sums.Tie as tie
 

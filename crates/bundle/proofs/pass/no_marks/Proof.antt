@@ -1,4 +1,4 @@
-use Rattle.bundle.specs.PassLaws.{zeros-blank}
+use Rattle.bundle.proofs.PassLaws.{zeros-blank}
 use Rattle.bundle.proofs.pass.no_marks.Statement.{statement}
 use Rattle.bundle.proofs.pass.no_marks.Tie as tie
 

@@ -1,5 +1,5 @@
 use borrow.Author.Needs.{needs}
-use Rattle.bundle.specs.ReachLaws.{reached-on}
+use Rattle.bundle.proofs.ReachLaws.{reached-on}
 use Rattle.bundle.proofs.pass.one_window.Statement.{statement}
 use Rattle.bundle.proofs.pass.one_window.Tie as tie
 

@@ -4,8 +4,8 @@ use native.Mathlib.Omega.{arith}
 use borrow.Author.Needs.{needs}
 use lib.ListN.{length}
 use Rattle.format.specs.FieldAnswer.{numberOf}
-use Rattle.format.specs.ParseLaws.{answered}
-use Rattle.bundle.specs.WalkLaws.{Adds, adds-start, adds-end, adds-stuck, adds-none, adds-on}
+use Rattle.format.proofs.ParseLaws.{answered}
+use Rattle.bundle.proofs.WalkLaws.{Adds, adds-start, adds-end, adds-stuck, adds-none, adds-on}
 use Rattle.bundle.proofs.sums.add_outputs.Statement.{statement}
 use Rattle.bundle.proofs.sums.add_outputs.Tie as tie
 

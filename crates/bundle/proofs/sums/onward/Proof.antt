@@ -1,6 +1,6 @@
 use borrow.Author.Needs.{needs}
 use mathlib.Core.Path.{_∙_}
-use Rattle.bundle.specs.WalkLaws.{onward-same, onward-over, onward-short, onward-next}
+use Rattle.bundle.proofs.WalkLaws.{onward-same, onward-over, onward-short, onward-next}
 use Rattle.bundle.proofs.sums.onward.Statement.{statement}
 use Rattle.bundle.proofs.sums.onward.Tie as tie
 

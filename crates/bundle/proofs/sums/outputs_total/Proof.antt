@@ -3,11 +3,11 @@ use mathlib.Core.Path.{_≡_, refl, sym, _∙_}
 use native.Mathlib.Omega.{arith}
 use native.Mathlib.Nat.{sub-zero}
 use borrow.Author.Needs.{needs}
-use Rattle.format.specs.ParseLaws.{answered}
+use Rattle.format.proofs.ParseLaws.{answered}
 use Rattle.format.specs.FieldAnswer.{numberOf}
-use Rattle.format.specs.TransactionLaws.{output-told, taken-total}
+use Rattle.format.proofs.TransactionLaws.{output-told, taken-total}
 use Rattle.bundle.specs.BundleHeads.{totalFrom}
-use Rattle.bundle.specs.BundleHeadLaws.{total-refused, total-on, total-end}
+use Rattle.bundle.proofs.BundleHeadLaws.{total-refused, total-on, total-end}
 use Rattle.bundle.proofs.sums.outputs_total.Statement.{statement}
 use Rattle.bundle.proofs.sums.outputs_total.Tie as tie
 

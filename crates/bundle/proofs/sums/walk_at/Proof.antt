@@ -1,5 +1,5 @@
 use borrow.Author.Needs.{needs}
-use Rattle.bundle.specs.WalkLaws.{walk-is}
+use Rattle.bundle.proofs.WalkLaws.{walk-is}
 use Rattle.bundle.proofs.sums.walk_at.Statement.{statement}
 use Rattle.bundle.proofs.sums.walk_at.Tie as tie
 

@@ -1,7 +1,7 @@
 use borrow.Author.Needs.{needs}
 use mathlib.Core.Path.{sym}
 use native.Mathlib.Omega.{arith}
-use Rattle.bundle.specs.WorkMadeLaws.{before-past, before-again, before-own}
+use Rattle.bundle.proofs.WorkMadeLaws.{before-past, before-again, before-own}
 use Rattle.bundle.proofs.work.climbs_before.Statement.{statement}
 use Rattle.bundle.proofs.work.climbs_before.Tie as tie
 

@@ -1,7 +1,7 @@
 use borrow.Author.Needs.{needs}
 use mathlib.Core.Path.{sym, _∙_}
 use native.Mathlib.Omega.{arith}
-use Rattle.bundle.specs.WorkMadeLaws.{made-accepted, made-refused}
+use Rattle.bundle.proofs.WorkMadeLaws.{made-accepted, made-refused}
 use Rattle.bundle.proofs.work.climbs_made.Statement.{statement}
 use Rattle.bundle.proofs.work.climbs_made.Tie as tie
 

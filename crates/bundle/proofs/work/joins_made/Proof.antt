@@ -4,7 +4,7 @@ use borrow.Author.Needs.{needs}
 use native.Mathlib.Omega.{arith}
 use Rattle.bundle.specs.Windows.{sumTo}
 use Rattle.bundle.specs.WorkMade.{keptJoins}
-use Rattle.bundle.specs.WorkMadeLaws.{sum-one}
+use Rattle.bundle.proofs.WorkMadeLaws.{sum-one}
 use Rattle.bundle.proofs.work.joins_made.Statement.{statement}
 use Rattle.bundle.proofs.work.joins_made.Tie as tie
 

@@ -1,7 +1,7 @@
 use borrow.Author.Needs.{needs}
 use mathlib.Core.Path.{sym}
 use native.Mathlib.Omega.{arith}
-use Rattle.bundle.specs.WorkMadeLaws.{kept-none, kept-some}
+use Rattle.bundle.proofs.WorkMadeLaws.{kept-none, kept-some}
 use Rattle.bundle.proofs.work.kept_joins.Statement.{statement}
 use Rattle.bundle.proofs.work.kept_joins.Tie as tie
 

@@ -1,6 +1,6 @@
 use borrow.Author.Needs.{needs}
 use native.Mathlib.Omega.{arith}
-use Rattle.bundle.specs.WorkMadeLaws.{total-is}
+use Rattle.bundle.proofs.WorkMadeLaws.{total-is}
 use Rattle.bundle.proofs.work.work_made.Statement.{statement}
 use Rattle.bundle.proofs.work.work_made.Tie as tie
 

@@ -3,7 +3,7 @@ use borrow.Author.Needs.{needs}
 use Rattle.climbs.proofs.WaitingLaws.{levels-bump}
 use Rattle.path.specs.declared.path.Path.{Path}
 use Rattle.format.specs.declared.bump.BumpHead.{BumpHead}
-use Rattle.format.specs.ParseLaws.{answered, each-got, each-bad}
+use Rattle.format.proofs.ParseLaws.{answered, each-got, each-bad}
 use Rattle.format.specs.Bump.{headOf, bumpWhole, bumpAnswer, refusalOfBump}
 use Rattle.path.specs.Path.{bumpPathOf}
 use Rattle.spv.specs.Result.{refusedReading}

@@ -3,7 +3,7 @@ use native.Mathlib.Omega.{arith}
 use Prim.Native.Nat.{_-_, _<_}
 use mathlib.Core.Path.{_≡_, ap, refl, _∙_}
 use lib.ListN.{length}
-use Rattle.format.specs.ParseLaws.{answered}
+use Rattle.format.proofs.ParseLaws.{answered}
 use Rattle.path.specs.LeafAnswer.{leafOf}
 use Rattle.format.specs.Refusals.{NOT-LISTED}
 use Rattle.spv.specs.Result.{refused, carrying, follow}

@@ -1,7 +1,7 @@
 use Prim.Native.Nat.{_-_}
 use mathlib.Core.Path.{ap, _∙_}
 use borrow.Author.Needs.{needs}
-use Rattle.format.specs.ParseLaws.{answered}
+use Rattle.format.proofs.ParseLaws.{answered}
 use Rattle.path.specs.LeafAnswer.{leafOf}
 use Rattle.spv.specs.Siblings.{pathSiblings}
 use Rattle.climbs.specs.ClientsShapes.{wantSays, checkedOf}

@@ -1,6 +1,6 @@
 use mathlib.Core.Path.{ap, sym, _∙_}
 use borrow.Author.Needs.{needs}
-use Rattle.format.specs.ParseLaws.{answered}
+use Rattle.format.proofs.ParseLaws.{answered}
 use Rattle.format.specs.FieldAnswer.{numberOf}
 use Rattle.climbs.proofs.ClientsLaws.{level-short, level-read}
 use Rattle.climbs.specs.ClientsShapes.{checkedOf}

@@ -2,7 +2,7 @@ use mathlib.Core.Path.{sym, ap, _∙_}
 use borrow.Author.Needs.{needs}
 use Rattle.spv.specs.Climb.{absent}
 use Rattle.spv.specs.Siblings.{sibling}
-use Rattle.spv.specs.ShapesLaws.{node-says}
+use Rattle.spv.proofs.ShapesLaws.{node-says}
 use Rattle.climbs.proofs.lookup.node_at.Statement.{statement}
 use Rattle.climbs.proofs.lookup.node_at.Tie as tie
 

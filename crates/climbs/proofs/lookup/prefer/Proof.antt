@@ -1,5 +1,5 @@
 use Rattle.climbs.proofs.LookUpLaws.{prefer-hash, prefer-value, prefer-copy, prefer-absent}
-use Rattle.spv.specs.ShapesLaws.{is-value, is-copied, is-absent, node-says}
+use Rattle.spv.proofs.ShapesLaws.{is-value, is-copied, is-absent, node-says}
 use Rattle.spv.specs.Shapes.{siblingOf, siblingBy, nodeOf}
 use Rattle.spv.specs.Climb.{Sibling, value, copied, absent}
 use mathlib.Core.Path.{_≡_, refl, sym, ap, _∙_}

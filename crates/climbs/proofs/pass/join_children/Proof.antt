@@ -1,6 +1,6 @@
 use mathlib.Core.Path.{sym, _∙_}
 use Rattle.spv.specs.Climb.{absent}
-use Rattle.spv.specs.ShapesLaws.{node-says}
+use Rattle.spv.proofs.ShapesLaws.{node-says}
 use Rattle.climbs.proofs.PassLaws.{children-value, children-copied, children-absent}
 use borrow.Author.Needs.{needs}
 use Rattle.climbs.proofs.pass.join_children.Statement.{statement}

@@ -1,6 +1,6 @@
 use mathlib.Core.Path.{ap, _∙_}
 use borrow.Author.Needs.{needs}
-use Rattle.format.specs.ParseLaws.{answered}
+use Rattle.format.proofs.ParseLaws.{answered}
 use Rattle.format.specs.FieldAnswer.{numberOf}
 use Rattle.climbs.specs.Reach.{agrees}
 use Rattle.climbs.proofs.ReachLaws.{reaches-short, reaches-read}

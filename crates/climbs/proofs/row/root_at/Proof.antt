@@ -1,7 +1,7 @@
 use native.Mathlib.Omega.{arith}
 use Prim.Native.Nat.{_*_}
 use mathlib.Core.Path.{sym}
-use Rattle.format.specs.BytesLaws.{hash-none}
+use Rattle.format.proofs.BytesLaws.{hash-none}
 use borrow.Author.Needs.{needs}
 use Rattle.climbs.proofs.row.root_at.Statement.{statement}
 use Rattle.climbs.proofs.row.root_at.Tie as tie

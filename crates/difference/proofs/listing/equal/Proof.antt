@@ -1,4 +1,4 @@
-use Rattle.difference.specs.MergeLaws.{flags-differ, both-copies, by-hash}
+use Rattle.difference.proofs.MergeLaws.{flags-differ, both-copies, by-hash}
 use Rattle.format.specs.Bytes.{same, hashAt}
 use mathlib.Core.Path.{sym, ap, ap₂, _∙_}
 use borrow.Author.Needs.{needs}

@@ -1,5 +1,5 @@
 use Rattle.difference.specs.Merge.{gathering}
-use Rattle.difference.specs.MergeLaws.{level-above, level-here}
+use Rattle.difference.proofs.MergeLaws.{level-above, level-here}
 use Rattle.levels.proofs.OrderedLaws.{level-told}
 use native.Mathlib.Omega.{arith}
 use mathlib.Core.Path.{sym, ap₂, _∙_}

@@ -1,7 +1,7 @@
-use Rattle.difference.specs.ListingLaws.{first-unread, second-unread, told-refused, left-refused, as-before, listed-over, listed-entries, listed-words}
+use Rattle.difference.proofs.ListingLaws.{first-unread, second-unread, told-refused, left-refused, as-before, listed-over, listed-entries, listed-words}
 use Rattle.spv.specs.Result.{refusedReading}
 use Rattle.format.specs.Bump.{bumpAnswer, refusalOfBump}
-use Rattle.format.specs.ParseLaws.{answered}
+use Rattle.format.proofs.ParseLaws.{answered}
 use mathlib.Core.Path.{refl, ap, _∙_}
 use borrow.Author.Needs.{needs}
 use Rattle.difference.proofs.listing.list_differences.Statement.{statement}

@@ -1,4 +1,4 @@
-use Rattle.difference.specs.FillingLaws.{put-full, put-counted, put-written}
+use Rattle.difference.proofs.FillingLaws.{put-full, put-counted, put-written}
 use Rattle.difference.specs.Filling.{store}
 use lib.ListN.{length-set}
 use borrow.Author.Tests.{not-true, not-false}

@@ -1,4 +1,4 @@
-use Rattle.difference.specs.FillingLaws.{place-alike, place-told}
+use Rattle.difference.proofs.FillingLaws.{place-alike, place-told}
 use mathlib.Core.Path.{sym, _∙_}
 use borrow.Author.Needs.{needs}
 use Rattle.difference.proofs.listing.put_place.Statement.{statement}

@@ -1,6 +1,6 @@
 use Prim.Native.Nat.{ℕ, min}
 use mathlib.Core.Path.{ap₂}
-use Rattle.difference.specs.MergeLaws.{walked}
+use Rattle.difference.proofs.MergeLaws.{walked}
 use lib.ListN.{length-replicate}
 use borrow.Author.Needs.{needs}
 use Rattle.difference.proofs.listing.tell_all.Statement.{statement}

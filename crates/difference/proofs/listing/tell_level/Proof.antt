@@ -1,5 +1,5 @@
 use borrow.Author.Needs.{needs}
-use Rattle.difference.specs.MergeLaws.{told-there, merge-stop, merge-on, merge-end}
+use Rattle.difference.proofs.MergeLaws.{told-there, merge-stop, merge-on, merge-end}
 use Rattle.levels.proofs.FrontsLaws.{least, front-told, past-told}
 use Rattle.difference.specs.Merge.{merged}
 use Rattle.levels.specs.Places.{entries}

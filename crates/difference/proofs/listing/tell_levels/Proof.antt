@@ -1,4 +1,4 @@
-use Rattle.difference.specs.MergeLaws.{walk-end, walk-high, walk-on}
+use Rattle.difference.proofs.MergeLaws.{walk-end, walk-high, walk-on}
 use Rattle.difference.specs.Merge.{walk}
 use Rattle.difference.specs.Filling.{filling}
 use Rattle.levels.specs.Ordered.{holding}

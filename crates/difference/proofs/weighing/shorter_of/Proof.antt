@@ -1,7 +1,7 @@
 use mathlib.Core.Path.{sym, ap}
 use Rattle.spv.specs.Result.{accepted}
 use Rattle.difference.specs.Shorter.{choiceOf}
-use Rattle.difference.specs.ShorterLaws.{takes-first, takes-second}
+use Rattle.difference.proofs.ShorterLaws.{takes-first, takes-second}
 use Rattle.difference.proofs.weighing.shorter_of.Statement.{statement}
 use Rattle.difference.proofs.weighing.shorter_of.Tie as tie
 

@@ -2,7 +2,7 @@ use mathlib.Core.Path.{_∙_, sym, ap}
 use borrow.Author.Tests.{not-true, not-false}
 use Rattle.spv.specs.Result.{refused}
 use Rattle.difference.specs.Shorter.{choiceOf}
-use Rattle.difference.specs.ShorterLaws.{first-refused, second-refused, two-roots, one-root}
+use Rattle.difference.proofs.ShorterLaws.{first-refused, second-refused, two-roots, one-root}
 use borrow.Author.Needs.{needs}
 use Rattle.difference.proofs.weighing.weigh.Statement.{statement}
 use Rattle.difference.proofs.weighing.weigh.Tie as tie

@@ -1,7 +1,7 @@
 use borrow.Author.Needs.{needs}
 use native.Mathlib.Omega.{arith}
 use mathlib.Core.Path.{_≡_, sym, _∙_}
-use Rattle.format.specs.ParseLaws.{answered, each-got, each-bad, count-start, count-step, count-refused, count-done}
+use Rattle.format.proofs.ParseLaws.{answered, each-got, each-bad, count-start, count-step, count-refused, count-done}
 use Rattle.format.specs.Parse.{times, each}
 use Rattle.format.specs.Beef.{entryField}
 use Rattle.format.specs.BeefAnswer.{entryHeadOf, entryAnswer}

@@ -1,8 +1,8 @@
 use borrow.Author.Needs.{needs}
 use mathlib.Core.Path.{sym}
 use Rattle.format.specs.TransactionAnswer.{itemsAnswer}
-use Rattle.format.specs.ParseLaws.{answered}
-use Rattle.format.specs.BeefLaws.{close-refused, close-extra, close-read}
+use Rattle.format.proofs.ParseLaws.{answered}
+use Rattle.format.proofs.BeefLaws.{close-refused, close-extra, close-read}
 use Rattle.format.proofs.beef.close_beef.Statement.{statement}
 use Rattle.format.proofs.beef.close_beef.Tie as tie
 

@@ -1,11 +1,11 @@
 use borrow.Author.Needs.{needs}
 use Prim.Native.Nat.{_-_}
-use Rattle.format.specs.ParseLaws.{answered}
+use Rattle.format.proofs.ParseLaws.{answered}
 use Rattle.format.specs.Refusals.{MAX-BUMPS}
-use Rattle.format.specs.Gather.{Gathering, gather-start, gather-step, gather-refused, gather-done}
+use Rattle.format.proofs.Gather.{Gathering, gather-start, gather-step, gather-refused, gather-done}
 use Rattle.format.specs.Bump.{bumpField, headOf, bumpAnswer}
 use Rattle.format.specs.BeefAnswer.{noBump}
-use Rattle.format.specs.BeefLaws.{heads-none, heads-kept}
+use Rattle.format.proofs.BeefLaws.{heads-none, heads-kept}
 use Rattle.format.proofs.beef.gather_bumps.Statement.{statement}
 use Rattle.format.proofs.beef.gather_bumps.Tie as tie
 

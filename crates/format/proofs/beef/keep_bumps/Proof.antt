@@ -2,9 +2,9 @@ use borrow.Author.Needs.{needs}
 use mathlib.Core.Path.{sym, _∙_}
 use lib.ListN.{length}
 use Rattle.format.specs.FieldAnswer.{numberOf}
-use Rattle.format.specs.ParseLaws.{answered, go, stop}
+use Rattle.format.proofs.ParseLaws.{answered, go, stop}
 use Rattle.format.specs.Beef.{bumpsField}
-use Rattle.format.specs.BeefLaws.{bump-count-told, heads-none, heads-counted}
+use Rattle.format.proofs.BeefLaws.{bump-count-told, heads-none, heads-counted}
 use Rattle.format.proofs.beef.keep_bumps.Statement.{statement}
 use Rattle.format.proofs.beef.keep_bumps.Tie as tie
 

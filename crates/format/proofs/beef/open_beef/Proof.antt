@@ -1,6 +1,6 @@
 use borrow.Author.Needs.{needs}
 use mathlib.Core.Path.{sym, _∙_}
-use Rattle.format.specs.BeefLaws.{open-long, open-fits}
+use Rattle.format.proofs.BeefLaws.{open-long, open-fits}
 use Rattle.format.proofs.beef.open_beef.Statement.{statement}
 use Rattle.format.proofs.beef.open_beef.Tie as tie
 

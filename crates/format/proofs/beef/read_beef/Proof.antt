@@ -1,8 +1,8 @@
 use borrow.Author.Needs.{needs}
 use mathlib.Core.Path.{sym, _∙_}
 use Rattle.format.specs.FieldAnswer.{numberOf}
-use Rattle.format.specs.ParseLaws.{answered}
-use Rattle.format.specs.BeefLaws.{beef-unopened, beef-opened}
+use Rattle.format.proofs.ParseLaws.{answered}
+use Rattle.format.proofs.BeefLaws.{beef-unopened, beef-opened}
 use Rattle.format.proofs.beef.read_beef.Statement.{statement}
 use Rattle.format.proofs.beef.read_beef.Tie as tie
 

@@ -1,7 +1,7 @@
 use borrow.Author.Needs.{needs}
 use borrow.Author.Tests.{le-ltb, lt-ltb}
 use Rattle.format.specs.FieldAnswer.{numberOf}
-use Rattle.format.specs.ParseLaws.{answered}
+use Rattle.format.proofs.ParseLaws.{answered}
 use Rattle.format.specs.Beef.{bumpNumberField}
 use Rattle.format.proofs.beef.read_bump_number.Statement.{statement}
 use Rattle.format.proofs.beef.read_bump_number.Tie as tie

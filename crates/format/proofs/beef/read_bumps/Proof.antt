@@ -1,7 +1,7 @@
 use borrow.Author.Needs.{needs}
 use mathlib.Core.Path.{sym, _∙_}
 use Rattle.format.specs.FieldAnswer.{numberOf}
-use Rattle.format.specs.ParseLaws.{answered, go, stop}
+use Rattle.format.proofs.ParseLaws.{answered, go, stop}
 use Rattle.format.specs.Beef.{bumpsField}
 use Rattle.format.proofs.beef.read_bumps.Statement.{statement}
 use Rattle.format.proofs.beef.read_bumps.Tie as tie

@@ -1,9 +1,9 @@
 use borrow.Author.Needs.{needs}
 use mathlib.Core.Path.{sym, _∙_}
 use Rattle.format.specs.FieldAnswer.{numberOf}
-use Rattle.format.specs.ParseLaws.{answered}
+use Rattle.format.proofs.ParseLaws.{answered}
 use Rattle.format.specs.BeefAnswer.{beefAnswer}
-use Rattle.format.specs.BeefLaws.{beef-unopened, beef-opened, bundle-refused, heads-opened}
+use Rattle.format.proofs.BeefLaws.{beef-unopened, beef-opened, bundle-refused, heads-opened}
 use Rattle.format.proofs.beef.read_bundle.Statement.{statement}
 use Rattle.format.proofs.beef.read_bundle.Tie as tie
 

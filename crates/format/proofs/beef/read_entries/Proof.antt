@@ -1,9 +1,9 @@
 use borrow.Author.Needs.{needs}
 use mathlib.Core.Path.{sym}
 use Rattle.format.specs.FieldAnswer.{numberOf}
-use Rattle.format.specs.ParseLaws.{answered, stop}
+use Rattle.format.proofs.ParseLaws.{answered, stop}
 use Rattle.format.specs.Beef.{entriesField}
-use Rattle.format.specs.BeefLaws.{entries-refused, entries-read}
+use Rattle.format.proofs.BeefLaws.{entries-refused, entries-read}
 use Rattle.format.proofs.beef.read_entries.Statement.{statement}
 use Rattle.format.proofs.beef.read_entries.Tie as tie
 

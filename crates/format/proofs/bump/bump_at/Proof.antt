@@ -2,10 +2,10 @@ use borrow.Author.Needs.{needs}
 use native.Mathlib.Omega.{arith}
 use mathlib.Core.Path.{sym}
 use Rattle.format.specs.Bump.{bumpField}
-use Rattle.format.specs.BumpLaws.{height-bounded, bump-no-height, bump-no-levels, bump-read}
+use Rattle.format.proofs.BumpLaws.{height-bounded, bump-no-height, bump-no-levels, bump-read}
 use Rattle.format.specs.FieldAnswer.{numberOf}
 use Rattle.format.specs.Parse.{each}
-use Rattle.format.specs.ParseLaws.{answered}
+use Rattle.format.proofs.ParseLaws.{answered}
 use Rattle.format.proofs.bump.bump_at.Statement.{statement}
 use Rattle.format.proofs.bump.bump_at.Tie as tie
 

@@ -1,7 +1,7 @@
 use borrow.Author.Needs.{needs}
 use mathlib.Core.Path.{sym}
 use Rattle.format.specs.Bump.{bumpAnswer}
-use Rattle.format.specs.ParseLaws.{answered, whole-too-long, whole-refused, whole-extra, whole-read}
+use Rattle.format.proofs.ParseLaws.{answered, whole-too-long, whole-refused, whole-extra, whole-read}
 use Rattle.format.proofs.bump.read_bump.Statement.{statement}
 use Rattle.format.proofs.bump.read_bump.Tie as tie
 

@@ -9,7 +9,7 @@ use borrow.Author.Count.{below-more}
 use lib.ListN.{length, getD}
 use lib.Seq.{ext-getD}
 use Rattle.format.specs.Bytes as bytes
-use Rattle.format.specs.BytesLaws.{eq-same, ne-same}
+use Rattle.format.proofs.BytesLaws.{eq-same, ne-same}
 use Rattle.format.proofs.bytes.same_bytes.Statement.{statement}
 use Rattle.format.proofs.bytes.same_bytes.Tie as tie
 

@@ -6,7 +6,7 @@ use Prim.Native.Nat.{ℕ, _+_, _*_, _≤_, _-_}
 use lib.ListN.{length, getD, set, length-set}
 use lib.Seq.{paste, paste-zero, paste-suc}
 use native.Mathlib.Numerals.{add-one}
-use Rattle.format.specs.BytesLaws.{set-inside, set-outside}
+use Rattle.format.proofs.BytesLaws.{set-inside, set-outside}
 use Rattle.format.proofs.bytes.set_hash.Statement.{statement}
 use Rattle.format.proofs.bytes.set_hash.Tie as tie
 

@@ -1,11 +1,11 @@
 use borrow.Author.Needs.{needs}
 use native.Mathlib.Omega.{arith}
 use mathlib.Core.Path.{sym}
-use Rattle.format.specs.BumpLaws.{top-bounded, cmp-no-levels, cmp-read}
+use Rattle.format.proofs.BumpLaws.{top-bounded, cmp-no-levels, cmp-read}
 use Rattle.format.specs.Cmp.{cmpField}
 use Rattle.format.specs.FieldAnswer.{numberOf}
 use Rattle.format.specs.Parse.{each}
-use Rattle.format.specs.ParseLaws.{answered}
+use Rattle.format.proofs.ParseLaws.{answered}
 use Rattle.format.proofs.cmp.cmp_at.Statement.{statement}
 use Rattle.format.proofs.cmp.cmp_at.Tie as tie
 

@@ -2,7 +2,7 @@ use borrow.Author.Needs.{needs}
 use native.Mathlib.Omega.{arith}
 use mathlib.Core.Path.{sym}
 use Rattle.format.specs.Field.{le2}
-use Rattle.format.specs.FieldLaws.{long-short, long-over, long-value}
+use Rattle.format.proofs.FieldLaws.{long-short, long-over, long-value}
 use Rattle.format.proofs.field.long_two.Statement.{statement}
 use Rattle.format.proofs.field.long_two.Tie as tie
 

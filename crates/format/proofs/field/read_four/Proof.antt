@@ -1,8 +1,8 @@
 use borrow.Author.Needs.{needs}
 use native.Mathlib.Omega.{arith}
 use Rattle.format.specs.FieldAnswer.{runOf}
-use Rattle.format.specs.ParseLaws.{answered}
-use Rattle.format.specs.Span.{bytes-told}
+use Rattle.format.proofs.ParseLaws.{answered}
+use Rattle.format.proofs.Span.{bytes-told}
 use Rattle.format.proofs.field.read_four.Statement.{statement}
 use Rattle.format.proofs.field.read_four.Tie as tie
 

@@ -1,7 +1,7 @@
 use borrow.Author.Needs.{needs}
 use native.Mathlib.Omega.{arith}
 use mathlib.Core.Path.{sym}
-use Rattle.format.specs.FieldLaws.{bytes-short, bytes-here}
+use Rattle.format.proofs.FieldLaws.{bytes-short, bytes-here}
 use Rattle.format.proofs.field.read_run.Statement.{statement}
 use Rattle.format.proofs.field.read_run.Tie as tie
 

@@ -1,7 +1,7 @@
 use borrow.Author.Needs.{needs}
 use native.Mathlib.Omega.{arith}
 use mathlib.Core.Path.{sym, _∙_}
-use Rattle.format.specs.FieldLaws.{varint-none, varint-announced, varint-small}
+use Rattle.format.proofs.FieldLaws.{varint-none, varint-announced, varint-small}
 use Rattle.format.proofs.field.read_varint.Statement.{statement}
 use Rattle.format.proofs.field.read_varint.Tie as tie
 

@@ -1,7 +1,7 @@
 use mathlib.Core.Path.{sym, ap, _∙_}
 use borrow.Author.Needs.{needs}
 use Rattle.hash.specs.declared.Hashed.{Hashed}
-use Rattle.format.specs.IdLaws.{span-backward, span-outside, span-inside}
+use Rattle.format.proofs.IdLaws.{span-backward, span-outside, span-inside}
 use Rattle.format.proofs.id.span_hash.Statement.{statement}
 use Rattle.format.proofs.id.span_hash.Tie as tie
 

@@ -4,7 +4,7 @@ use mathlib.Core.Bool.{_||_}
 use Prim.Native.Nat.{_≤_, _-_}
 use lib.ListN.{length, drop}
 use Rattle.format.specs.Level.{holds}
-use Rattle.format.specs.SeenLaws.{scan-here, scan-on, scan-end}
+use Rattle.format.proofs.SeenLaws.{scan-here, scan-on, scan-end}
 use mathlib.Core.Logic.{⊎-elim}
 use Rattle.format.proofs.level.contains.Statement.{statement}
 use Rattle.format.proofs.level.contains.Tie as tie

@@ -2,7 +2,7 @@ use borrow.Author.Needs.{needs}
 use native.Mathlib.Omega.{arith}
 use Prim.Native.Nat.{_≤_, _-_, _^_}
 use lib.Pow.{pow-pos, pow-mono}
-use Rattle.format.specs.LevelLaws.{halves}
+use Rattle.format.proofs.LevelLaws.{halves}
 use Rattle.format.proofs.level.greatest_of.Statement.{statement}
 use Rattle.format.proofs.level.greatest_of.Tie as tie
 

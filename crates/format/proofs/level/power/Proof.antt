@@ -1,5 +1,5 @@
 use borrow.Author.Needs.{needs}
-use Rattle.format.specs.LevelLaws.{powered}
+use Rattle.format.proofs.LevelLaws.{powered}
 use Rattle.format.proofs.level.power.Statement.{statement}
 use Rattle.format.proofs.level.power.Tie as tie
 

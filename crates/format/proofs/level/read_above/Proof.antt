@@ -1,7 +1,7 @@
 use borrow.Author.Needs.{needs}
 use Rattle.format.specs.FieldAnswer.{numberOf}
-use Rattle.format.specs.ParseLaws.{answered}
-use Rattle.format.specs.SeenLaws.{leaf-carried, above-carried}
+use Rattle.format.proofs.ParseLaws.{answered}
+use Rattle.format.proofs.SeenLaws.{leaf-carried, above-carried}
 use Rattle.format.proofs.level.read_above.Statement.{statement}
 use Rattle.format.proofs.level.read_above.Tie as tie
 use Rattle.format.proofs.level.read_bounded.Reads as read-bounded-reads

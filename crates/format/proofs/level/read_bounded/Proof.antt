@@ -2,9 +2,9 @@ use borrow.Author.Needs.{needs}
 use native.Mathlib.Omega.{arith}
 use mathlib.Core.Path.{refl, sym}
 use Rattle.format.specs.FieldAnswer.{numberOf}
-use Rattle.format.specs.ParseLaws.{answered}
+use Rattle.format.proofs.ParseLaws.{answered}
 use Rattle.format.specs.Level.{holds}
-use Rattle.format.specs.LevelLaws.{offset-refused, offset-outside, offset-fresh}
+use Rattle.format.proofs.LevelLaws.{offset-refused, offset-outside, offset-fresh}
 use Rattle.format.proofs.level.read_bounded.Statement.{statement}
 use Rattle.format.proofs.level.read_bounded.Tie as tie
 use Rattle.format.proofs.field.read_varint.Reads as read-varint-reads

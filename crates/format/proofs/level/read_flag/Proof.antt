@@ -1,7 +1,7 @@
 use borrow.Author.Needs.{needs}
 use mathlib.Core.Path.{sym, _∙_}
 use Rattle.format.specs.FieldAnswer.{numberOf}
-use Rattle.format.specs.ParseLaws.{answered}
+use Rattle.format.proofs.ParseLaws.{answered}
 use Rattle.format.specs.Level.{flagField}
 use Rattle.format.proofs.level.read_flag.Statement.{statement}
 use Rattle.format.proofs.level.read_flag.Tie as tie

@@ -1,7 +1,7 @@
 use borrow.Author.Needs.{needs}
 use native.Mathlib.Omega.{arith}
 use mathlib.Core.Path.{_∙_}
-use Rattle.format.specs.LevelLaws.{turn-below, in-turn}
+use Rattle.format.proofs.LevelLaws.{turn-below, in-turn}
 use Rattle.format.proofs.level.read_in_turn.Statement.{statement}
 use Rattle.format.proofs.level.read_in_turn.Tie as tie
 

@@ -1,9 +1,9 @@
 use borrow.Author.Needs.{needs}
 use Rattle.format.specs.Parse.{each}
 use Rattle.format.specs.Level.{kindField}
-use Rattle.format.specs.LevelLaws.{kind-refused}
+use Rattle.format.proofs.LevelLaws.{kind-refused}
 use Rattle.format.specs.FieldAnswer.{runOf}
-use Rattle.format.specs.ParseLaws.{answered}
+use Rattle.format.proofs.ParseLaws.{answered}
 use mathlib.Core.Path.{sym}
 use borrow.Author.Tests.{ne-eqb}
 use Rattle.format.proofs.level.read_kind.Statement.{statement}

@@ -1,8 +1,8 @@
 use borrow.Author.Needs.{needs}
 use mathlib.Core.Path.{sym, _∙_}
 use Rattle.format.specs.FieldAnswer.{numberOf}
-use Rattle.format.specs.ParseLaws.{answered}
-use Rattle.format.specs.SeenLaws.{leaf-refused, leaf-carried}
+use Rattle.format.proofs.ParseLaws.{answered}
+use Rattle.format.proofs.SeenLaws.{leaf-refused, leaf-carried}
 use Rattle.format.proofs.level.read_leaf.Statement.{statement}
 use Rattle.format.proofs.level.read_leaf.Tie as tie
 use Rattle.format.proofs.level.read_carried.Reads as read-carried-reads

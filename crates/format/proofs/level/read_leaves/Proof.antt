@@ -8,10 +8,10 @@ use lib.ListN.{length, take, set, length-set}
 use lib.Seq.{length-take-le, take-suc-set}
 use Rattle.format.specs.FieldAnswer.{numberOf}
 use Rattle.format.specs.Parse.{each, many}
-use Rattle.format.specs.ParseLaws.{answered, count-start, count-done}
+use Rattle.format.proofs.ParseLaws.{answered, count-start, count-done}
 use Rattle.format.specs.Level.{holds, leafField, leafFields, andOffset}
 use Rattle.format.specs.Seen.{Slotted}
-use Rattle.format.specs.SeenLaws.{slotted-more, leaves-step, leaves-refused}
+use Rattle.format.proofs.SeenLaws.{slotted-more, leaves-step, leaves-refused}
 use Rattle.format.proofs.level.read_leaves.Statement.{statement}
 use Rattle.format.proofs.level.read_leaves.Tie as tie
 use Rattle.format.proofs.level.read_leaf.Reads as read-leaf-reads

@@ -2,7 +2,7 @@ use borrow.Author.Needs.{needs}
 use Rattle.format.specs.Parse.{each}
 use Rattle.format.specs.Level.{levelField}
 use Rattle.format.specs.FieldAnswer.{numberOf}
-use Rattle.format.specs.ParseLaws.{answered}
+use Rattle.format.proofs.ParseLaws.{answered}
 use mathlib.Core.Path.{_∙_}
 use borrow.Author.Tests.{le-leb, lt-leb}
 use Rattle.format.proofs.level.read_level.Statement.{statement}

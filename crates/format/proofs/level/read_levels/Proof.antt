@@ -5,9 +5,9 @@ use Prim.Native.Nat.{_≤_, _-_, _*_}
 use lib.ListN.{length}
 use Rattle.format.specs.FieldAnswer.{numberOf}
 use Rattle.format.specs.Level.{levelFields, total}
-use Rattle.format.specs.LevelLaws.{level-few, summing, sum-start, sum-step, sum-refused, sum-done}
+use Rattle.format.proofs.LevelLaws.{level-few, summing, sum-start, sum-step, sum-refused, sum-done}
 use Rattle.format.specs.Parse.{each}
-use Rattle.format.specs.ParseLaws.{answered, each-bad}
+use Rattle.format.proofs.ParseLaws.{answered, each-bad}
 use Rattle.format.specs.Refusals.{MAX-LEAVES}
 use Rattle.format.proofs.level.read_levels.Statement.{statement}
 use Rattle.format.proofs.level.read_levels.Tie as tie

@@ -2,9 +2,9 @@ use borrow.Author.Needs.{needs}
 use native.Mathlib.Omega.{arith}
 use mathlib.Core.Path.{sym, _∙_}
 use Rattle.format.specs.FieldAnswer.{numberOf}
-use Rattle.format.specs.ParseLaws.{answered}
-use Rattle.format.specs.LevelLaws.{offset-again, offset-fresh}
-use Rattle.format.specs.SeenLaws.{offset-told, bounded-refused}
+use Rattle.format.proofs.ParseLaws.{answered}
+use Rattle.format.proofs.LevelLaws.{offset-again, offset-fresh}
+use Rattle.format.proofs.SeenLaws.{offset-told, bounded-refused}
 use Rattle.format.proofs.level.read_offset.Statement.{statement}
 use Rattle.format.proofs.level.read_offset.Tie as tie
 use Rattle.format.proofs.level.contains.Reads as contains-reads

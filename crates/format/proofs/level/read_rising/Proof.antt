@@ -5,7 +5,7 @@ use Prim.Native.Nat.{_≤_, _-_, _+_}
 use lib.ListN.{length}
 use Rattle.format.specs.Parse.{each}
 use Rattle.format.specs.Level.{leafFields}
-use Rattle.format.specs.SeenLaws.{above-told, Risen, risen-start, risen-step, risen-done}
+use Rattle.format.proofs.SeenLaws.{above-told, Risen, risen-start, risen-step, risen-done}
 use Rattle.format.proofs.level.read_rising.Statement.{statement}
 use Rattle.format.proofs.level.read_rising.Tie as tie
 use Rattle.format.proofs.level.read_above.Reads as read-above-reads

@@ -3,7 +3,7 @@ use mathlib.Core.Path.{_∙_}
 use borrow.Author.Tests.{le-leb, lt-leb}
 use Rattle.format.specs.FieldAnswer.{numberOf}
 use Rattle.format.specs.Node.{nodeField}
-use Rattle.format.specs.ParseLaws.{answered}
+use Rattle.format.proofs.ParseLaws.{answered}
 use Rattle.format.proofs.node.read_node.Statement.{statement}
 use Rattle.format.proofs.node.read_node.Tie as tie
 

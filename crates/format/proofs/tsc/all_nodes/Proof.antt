@@ -3,8 +3,8 @@ use mathlib.Core.Path.{sym, _∙_}
 use lib.ListN.{length}
 use borrow.Author.Tests.{not-true, not-false}
 use Rattle.format.specs.FieldAnswer.{numberOf}
-use Rattle.format.specs.ParseLaws.{answered, each-got, each-bad}
-use Rattle.format.specs.TscLaws.{nodes-no-count, nodes-outside, nodes-refused, nodes-read}
+use Rattle.format.proofs.ParseLaws.{answered, each-got, each-bad}
+use Rattle.format.proofs.TscLaws.{nodes-no-count, nodes-outside, nodes-refused, nodes-read}
 use Rattle.format.proofs.tsc.all_nodes.Statement.{statement}
 use Rattle.format.proofs.tsc.all_nodes.Tie as tie
 

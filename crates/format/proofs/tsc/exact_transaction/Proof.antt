@@ -2,9 +2,9 @@ use borrow.Author.Needs.{needs}
 use mathlib.Core.Path.{sym}
 use Rattle.format.specs.FieldAnswer.{runOf}
 use Rattle.format.specs.TransactionAnswer.{txAnswer}
-use Rattle.format.specs.ParseLaws.{answered, each-got, each-bad}
+use Rattle.format.proofs.ParseLaws.{answered, each-got, each-bad}
 use Rattle.format.specs.Transaction.{txHeadOf}
-use Rattle.format.specs.TscLaws.{exact-short, exact-fault, exact-other, exact-read}
+use Rattle.format.proofs.TscLaws.{exact-short, exact-fault, exact-other, exact-read}
 use Rattle.format.proofs.tsc.exact_transaction.Statement.{statement}
 use Rattle.format.proofs.tsc.exact_transaction.Tie as tie
 

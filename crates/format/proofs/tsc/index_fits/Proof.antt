@@ -1,7 +1,7 @@
 use borrow.Author.Needs.{needs}
 use native.Mathlib.Omega.{arith}
 use mathlib.Core.Path.{sym}
-use Rattle.format.specs.TscLaws.{fits-all, fits-shifted}
+use Rattle.format.proofs.TscLaws.{fits-all, fits-shifted}
 use Rattle.format.proofs.tsc.index_fits.Statement.{statement}
 use Rattle.format.proofs.tsc.index_fits.Tie as tie
 

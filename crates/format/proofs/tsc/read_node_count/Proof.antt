@@ -1,7 +1,7 @@
 use borrow.Author.Needs.{needs}
 use borrow.Author.Tests.{le-leb, lt-leb}
 use Rattle.format.specs.FieldAnswer.{numberOf}
-use Rattle.format.specs.ParseLaws.{answered}
+use Rattle.format.proofs.ParseLaws.{answered}
 use Rattle.format.specs.Tsc.{nodeCountField}
 use Rattle.format.proofs.tsc.read_node_count.Statement.{statement}
 use Rattle.format.proofs.tsc.read_node_count.Tie as tie

@@ -2,7 +2,7 @@ use borrow.Author.Needs.{needs}
 use mathlib.Core.Path.{_∙_}
 use borrow.Author.Tests.{eq-eqb, ne-eqb}
 use Rattle.format.specs.FieldAnswer.{runOf}
-use Rattle.format.specs.ParseLaws.{answered}
+use Rattle.format.proofs.ParseLaws.{answered}
 use Rattle.format.specs.Parse.{each}
 use Rattle.format.specs.Tsc.{subjectField}
 use Rattle.format.proofs.tsc.read_subject.Statement.{statement}

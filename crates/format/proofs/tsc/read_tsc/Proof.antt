@@ -1,6 +1,6 @@
 use borrow.Author.Needs.{needs}
 use mathlib.Core.Path.{sym}
-use Rattle.format.specs.ParseLaws.{whole-too-long, whole-refused, whole-extra, whole-read, answered}
+use Rattle.format.proofs.ParseLaws.{whole-too-long, whole-refused, whole-extra, whole-read, answered}
 use Rattle.format.specs.TscAnswer.{tscAnswer}
 use Rattle.format.proofs.tsc.read_tsc.Statement.{statement}
 use Rattle.format.proofs.tsc.read_tsc.Tie as tie

@@ -3,10 +3,10 @@ use mathlib.Core.Path.{sym, _∙_}
 use Rattle.format.specs.FieldAnswer.{numberOf, runOf}
 use Rattle.format.specs.TransactionAnswer.{itemsAnswer}
 use Rattle.format.specs.TscAnswer.{subjectAnswer}
-use Rattle.format.specs.ParseLaws.{go, stop, answered, each-got, each-bad}
+use Rattle.format.proofs.ParseLaws.{go, stop, answered, each-got, each-bad}
 use Rattle.format.specs.Transaction.{itemsOf}
 use Rattle.format.specs.Tsc.{tscField}
-use Rattle.format.specs.TscLaws.{tsc-head}
+use Rattle.format.proofs.TscLaws.{tsc-head}
 use Rattle.format.proofs.tsc.tsc_at.Statement.{statement}
 use Rattle.format.proofs.tsc.tsc_at.Tie as tie
 

@@ -2,9 +2,9 @@ use borrow.Author.Needs.{needs}
 use mathlib.Core.Path.{sym, _∙_}
 use lib.ListN.{length}
 use Rattle.format.specs.FieldAnswer.{numberOf}
-use Rattle.format.specs.ParseLaws.{go, stop, answered, each-got, each-bad}
+use Rattle.format.proofs.ParseLaws.{go, stop, answered, each-got, each-bad}
 use Rattle.format.specs.Transaction.{listField}
-use Rattle.format.specs.TransactionLaws.{list-head}
+use Rattle.format.proofs.TransactionLaws.{list-head}
 use Rattle.format.proofs.tx.all_outputs.Statement.{statement}
 use Rattle.format.proofs.tx.all_outputs.Tie as tie
 

@@ -2,9 +2,9 @@ use borrow.Author.Needs.{needs}
 use mathlib.Core.Path.{sym, _∙_}
 use Rattle.format.specs.FieldAnswer.{runOf}
 use Rattle.format.specs.TransactionAnswer.{itemsAnswer}
-use Rattle.format.specs.ParseLaws.{go, stop, answered, each-got, each-bad}
+use Rattle.format.proofs.ParseLaws.{go, stop, answered, each-got, each-bad}
 use Rattle.format.specs.Transaction.{itemsOf, fieldsBy}
-use Rattle.format.specs.TransactionLaws.{tx-head}
+use Rattle.format.proofs.TransactionLaws.{tx-head}
 use Rattle.format.proofs.tx.read_fields.Statement.{statement}
 use Rattle.format.proofs.tx.read_fields.Tie as tie
 

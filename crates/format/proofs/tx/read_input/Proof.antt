@@ -1,6 +1,6 @@
 use borrow.Author.Needs.{needs}
 use Rattle.format.specs.FieldAnswer.{runOf}
-use Rattle.format.specs.ParseLaws.{answered}
+use Rattle.format.proofs.ParseLaws.{answered}
 use Rattle.format.specs.Transaction.{inputField}
 use Rattle.format.proofs.tx.read_input.Statement.{statement}
 use Rattle.format.proofs.tx.read_input.Tie as tie

@@ -2,10 +2,10 @@ use borrow.Author.Needs.{needs}
 use native.Mathlib.Omega.{arith}
 use mathlib.Core.Path.{_≡_, sym, _∙_}
 use Rattle.format.specs.FieldAnswer.{numberOf}
-use Rattle.format.specs.ParseLaws.{answered}
+use Rattle.format.proofs.ParseLaws.{answered}
 use Rattle.format.specs.Parse.{each, many}
 use Rattle.format.specs.Transaction.{takes, outputField, outputsField}
-use Rattle.format.specs.TransactionLaws.{output-told, outputs-start, outputs-step, outputs-refused, outputs-done}
+use Rattle.format.proofs.TransactionLaws.{output-told, outputs-start, outputs-step, outputs-refused, outputs-done}
 use Prim.Native.Nat.{_≤_, _-_, _+_}
 use lib.ListN.{length}
 use Rattle.format.proofs.tx.read_outputs.Statement.{statement}

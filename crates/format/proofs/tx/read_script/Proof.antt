@@ -1,7 +1,7 @@
 use borrow.Author.Needs.{needs}
 use mathlib.Core.Path.{_∙_}
 use Rattle.format.specs.FieldAnswer.{numberOf}
-use Rattle.format.specs.ParseLaws.{answered}
+use Rattle.format.proofs.ParseLaws.{answered}
 use Rattle.format.specs.Transaction.{scriptField}
 use Rattle.format.proofs.tx.read_script.Statement.{statement}
 use Rattle.format.proofs.tx.read_script.Tie as tie

@@ -1,7 +1,7 @@
 use borrow.Author.Needs.{needs}
 use borrow.Author.Tests.{le-leb, lt-leb}
 use Rattle.format.specs.FieldAnswer.{numberOf}
-use Rattle.format.specs.ParseLaws.{answered}
+use Rattle.format.proofs.ParseLaws.{answered}
 use Rattle.format.specs.Transaction.{someField}
 use Rattle.format.proofs.tx.read_some.Statement.{statement}
 use Rattle.format.proofs.tx.read_some.Tie as tie

@@ -1,5 +1,5 @@
 use borrow.Author.Needs.{needs}
-use Rattle.format.specs.ParseLaws.{whole-too-long, whole-refused, whole-extra, whole-read, answered}
+use Rattle.format.proofs.ParseLaws.{whole-too-long, whole-refused, whole-extra, whole-read, answered}
 use Rattle.format.specs.TransactionAnswer.{txAnswer}
 use mathlib.Core.Path.{sym}
 use Rattle.format.proofs.tx.read_transaction.Statement.{statement}

@@ -1,4 +1,4 @@
-use Rattle.format.specs.ParseLaws.{answered}
+use Rattle.format.proofs.ParseLaws.{answered}
 use Rattle.format.specs.Bump.{bumpAnswer, refusalOfBump}
 use Rattle.spv.specs.Result.{refusedReading}
 use Rattle.leaflist.proofs.RowsLaws.{unread, no-room, told-refused, left-refused, built-count, built-words}

@@ -3,11 +3,11 @@ use Prim.Native.Nat.{_-_, _≤_}
 use native.Mathlib.Omega.{arith}
 use borrow.Author.Needs.{needs}
 use lib.ListN.{length}
-use Rattle.format.specs.ParseLaws.{answered}
+use Rattle.format.proofs.ParseLaws.{answered}
 use Rattle.path.specs.LeafAnswer.{leafOf}
 use Rattle.encoding.specs.Buffer.{buffer}
 use Rattle.listing.specs.Walk.{walkLeaves}
-use Rattle.listing.specs.WalkLaws.{leaves-start, leaves-more, leaves-refused, leaves-done}
+use Rattle.listing.proofs.WalkLaws.{leaves-start, leaves-more, leaves-refused, leaves-done}
 use Rattle.listing.proofs.lines.write_leaves.Statement.{statement}
 use Rattle.listing.proofs.lines.write_leaves.Tie as tie
 

@@ -1,8 +1,8 @@
 use mathlib.Core.Path.{sym, _∙_}
-use Rattle.format.specs.ParseLaws.{answered}
+use Rattle.format.proofs.ParseLaws.{answered}
 use Rattle.format.specs.FieldAnswer.{numberOf}
 use Rattle.listing.specs.Listing.{levelLine}
-use Rattle.listing.specs.WalkLaws.{level-refused, level-counted}
+use Rattle.listing.proofs.WalkLaws.{level-refused, level-counted}
 use borrow.Author.Needs.{needs}
 use Rattle.listing.proofs.lines.write_level.Statement.{statement}
 use Rattle.listing.proofs.lines.write_level.Tie as tie

@@ -5,7 +5,7 @@ use borrow.Author.Needs.{needs}
 use lib.ListN.{length}
 use Rattle.encoding.specs.Buffer.{buffer}
 use Rattle.listing.specs.Walk.{Walk, walkLevels}
-use Rattle.listing.specs.WalkLaws.{levels-start, levels-more, levels-done}
+use Rattle.listing.proofs.WalkLaws.{levels-start, levels-more, levels-done}
 use Rattle.listing.proofs.lines.write_levels.Statement.{statement}
 use Rattle.listing.proofs.lines.write_levels.Tie as tie
 

@@ -1,5 +1,5 @@
 use mathlib.Core.Path.{_∙_}
-use Rattle.listing.specs.TextLaws.{decimal-one, decimal-on}
+use Rattle.listing.proofs.TextLaws.{decimal-one, decimal-on}
 use borrow.Author.Needs.{needs}
 use Prim.Native.Nat.{ℕ, _<_}
 use borrow.Fn.Kinds.{In}

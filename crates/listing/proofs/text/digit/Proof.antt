@@ -1,5 +1,5 @@
 use mathlib.Core.Path.{sym}
-use Rattle.listing.specs.TextLaws.{digit-low, digit-high}
+use Rattle.listing.proofs.TextLaws.{digit-low, digit-high}
 use borrow.Author.Needs.{needs}
 use Rattle.listing.proofs.text.digit.Statement.{statement}
 use Rattle.listing.proofs.text.digit.Tie as tie

@@ -4,7 +4,7 @@ use native.Mathlib.Omega.{arith}
 use borrow.Author.Needs.{needs}
 use lib.ListN.{length, take}
 use Rattle.listing.specs.Text.{printed}
-use Rattle.listing.specs.TextLaws.{printed-start, printed-on, printed-end}
+use Rattle.listing.proofs.TextLaws.{printed-start, printed-on, printed-end}
 use Rattle.encoding.specs.Buffer.{buffer, writeOn}
 use Rattle.listing.proofs.text.write_hash.Statement.{statement}
 use Rattle.listing.proofs.text.write_hash.Tie as tie

@@ -1,6 +1,6 @@
 use Rattle.merging.proofs.MergeLaws.{never-unread, agreed-read}
 use Rattle.format.specs.Bump.{bumpAnswer}
-use Rattle.format.specs.ParseLaws.{answered}
+use Rattle.format.proofs.ParseLaws.{answered}
 use borrow.Author.Needs.{needs}
 use Rattle.merging.proofs.merging.merge_checked.Statement.{statement}
 use Rattle.merging.proofs.merging.merge_checked.Tie as tie

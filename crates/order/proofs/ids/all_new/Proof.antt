@@ -6,7 +6,7 @@ use borrow.Author.Tests.{lt-ltb, le-ltb}
 use native.Mathlib.Numerals.{add-one}
 use native.Mathlib.Omega.{arith}
 use Rattle.spv.specs.Hashes.{hashes, indexOf}
-use Rattle.spv.specs.HashesLaws.{hashes-length}
+use Rattle.spv.proofs.HashesLaws.{hashes-length}
 use Rattle.order.proofs.IdsLaws.{keys-fewer, Newly, newly-start, newly-on, newly-fails, newly-ends, new-here}
 use Rattle.order.proofs.ids.all_new.Statement.{statement}
 use Rattle.order.proofs.ids.all_new.Tie as tie

@@ -4,7 +4,7 @@ use lib.ListN.{length}
 use borrow.Author.Needs.{needs}
 use native.Mathlib.Nat.{sub-zero}
 use native.Mathlib.Omega.{arith}
-use Rattle.format.specs.ParseLaws.{answered}
+use Rattle.format.proofs.ParseLaws.{answered}
 use Rattle.format.specs.TransactionAnswer.{txAnswer}
 use Rattle.spv.specs.Hashes.{hashes}
 use Rattle.order.specs.Parents.{filledFrom}

@@ -3,7 +3,7 @@ use mathlib.Core.Path.{_≡_, refl, sym, _∙_}
 use native.Mathlib.Omega.{arith}
 use borrow.Author.Needs.{needs}
 use lib.ListN.{length}
-use Rattle.format.specs.ParseLaws.{answered}
+use Rattle.format.proofs.ParseLaws.{answered}
 use Rattle.format.specs.TransactionAnswer.{txAnswer}
 use Rattle.order.specs.SetRead.{placedBy}
 use Rattle.order.proofs.SetTurns.{Reading, reading-start, reading-refused, reading-on, reading-extra, reading-end}

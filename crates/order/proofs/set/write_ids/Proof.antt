@@ -4,7 +4,7 @@ use native.Mathlib.Omega.{arith}
 use borrow.Author.Needs.{needs}
 use lib.ListN.{length}
 use Rattle.spv.specs.Spans.{Hashed}
-use Rattle.spv.specs.SpansLaws.{hashed-none, hashed-enough, hashed-four}
+use Rattle.spv.proofs.SpansLaws.{hashed-none, hashed-enough, hashed-four}
 use Rattle.order.specs.SetRead.{between}
 use Rattle.order.proofs.SetTurns.{ids-made}
 use Rattle.order.proofs.set.write_ids.Statement.{statement}

@@ -1,7 +1,7 @@
 use borrow.Author.Needs.{needs}
 use mathlib.Core.Path.{_∙_}
 use Rattle.format.specs.FieldAnswer.{numberOf}
-use Rattle.format.specs.ParseLaws.{answered}
+use Rattle.format.proofs.ParseLaws.{answered}
 use Rattle.path.specs.Search.{leafOfLevel}
 use Rattle.path.proofs.path.find_in_level.Statement.{statement}
 use Rattle.path.proofs.path.find_in_level.Tie as tie

@@ -1,6 +1,6 @@
 use borrow.Author.Needs.{needs}
 use Rattle.path.specs.LeafAnswer.{leafOf}
-use Rattle.format.specs.ParseLaws.{answered}
+use Rattle.format.proofs.ParseLaws.{answered}
 use Rattle.path.proofs.path.kind_at.Statement.{statement}
 use Rattle.path.proofs.path.kind_at.Tie as tie
 use Rattle.path.proofs.walk.leaf_at.Reads as leaf-at-reads

@@ -5,8 +5,8 @@ use Prim.Native.Nat.{_≤_, _-_}
 use native.Mathlib.Nat.{sub-zero}
 use lib.ListN.{length, length-set}
 use Rattle.format.specs.FieldAnswer.{numberOf}
-use Rattle.format.specs.LevelLaws.{turn-below}
-use Rattle.format.specs.ParseLaws.{answered, each-got, each-bad}
+use Rattle.format.proofs.LevelLaws.{turn-below}
+use Rattle.format.proofs.ParseLaws.{answered, each-got, each-bad}
 use Rattle.path.specs.Path.{placing, places}
 use Rattle.path.proofs.PathLaws.{placing-end, placing-stop, placing-on}
 use Rattle.path.proofs.path.level_places.Statement.{statement}

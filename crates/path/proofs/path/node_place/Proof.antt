@@ -1,6 +1,6 @@
 use borrow.Author.Needs.{needs}
 use Rattle.format.specs.LevelAnswer.{kindOf}
-use Rattle.format.specs.ParseLaws.{answered}
+use Rattle.format.proofs.ParseLaws.{answered}
 use Rattle.path.specs.TscPath.{nodePlaceField}
 use Rattle.path.proofs.path.node_place.Statement.{statement}
 use Rattle.path.proofs.path.node_place.Tie as tie

@@ -2,8 +2,8 @@ use borrow.Author.Needs.{needs}
 use mathlib.Core.Path.{_∙_}
 use Prim.Native.Nat.{ℕ, _-_}
 use Rattle.format.specs.FieldAnswer.{runOf}
-use Rattle.format.specs.ParseLaws.{answered}
-use Rattle.format.specs.Gather.{Gathering, gather-start, gather-step, gather-refused, gather-done, each-same}
+use Rattle.format.proofs.ParseLaws.{answered}
+use Rattle.format.proofs.Gather.{Gathering, gather-start, gather-step, gather-refused, gather-done, each-same}
 use Rattle.path.specs.TscPath.{nodePlaceField}
 use Rattle.path.proofs.TscPathLaws.{places-kept, places-refused}
 use Rattle.path.proofs.path.node_places.Statement.{statement}

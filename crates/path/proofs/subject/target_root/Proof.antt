@@ -3,7 +3,7 @@ use native.Mathlib.Omega.{arith}
 use mathlib.Core.Path.{sym, _∙_}
 use borrow.Author.Tests.{eq-eqb, ne-eqb}
 use Rattle.format.specs.Tsc.{targetRoot}
-use Rattle.format.specs.TscLaws.{root-none}
+use Rattle.format.proofs.TscLaws.{root-none}
 use Rattle.path.proofs.subject.target_root.Statement.{statement}
 use Rattle.path.proofs.subject.target_root.Tie as tie
 

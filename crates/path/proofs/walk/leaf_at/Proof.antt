@@ -1,7 +1,7 @@
 use borrow.Author.Needs.{needs}
 use Rattle.format.specs.FieldAnswer.{numberOf}
 use Rattle.format.specs.LevelAnswer.{kindOf}
-use Rattle.format.specs.ParseLaws.{answered}
+use Rattle.format.proofs.ParseLaws.{answered}
 use Rattle.path.specs.Loose.{looseLeaf}
 use Rattle.path.proofs.walk.leaf_at.Statement.{statement}
 use Rattle.path.proofs.walk.leaf_at.Tie as tie

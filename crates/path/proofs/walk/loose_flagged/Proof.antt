@@ -1,7 +1,7 @@
 use borrow.Author.Needs.{needs}
 use mathlib.Core.Path.{_∙_}
 use Rattle.format.specs.FieldAnswer.{numberOf}
-use Rattle.format.specs.ParseLaws.{answered}
+use Rattle.format.proofs.ParseLaws.{answered}
 use Rattle.path.specs.Loose.{looseCarried}
 use Rattle.path.proofs.walk.loose_flagged.Statement.{statement}
 use Rattle.path.proofs.walk.loose_flagged.Tie as tie

@@ -4,7 +4,7 @@ use mathlib.Core.Path.{_≡_, sym, _∙_}
 use Prim.Native.Nat.{_≤_, _-_, _+_}
 use lib.ListN.{length}
 use Rattle.format.specs.Parse.{each, times}
-use Rattle.format.specs.ParseLaws.{count-start, count-step, count-refused, count-done}
+use Rattle.format.proofs.ParseLaws.{count-start, count-step, count-refused, count-done}
 use Rattle.path.specs.Loose.{looseLeaf}
 use Rattle.path.proofs.StepLaws.{tells-as}
 use Rattle.path.proofs.walk.skip_leaves.Statement.{statement}

@@ -2,7 +2,7 @@ use borrow.Author.Needs.{needs}
 use mathlib.Core.Path.{_∙_}
 use Rattle.format.specs.FieldAnswer.{numberOf}
 use Rattle.format.specs.Parse.{each}
-use Rattle.format.specs.ParseLaws.{answered}
+use Rattle.format.proofs.ParseLaws.{answered}
 use Rattle.path.specs.Loose.{looseLevel}
 use Rattle.path.proofs.walk.skip_level.Statement.{statement}
 use Rattle.path.proofs.walk.skip_level.Tie as tie

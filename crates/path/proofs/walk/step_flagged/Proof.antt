@@ -1,6 +1,6 @@
 use borrow.Author.Needs.{needs}
 use Rattle.format.specs.FieldAnswer.{numberOf}
-use Rattle.format.specs.ParseLaws.{answered}
+use Rattle.format.proofs.ParseLaws.{answered}
 use Rattle.path.proofs.StepLaws.{flagged-stuck, flagged-on}
 use Rattle.path.proofs.walk.step_flagged.Statement.{statement}
 use Rattle.path.proofs.walk.step_flagged.Tie as tie

@@ -1,6 +1,6 @@
 use borrow.Author.Needs.{needs}
 use Rattle.format.specs.FieldAnswer.{runOf}
-use Rattle.format.specs.ParseLaws.{answered}
+use Rattle.format.proofs.ParseLaws.{answered}
 use Rattle.path.proofs.StepLaws.{step-copy, step-short, step-hash}
 use Rattle.path.proofs.walk.step_kind.Statement.{statement}
 use Rattle.path.proofs.walk.step_kind.Tie as tie

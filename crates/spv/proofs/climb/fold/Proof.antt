@@ -2,7 +2,7 @@ use mathlib.Core.Path.{_∙_, sym, ap}
 use borrow.Author.Needs.{needs}
 use Rattle.spv.specs.Climb.{Sibling, step}
 use Rattle.spv.specs.Shapes.{joinedOf}
-use Rattle.spv.specs.ShapesLaws.{is-value, is-copied, is-absent}
+use Rattle.spv.proofs.ShapesLaws.{is-value, is-copied, is-absent}
 use Rattle.spv.proofs.climb.fold.Statement.{statement}
 use Rattle.spv.proofs.climb.fold.Tie as tie
 

@@ -2,7 +2,7 @@ use mathlib.Core.Path.{_∙_, sym, ap}
 use mathlib.Core.Bool.{Bool}
 use borrow.Author.Needs.{needs}
 use Rattle.spv.specs.Climb.{joined}
-use Rattle.spv.specs.ClimbLaws.{joined-even, joined-odd, joined-twin}
+use Rattle.spv.proofs.ClimbLaws.{joined-even, joined-odd, joined-twin}
 use Rattle.spv.specs.Shapes.{joinedOf}
 use Rattle.spv.proofs.climb.placed.Statement.{statement}
 use Rattle.spv.proofs.climb.placed.Tie as tie

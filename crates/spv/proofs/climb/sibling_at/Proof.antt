@@ -1,6 +1,6 @@
 use mathlib.Core.Path.{sym, _∙_}
-use Rattle.spv.specs.SiblingsLaws.{path-here, path-missing}
-use Rattle.spv.specs.ShapesLaws.{node-says}
+use Rattle.spv.proofs.SiblingsLaws.{path-here, path-missing}
+use Rattle.spv.proofs.ShapesLaws.{node-says}
 use borrow.Author.Needs.{needs}
 use Rattle.spv.proofs.climb.sibling_at.Statement.{statement}
 use Rattle.spv.proofs.climb.sibling_at.Tie as tie

@@ -1,6 +1,6 @@
 use mathlib.Core.Path.{sym}
 use borrow.Author.Needs.{needs}
-use Rattle.spv.specs.ClimbLaws.{sibling-odd, sibling-even}
+use Rattle.spv.proofs.ClimbLaws.{sibling-odd, sibling-even}
 use Rattle.spv.proofs.climb.sibling_position.Statement.{statement}
 use Rattle.spv.proofs.climb.sibling_position.Tie as tie
 

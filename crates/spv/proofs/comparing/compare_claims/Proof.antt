@@ -1,7 +1,7 @@
 use mathlib.Core.Path.{_∙_, sym, ap}
 use borrow.Author.Needs.{needs}
 use Rattle.spv.specs.Shapes.{comparedOf}
-use Rattle.spv.specs.ShapesLaws.{told-refused, told-second, told-accepted, claims-both}
+use Rattle.spv.proofs.ShapesLaws.{told-refused, told-second, told-accepted, claims-both}
 use Rattle.spv.proofs.comparing.compare_claims.Statement.{statement}
 use Rattle.spv.proofs.comparing.compare_claims.Tie as tie
 

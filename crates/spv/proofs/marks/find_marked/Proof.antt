@@ -2,8 +2,8 @@ use Prim.Native.Nat.{_+_, _*_}
 use mathlib.Core.Path.{sym, _∙_}
 use native.Mathlib.Omega.{arith}
 use Rattle.format.specs.FieldAnswer.{numberOf}
-use Rattle.format.specs.ParseLaws.{answered}
-use Rattle.spv.specs.MarksLaws.{marked-at, mark-within, mark-rises, mark-finds}
+use Rattle.format.proofs.ParseLaws.{answered}
+use Rattle.spv.proofs.MarksLaws.{marked-at, mark-within, mark-rises, mark-finds}
 use borrow.Author.Needs.{needs}
 use Rattle.spv.proofs.marks.find_marked.Statement.{statement}
 use Rattle.spv.proofs.marks.find_marked.Tie as tie

@@ -2,8 +2,8 @@ use borrow.Author.Needs.{needs}
 use native.Mathlib.Omega.{arith}
 use Prim.Native.Nat.{_-_, _+_}
 use Rattle.path.specs.LeafAnswer.{leafOf}
-use Rattle.format.specs.ParseLaws.{answered}
-use Rattle.spv.specs.MarksLaws.{Chosen, chosen-first, chosen-next}
+use Rattle.format.proofs.ParseLaws.{answered}
+use Rattle.spv.proofs.MarksLaws.{Chosen, chosen-first, chosen-next}
 use Rattle.spv.proofs.marks.last_mark.Statement.{statement}
 use Rattle.spv.proofs.marks.last_mark.Tie as tie
 

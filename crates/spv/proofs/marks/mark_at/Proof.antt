@@ -1,8 +1,8 @@
 use mathlib.Core.Path.{refl, sym, subst}
 use Rattle.format.specs.FieldAnswer.{numberOf}
-use Rattle.format.specs.ParseLaws.{answered}
+use Rattle.format.proofs.ParseLaws.{answered}
 use Rattle.spv.specs.Marks.{IsMark}
-use Rattle.spv.specs.MarksLaws.{mark-zero, mark-first, mark-next, mark-narrowed}
+use Rattle.spv.proofs.MarksLaws.{mark-zero, mark-first, mark-next, mark-narrowed}
 use borrow.Author.Needs.{needs}
 use Rattle.spv.proofs.marks.mark_at.Statement.{statement}
 use Rattle.spv.proofs.marks.mark_at.Tie as tie

@@ -4,9 +4,9 @@ use mathlib.Core.Path.{_≡_, sym, _∙_}
 use Prim.Native.Nat.{_≤_, _-_}
 use native.Mathlib.Nat.{sub-zero}
 use Rattle.path.specs.LeafAnswer.{leafOf}
-use Rattle.format.specs.ParseLaws.{answered}
+use Rattle.format.proofs.ParseLaws.{answered}
 use Rattle.spv.specs.Marks.{after}
-use Rattle.spv.specs.MarksLaws.{after-stuck, after-next, after-none}
+use Rattle.spv.proofs.MarksLaws.{after-stuck, after-next, after-none}
 use Rattle.spv.proofs.marks.place_after.Statement.{statement}
 use Rattle.spv.proofs.marks.place_after.Tie as tie
 

@@ -5,9 +5,9 @@ use mathlib.Core.Bool.{true}
 use Prim.Native.Nat.{ℕ, _≤_, _-_}
 use native.Mathlib.Nat.{sub-zero}
 use Rattle.path.specs.LeafAnswer.{leafOf}
-use Rattle.format.specs.ParseLaws.{answered}
+use Rattle.format.proofs.ParseLaws.{answered}
 use Rattle.spv.specs.Marks.{rises}
-use Rattle.spv.specs.MarksLaws.{rises-stop, rises-step, rises-end}
+use Rattle.spv.proofs.MarksLaws.{rises-stop, rises-step, rises-end}
 use Rattle.spv.proofs.marks.rises_from.Statement.{statement}
 use Rattle.spv.proofs.marks.rises_from.Tie as tie
 

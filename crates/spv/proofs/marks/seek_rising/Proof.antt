@@ -5,11 +5,11 @@ use mathlib.Core.Bool.{true}
 use Prim.Native.Nat.{_≤_, _-_}
 use native.Mathlib.Nat.{sub-zero}
 use Rattle.path.specs.LeafAnswer.{leafOf}
-use Rattle.format.specs.ParseLaws.{answered}
+use Rattle.format.proofs.ParseLaws.{answered}
 use Rattle.path.specs.Search.{seek}
 use Rattle.path.proofs.SearchLaws.{seek-end, seek-stop, seek-here, seek-on}
 use Rattle.spv.specs.Marks.{rises}
-use Rattle.spv.specs.MarksLaws.{rises-lower, rises-next, past-rising}
+use Rattle.spv.proofs.MarksLaws.{rises-lower, rises-next, past-rising}
 use Rattle.spv.proofs.marks.seek_rising.Statement.{statement}
 use Rattle.spv.proofs.marks.seek_rising.Tie as tie
 

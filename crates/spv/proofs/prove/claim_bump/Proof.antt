@@ -1,14 +1,14 @@
 use mathlib.Core.Path.{sym, _∙_, ap}
 use borrow.Author.Needs.{needs}
 use Rattle.path.specs.declared.path.Path.{Path}
-use Rattle.format.specs.ParseLaws.{answered, each-got, each-bad}
+use Rattle.format.proofs.ParseLaws.{answered, each-got, each-bad}
 use Rattle.format.specs.Bump.{headOf, bumpWhole, bumpAnswer, refusalOfBump}
 use Rattle.path.specs.Path.{bumpPathOf}
 use Rattle.spv.specs.Result.{refusedReading}
 use Rattle.spv.specs.Compare.{prove}
 use Rattle.spv.specs.Readings.{pathReading}
-use Rattle.spv.specs.ReadingsLaws.{bump-refused, bump-proves}
-use Rattle.spv.specs.ShapesLaws.{claimed-unread}
+use Rattle.spv.proofs.ReadingsLaws.{bump-refused, bump-proves}
+use Rattle.spv.proofs.ShapesLaws.{claimed-unread}
 use Rattle.spv.proofs.prove.claim_bump.Statement.{statement}
 use Rattle.spv.proofs.prove.claim_bump.Tie as tie
 

@@ -5,7 +5,7 @@ use Rattle.spv.specs.Readings.{starting, pathReading}
 use Rattle.spv.specs.Siblings.{pathSiblings}
 use Rattle.spv.specs.Compare.{targetOf}
 use Rattle.spv.specs.Shapes.{claimed, claimedBy, opened}
-use Rattle.spv.specs.ShapesLaws.{claimed-unread}
+use Rattle.spv.proofs.ShapesLaws.{claimed-unread}
 use Rattle.spv.proofs.prove.claim_in.Statement.{statement}
 use Rattle.spv.proofs.prove.claim_in.Tie as tie
 

@@ -1,12 +1,12 @@
 use mathlib.Core.Path.{sym, _∙_, ap, refl}
 use borrow.Author.Needs.{needs}
-use Rattle.format.specs.ParseLaws.{answered, each-got, each-bad}
+use Rattle.format.proofs.ParseLaws.{answered, each-got, each-bad}
 use Rattle.format.specs.Tsc.{tscHeadOf, tscWhole}
 use Rattle.format.specs.TscAnswer.{tscAnswer, refusalOfTsc}
 use Rattle.spv.specs.Result.{refusedReading}
-use Rattle.spv.specs.ShapesLaws.{tsc-claim, claimed-unread}
+use Rattle.spv.proofs.ShapesLaws.{tsc-claim, claimed-unread}
 use Rattle.spv.specs.Compare.{prove}
-use Rattle.spv.specs.ReadingsLaws.{tsc-refused}
+use Rattle.spv.proofs.ReadingsLaws.{tsc-refused}
 use Rattle.spv.proofs.prove.claim_tsc.Statement.{statement}
 use Rattle.spv.proofs.prove.claim_tsc.Tie as tie
 

@@ -2,7 +2,7 @@ use mathlib.Core.Path.{sym, refl, _∙_, ap}
 use borrow.Author.Needs.{needs}
 use Rattle.spv.specs.Compare.{Reading, proveBy, prove}
 use Rattle.spv.specs.Shapes.{provedOf}
-use Rattle.spv.specs.ShapesLaws.{claimed-read, claimed-unread}
+use Rattle.spv.proofs.ShapesLaws.{claimed-read, claimed-unread}
 use Rattle.spv.proofs.prove.prove_claim.Statement.{statement}
 use Rattle.spv.proofs.prove.prove_claim.Tie as tie
 

@@ -2,9 +2,9 @@ use mathlib.Core.Path.{sym, _∙_, ap}
 use borrow.Author.Needs.{needs}
 use Rattle.spv.specs.declared.rejection.Rejection.{Rejection}
 use Rattle.spv.specs.Result.{refused}
-use Rattle.spv.specs.CompareLaws.{prove-stop, prove-root, prove-differ}
+use Rattle.spv.proofs.CompareLaws.{prove-stop, prove-root, prove-differ}
 use Rattle.spv.specs.Shapes.{opened, provedOf}
-use Rattle.spv.specs.ShapesLaws.{told-root, told-stop}
+use Rattle.spv.proofs.ShapesLaws.{told-root, told-stop}
 use Rattle.spv.proofs.prove.settle.Statement.{statement}
 use Rattle.spv.proofs.prove.settle.Tie as tie
 

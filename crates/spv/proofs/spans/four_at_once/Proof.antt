@@ -1,4 +1,4 @@
-use Rattle.spv.specs.SpansLaws.{made-four}
+use Rattle.spv.proofs.SpansLaws.{made-four}
 use borrow.Author.Needs.{needs}
 use Rattle.spv.proofs.spans.four_at_once.Statement.{statement}
 use Rattle.spv.proofs.spans.four_at_once.Tie as tie

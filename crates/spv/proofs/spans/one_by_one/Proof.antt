@@ -1,4 +1,4 @@
-use Rattle.spv.specs.SpansLaws.{made-each}
+use Rattle.spv.proofs.SpansLaws.{made-each}
 use borrow.Author.Needs.{needs}
 use Rattle.spv.proofs.spans.one_by_one.Statement.{statement}
 use Rattle.spv.proofs.spans.one_by_one.Tie as tie

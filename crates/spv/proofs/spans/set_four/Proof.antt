@@ -1,5 +1,5 @@
 use Rattle.spv.specs.Spans.{setFour}
-use Rattle.spv.specs.SpansLaws.{four-past}
+use Rattle.spv.proofs.SpansLaws.{four-past}
 use borrow.Author.Needs.{needs}
 use Rattle.spv.proofs.spans.set_four.Statement.{statement}
 use Rattle.spv.proofs.spans.set_four.Tie as tie

@@ -12,9 +12,9 @@ use Rattle.spv.specs.Shapes.{siblingOf}
 use Rattle.spv.specs.Trace.{asCarried}
 use Rattle.spv.specs.declared.node.Node.{Node}
 use Rattle.spv.specs.Low.{Low}
-use Rattle.spv.specs.LowLaws.{low-start, low-half, low-sibling}
+use Rattle.spv.proofs.LowLaws.{low-start, low-half, low-sibling}
 use Rattle.spv.specs.Siblings.{pathSiblings}
-use Rattle.spv.specs.ShapesLaws.{told-joins, told-fails}
+use Rattle.spv.proofs.ShapesLaws.{told-joins, told-fails}
 use Rattle.spv.proofs.Turns.{Climbing, climbing-start, climbing-end, climbing-up, climbing-stop}
 use Rattle.spv.proofs.Traces.{Trailing, trailing-start, trailing-end, trailing-up, trailing-stop}
 use Rattle.spv.proofs.trace.climb_writing.Statement.{statement}

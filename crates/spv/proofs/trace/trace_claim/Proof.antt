@@ -1,6 +1,6 @@
 use mathlib.Core.Path.{sym, refl, _∙_, ap}
 use Rattle.spv.specs.Compare.{Reading, proveBy, prove}
-use Rattle.spv.specs.ShapesLaws.{claimed-read, claimed-unread}
+use Rattle.spv.proofs.ShapesLaws.{claimed-read, claimed-unread}
 use Rattle.spv.specs.Trace.{tracedOf}
 use borrow.Author.Needs.{needs}
 use Rattle.spv.proofs.trace.trace_claim.Statement.{statement}

@@ -1,11 +1,11 @@
 use mathlib.Core.Path.{sym, _∙_, ap}
 use Rattle.spv.specs.declared.rejection.Rejection.{Rejection}
 use Rattle.spv.specs.Result.{refused}
-use Rattle.spv.specs.CompareLaws.{prove-stop, prove-root, prove-differ}
+use Rattle.spv.proofs.CompareLaws.{prove-stop, prove-root, prove-differ}
 use Rattle.spv.specs.Shapes.{opened}
-use Rattle.spv.specs.ShapesLaws.{told-root, told-stop}
+use Rattle.spv.proofs.ShapesLaws.{told-root, told-stop}
 use Rattle.spv.specs.Trace.{tracedOf}
-use Rattle.spv.specs.TraceLaws.{traced-root}
+use Rattle.spv.proofs.TraceLaws.{traced-root}
 use borrow.Author.Needs.{needs}
 use Rattle.spv.proofs.trace.trace_settled.Statement.{statement}
 use Rattle.spv.proofs.trace.trace_settled.Tie as tie

@@ -1,5 +1,5 @@
 use Rattle.encoding.proofs.BufferLaws.{wrote-byte, wrote-cons}
-use Rattle.spv.specs.TraceLaws.{text-value, text-copied, text-absent}
+use Rattle.spv.proofs.TraceLaws.{text-value, text-copied, text-absent}
 use borrow.Author.Needs.{needs}
 use Rattle.spv.proofs.trace.write_sibling.Statement.{statement}
 use Rattle.spv.proofs.trace.write_sibling.Tie as tie

@@ -4,12 +4,12 @@ use mathlib.Core.Path.{ap, ap₂, sym, _∙_}
 use native.Mathlib.Omega.{arith}
 use Rattle.spv.specs.Climb.{Sibling, absent}
 use Rattle.spv.specs.Siblings.{writtenBy, findAt}
-use Rattle.spv.specs.SiblingsLaws.{value-found, value-missing}
+use Rattle.spv.proofs.SiblingsLaws.{value-found, value-missing}
 use Rattle.spv.specs.Values.{hasValue, joinBoth, valueOf}
-use Rattle.spv.specs.ValuesLaws.{join-zero, join-none, join-two}
-use Rattle.spv.specs.LowLaws.{low-left, low-right, low-fits}
+use Rattle.spv.proofs.ValuesLaws.{join-zero, join-none, join-two}
+use Rattle.spv.proofs.LowLaws.{low-left, low-right, low-fits}
 use Rattle.spv.specs.Shapes.{siblingOf}
-use Rattle.spv.specs.ShapesLaws.{node-says}
+use Rattle.spv.proofs.ShapesLaws.{node-says}
 use Prim.Native.Nat.{ℕ, _+_, _-_, _*_, _<_}
 use borrow.Fn.Kinds.{In}
 use borrow.Fn.PlainCycle.{Measures, is, falls, and}

@@ -1,7 +1,7 @@
 use mathlib.Core.Path.{ap, sym}
 use borrow.Author.Needs.{needs}
 use Rattle.spv.specs.Values.{hasValue}
-use Rattle.spv.specs.ShapesLaws.{is-value, is-copied, is-absent}
+use Rattle.spv.proofs.ShapesLaws.{is-value, is-copied, is-absent}
 use Rattle.spv.proofs.values.has_value.Statement.{statement}
 use Rattle.spv.proofs.values.has_value.Tie as tie
 

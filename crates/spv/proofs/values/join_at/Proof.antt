@@ -3,7 +3,7 @@ use Prim.Native.Nat.{ℕ, _-_}
 use mathlib.Core.Path.{_≡_}
 use lib.ListN.{length, length-replicate}
 use native.Mathlib.Omega.{arith}
-use Rattle.spv.specs.MarksLaws.{Filling, filling-start, filling-more, filling-end, no-marks}
+use Rattle.spv.proofs.MarksLaws.{Filling, filling-start, filling-more, filling-end, no-marks}
 use Rattle.spv.proofs.values.join_at.Statement.{statement}
 use Rattle.spv.proofs.values.join_at.Tie as tie
 

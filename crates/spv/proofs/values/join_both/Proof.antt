@@ -5,9 +5,9 @@ use borrow.Author.Needs.{needs}
 use borrow.Author.Tests.{not-true, not-false}
 use Rattle.spv.specs.Climb.{value}
 use Rattle.spv.specs.Values.{joinBoth}
-use Rattle.spv.specs.ValuesLaws.{both-left, both-right}
+use Rattle.spv.proofs.ValuesLaws.{both-left, both-right}
 use Rattle.spv.specs.Shapes.{nodeOf, siblingOf, siblingBy}
-use Rattle.spv.specs.ShapesLaws.{is-valued}
+use Rattle.spv.proofs.ShapesLaws.{is-valued}
 use Rattle.spv.proofs.values.join_both.Statement.{statement}
 use Rattle.spv.proofs.values.join_both.Tie as tie
 

@@ -3,8 +3,8 @@ use mathlib.Core.Path.{sym, _∙_}
 use native.Mathlib.Omega.{arith}
 use Rattle.path.specs.Path.{layersOf}
 use Rattle.spv.specs.Climb.{absent}
-use Rattle.spv.specs.SiblingsLaws.{join-outside, join-bump, join-cmp, join-tsc}
-use Rattle.spv.specs.ShapesLaws.{node-says}
+use Rattle.spv.proofs.SiblingsLaws.{join-outside, join-bump, join-cmp, join-tsc}
+use Rattle.spv.proofs.ShapesLaws.{node-says}
 use borrow.Author.Needs.{needs}
 use Rattle.spv.proofs.values.join_in.Statement.{statement}
 use Rattle.spv.proofs.values.join_in.Tie as tie

@@ -4,7 +4,7 @@ use Rattle.spv.specs.Climb.{absent}
 use Rattle.spv.specs.Values.{valueBy}
 use Rattle.spv.specs.Siblings.{written}
 use Rattle.spv.specs.Shapes.{siblingOf}
-use Rattle.spv.specs.ShapesLaws.{node-says}
+use Rattle.spv.proofs.ShapesLaws.{node-says}
 use borrow.Author.Needs.{needs}
 use Rattle.spv.proofs.values.value_here.Statement.{statement}
 use Rattle.spv.proofs.values.value_here.Tie as tie

@@ -1,0 +1,11 @@
+pub mod Once
+pub mod Rising
+pub mod NoDifference
+pub mod FillingLaws
+pub mod MergeLaws
+pub mod MergeTheorem
+pub mod WalkTheorem
+pub mod SameLeaves
+pub mod ListingLaws
+pub mod Examples
+pub mod ShorterLaws
