@@ -70,31 +70,14 @@
  * with the C library's memcpy and memset, which are all that it calls. Only the working out of a
  * sibling recurses, once a level, and is counted here.
  *
- * Cost. Working out a sibling takes fewer joins than leaves lie under it, so one climb makes fewer
- * joins than its path has layers and leaves: fewer than 64 + n / 2 by a path of n bytes, and fewer
- * than 57,406 by any. Each node that is asked for is searched for among the leaves of its level;
- * where offsets rise this takes about as long as the joins, and else up to seven times as long.
- * A page climbs once for each id, all clients once for each client leaf, and a bundle once for each
- * transaction that names a BUMP. Climbs by one path are made together, up to 256 at a time, and each
- * node's value is made once for all of them: whatever the bytes, that takes at most two joins for
- * each climb and layer, one for each layer and one for each leaf of the path. Turning a proof into
- * the other form climbs once, and takes hardly longer than proving by it. The worst inputs known,
- * offsets in no order, on a machine where a join takes half a microsecond:
- *   - one climb, by a BUMP of 480 KB that is mostly copies: 54,188 joins, 0.2 s;
- *   - a page of 256 ids by such a BUMP, or a bundle with 256 transactions in it: 0.2 s;
- *   - all clients of such a BUMP that has 512 of them, in two parts of the tree: 0.4 s;
- *   - all clients of a BUMP of 36 KB that has 1,024 clients and nothing else: 12 ms;
- *   - a bundle of 16 MB whose last transaction spends 331,500 outputs of 255 others, in any order:
- *     0.1 s;
- *   - a set of 256 transactions with 400,000 inputs in all, put in order: 0.1 s;
- *   - two BUMPs of 1,024 clients each and nothing else, merged: 60 ms;
- *   - two BUMPs of 64 full levels, 2 MB each, merged: 32 ms;
- *   - the BUMP of 480 KB with 512 clients, merged with itself: 3 s, of which checking it twice is
- *     one.
- * A caller who has less time bounds the bytes that it takes. Of a bundle that was judged, *work
- * says in SHA-256 compressions what judging costs by the rules, one climb after the other. The
- * library itself makes fewer where climbs share siblings. As it hashes four climbs at a time, it
- * may make one join more for each climb and layer, where one of the four waits for a sibling.
+ * Cost. Whatever the bytes, one climb makes fewer joins than its path has layers and leaves: fewer
+ * than 64 + n / 2 by a path of n bytes, and fewer than 57,406 by any. A page climbs once for each
+ * id, all clients once for each client leaf, a bundle once for each transaction that names a BUMP,
+ * and merging twice for each client leaf of either. But for clients of a level of up to four leaves,
+ * climbs by one path are made together, up to 256 at a time: at most two joins for each climb and
+ * layer, one for each layer and one for each leaf. Each node that is asked for is searched for among
+ * the leaves of its level, which takes longest where offsets don't rise. Times, also of the worst
+ * inputs known, are in docs/SPEED.md. A caller who has less time bounds the bytes that it takes.
  */
 #ifndef BARROWTIDE_H
 #define BARROWTIDE_H
@@ -382,6 +365,58 @@ uint32_t barrowtide_read_tsc(const uint8_t *data, size_t len, barrowtide_blame *
 uint32_t barrowtide_read_beef(const uint8_t *data, size_t len, barrowtide_blame *blame,
                               uint64_t *bumps, uint64_t *transactions);
 
+/* ---- Judging ---- */
+
+/* What an accepted bundle says of one transaction. Records of earlier versions took 64 bytes: a
+   table that one of them saved must not be read as one of these, but its bundle judged anew. */
+typedef struct {
+    uint64_t start;    /* the place of its first byte in the bundle */
+    uint64_t length;   /* how many bytes it takes */
+    uint8_t id[32];    /* its id */
+    uint32_t bump;     /* the number of the BUMP that anchors it; 0 if not anchored */
+    uint32_t anchored; /* 1 if a BUMP of the bundle anchors it in a trusted root, and else 0 */
+    uint64_t position; /* its position in the block; 0 if not anchored */
+    uint64_t outputs;  /* how many outputs it has */
+    uint64_t total;    /* what they come to, in satoshi */
+} barrowtide_record;
+
+/* Judges a BEEF bundle against trusted roots, which stand end to end in roots_len bytes, possibly
+   none, and a fee in satoshi. Every transaction must climb in its BUMP to a trusted root, as with
+   barrowtide_prove_bump, or have an earlier transaction of the bundle as parent of each input. Such
+   a one must spend outputs that its parents have, none of them twice and none that another such one
+   before it spends, and its inputs must come to more than its outputs plus the fee: strictly more,
+   so that a fee of 0 asks for one satoshi at least. The fee is asked of each of them by itself; any
+   number may be given, and nothing wraps. What a transaction with a BUMP spends is not looked at.
+   All amounts are those of the bundle's own bytes.
+   The table has room for table_len records; BARROWTIDE_MAX_TRANSACTIONS are always enough. On
+   acceptance *transactions is their number n, the first n records are filled and the others are
+   zeroed; a refusal zeroes the whole table.
+   *work is the number of SHA-256 compressions (of 64 bytes each) that judging takes, for those who
+   plan a terminal's battery by it; it is written on every answer, and below 2^32. It is counted by
+   these rules, whatever the library saves by making a hash once for several uses:
+   - (n + 72) / 64, rounded down, plus 1 for the id of a transaction of n bytes; each id once, all
+     of them before the first transaction is judged;
+   - 3 for each join of two nodes, one for each layer of the climb of a transaction with a BUMP;
+   - a sibling that has to be worked out counts its own join and those of its children, in each
+     climb that asks for it; one that is written, a copy, or one that can't be had counts nothing;
+   - a refused climb counts the layers below its fault and, for 15, what the sibling there took; the
+     climbs of later transactions count nothing;
+   - 1, 21 and refusals in reading (2 to 12, 18, 22, 25) count 0.
+   Where all siblings are written, an accepted bundle thus counts its transactions and 3 for each
+   layer of each BUMP, as often as a transaction names it, and a refusal in judging no more.
+   What acceptance does not say:
+   - Scripts and signatures are not run.
+   - What mined transactions spend is not looked at: a payment may spend it again.
+   - Until a block holds a transaction, what it spends can still be spent elsewhere.
+   - A BUMP's block height is the sender's word.
+   - Which transaction is the payment, and whom it pays, is not asked.
+   Refused: 1; 21; 2 to 8, 10 to 12, 18, 22 and 25 in the fields; 9; then transaction by transaction
+   19, and 13, 14 or 15, 17 if it names a BUMP, or else 20, 26, 27, 28. */
+uint32_t barrowtide_judge_beef(const uint8_t *data, size_t len, const uint8_t *roots,
+                               size_t roots_len, uint64_t fee, barrowtide_record *table,
+                               size_t table_len, barrowtide_blame *blame, uint64_t *transactions,
+                               uint64_t *work);
+
 /* ---- Proving. The input is read as above first, with the refusals of reading. A proof is worth as
    much as its root is trusted. 15 rules out the twins that make a block look as if it held a
    transaction twice. Nothing in a proof shows that its id is a transaction's: an inner node of the
@@ -413,8 +448,8 @@ uint32_t barrowtide_prove_tsc(const uint8_t *data, size_t len, barrowtide_blame 
                               uint8_t root[32]);
 
 /* Climbs from every client leaf (flags 02) of a BUMP in written order, each climb as for
-   barrowtide_prove_bump; all must lead to one root. This is the call that can take the longest: see
-   "Cost" above. Refused after reading: 13 if there is none; leaf by leaf 14 or 15, then 16. */
+   barrowtide_prove_bump; all must lead to one root.
+   Refused after reading: 13 if there is none; leaf by leaf 14 or 15, then 16. */
 uint32_t barrowtide_check_clients(const uint8_t *data, size_t len, barrowtide_blame *blame,
                                   uint8_t root[32]);
 
@@ -492,8 +527,6 @@ enum barrowtide_difference {
    for list_len / 3 entries; 3 * BARROWTIDE_MAX_DIFFERENCES are always enough. On acceptance
    *entries is the number of entries, which stand at the front of the list; the numbers past them
    stay as they were, and all of the list on a refusal.
-   Levels whose offsets rise take one pass, others are put in order first: two BUMPs of 64 levels of
-   1,024 leaves in any order take 25 ms.
    Refused: as barrowtide_read_bump for the first, then for the second; 22 if there are more
    differences than room. */
 uint32_t barrowtide_differences(const uint8_t *first, size_t first_len, const uint8_t *second,
@@ -557,96 +590,6 @@ uint32_t barrowtide_merge(const uint8_t *first, size_t first_len, const uint8_t 
                           size_t second_len, uint8_t *bytes, size_t bytes_len, uint64_t *list,
                           size_t list_len, barrowtide_blame *blame, uint64_t *written,
                           uint64_t *leaves);
-
-/* ---- Judging ---- */
-
-/* What an accepted bundle says of one transaction. Records of earlier versions took 64 bytes: a
-   table that one of them saved must not be read as one of these, but its bundle judged anew. */
-typedef struct {
-    uint64_t start;    /* the place of its first byte in the bundle */
-    uint64_t length;   /* how many bytes it takes */
-    uint8_t id[32];    /* its id */
-    uint32_t bump;     /* the number of the BUMP that anchors it; 0 if not anchored */
-    uint32_t anchored; /* 1 if a BUMP of the bundle anchors it in a trusted root, and else 0 */
-    uint64_t position; /* its position in the block; 0 if not anchored */
-    uint64_t outputs;  /* how many outputs it has */
-    uint64_t total;    /* what they come to, in satoshi */
-} barrowtide_record;
-
-/* Blames, records and answers have no padding, and each field its place. */
-#if defined(__cplusplus) && __cplusplus >= 201103L
-#define BARROWTIDE_TAKES(type, size) static_assert(sizeof(type) == size, #type " takes " #size)
-#define BARROWTIDE_AT(type, field, place)                                                          \
-    static_assert(offsetof(type, field) == place, #type " has " #field " at " #place)
-#elif defined(__STDC_VERSION__) && __STDC_VERSION__ >= 201112L
-#define BARROWTIDE_TAKES(type, size) _Static_assert(sizeof(type) == size, #type " takes " #size)
-#define BARROWTIDE_AT(type, field, place)                                                          \
-    _Static_assert(offsetof(type, field) == place, #type " has " #field " at " #place)
-#else
-#define BARROWTIDE_TAKES(type, size) typedef char type##_takes_##size[sizeof(type) == size ? 1 : -1]
-#define BARROWTIDE_AT(type, field, place)                                                          \
-    typedef char type##_has_##field##_at_##place[offsetof(type, field) == place ? 1 : -1]
-#endif
-BARROWTIDE_TAKES(barrowtide_blame, 24);
-BARROWTIDE_AT(barrowtide_blame, carried, 0);
-BARROWTIDE_AT(barrowtide_blame, layer, 8);
-BARROWTIDE_AT(barrowtide_blame, sibling, 16);
-BARROWTIDE_TAKES(barrowtide_answer, 80);
-BARROWTIDE_AT(barrowtide_answer, refusal, 0);
-BARROWTIDE_AT(barrowtide_answer, carried, 8);
-BARROWTIDE_AT(barrowtide_answer, layer, 16);
-BARROWTIDE_AT(barrowtide_answer, sibling, 24);
-BARROWTIDE_AT(barrowtide_answer, position, 32);
-BARROWTIDE_AT(barrowtide_answer, layers, 40);
-BARROWTIDE_AT(barrowtide_answer, root, 48);
-BARROWTIDE_TAKES(barrowtide_record, 80);
-BARROWTIDE_AT(barrowtide_record, start, 0);
-BARROWTIDE_AT(barrowtide_record, length, 8);
-BARROWTIDE_AT(barrowtide_record, id, 16);
-BARROWTIDE_AT(barrowtide_record, bump, 48);
-BARROWTIDE_AT(barrowtide_record, anchored, 52);
-BARROWTIDE_AT(barrowtide_record, position, 56);
-BARROWTIDE_AT(barrowtide_record, outputs, 64);
-BARROWTIDE_AT(barrowtide_record, total, 72);
-#undef BARROWTIDE_TAKES
-#undef BARROWTIDE_AT
-
-/* Judges a BEEF bundle against trusted roots, which stand end to end in roots_len bytes, possibly
-   none, and a fee in satoshi. Every transaction must climb in its BUMP to a trusted root, or have
-   an earlier transaction of the bundle as parent of each input. Such a one must spend outputs that
-   its parents have, none of them twice and none that another such one before it spends, and its
-   inputs must come to more than its outputs plus the fee: strictly more, so that a fee of 0 asks
-   for one satoshi at least. The fee is asked of each of them by itself; any number may be given,
-   and nothing wraps. What a transaction with a BUMP spends is not looked at. All amounts are those
-   of the bundle's own bytes.
-   The table has room for table_len records;
-   BARROWTIDE_MAX_TRANSACTIONS are always enough. On acceptance *transactions is their number n, the
-   first n records are filled and the others are zeroed; a refusal zeroes the whole table.
-   *work is the number of SHA-256 compressions (of 64 bytes each) that judging takes, for those who
-   plan a terminal's battery by it; it is written on every answer, and below 2^32. It is counted by
-   these rules, whatever the library saves by making a hash once for several uses:
-   - (n + 72) / 64, rounded down, plus 1 for the id of a transaction of n bytes; each id once, all
-     of them before the first transaction is judged;
-   - 3 for each join of two nodes, one for each layer of the climb of a transaction with a BUMP;
-   - a sibling that has to be worked out counts its own join and those of its children, in each
-     climb that asks for it; one that is written, a copy, or one that can't be had counts nothing;
-   - a refused climb counts the layers below its fault and, for 15, what the sibling there took; the
-     climbs of later transactions count nothing;
-   - 1, 21 and refusals in reading (2 to 12, 18, 22, 25) count 0.
-   Where all siblings are written, an accepted bundle thus counts its transactions and 3 for each
-   layer of each BUMP, as often as a transaction names it, and a refusal in judging no more.
-   What acceptance does not say:
-   - Scripts and signatures are not run.
-   - What mined transactions spend is not looked at: a payment may spend it again.
-   - Until a block holds a transaction, what it spends can still be spent elsewhere.
-   - A BUMP's block height is the sender's word.
-   - Which transaction is the payment, and whom it pays, is not asked.
-   Refused: 1; 21; 2 to 8, 10 to 12, 18, 22 and 25 in the fields; 9; then transaction by transaction
-   19, and 13, 14 or 15, 17 if it names a BUMP, or else 20, 26, 27, 28. */
-uint32_t barrowtide_judge_beef(const uint8_t *data, size_t len, const uint8_t *roots,
-                               size_t roots_len, uint64_t fee, barrowtide_record *table,
-                               size_t table_len, barrowtide_blame *blame, uint64_t *transactions,
-                               uint64_t *work);
 
 /* ---- Putting transactions in order, as a BEEF needs them ---- */
 
@@ -722,6 +665,45 @@ uint32_t barrowtide_tsc_to_bump(const uint8_t *data, size_t len, uint32_t block_
 uint32_t barrowtide_bump_to_tsc(const uint8_t *data, size_t len, const uint8_t id[32],
                                 uint8_t *out, size_t out_len, barrowtide_blame *blame,
                                 uint64_t *written);
+
+/* ---- Layouts: blames, records and answers have no padding, and each field its place ---- */
+
+#if defined(__cplusplus) && __cplusplus >= 201103L
+#define BARROWTIDE_TAKES(type, size) static_assert(sizeof(type) == size, #type " takes " #size)
+#define BARROWTIDE_AT(type, field, place)                                                          \
+    static_assert(offsetof(type, field) == place, #type " has " #field " at " #place)
+#elif defined(__STDC_VERSION__) && __STDC_VERSION__ >= 201112L
+#define BARROWTIDE_TAKES(type, size) _Static_assert(sizeof(type) == size, #type " takes " #size)
+#define BARROWTIDE_AT(type, field, place)                                                          \
+    _Static_assert(offsetof(type, field) == place, #type " has " #field " at " #place)
+#else
+#define BARROWTIDE_TAKES(type, size) typedef char type##_takes_##size[sizeof(type) == size ? 1 : -1]
+#define BARROWTIDE_AT(type, field, place)                                                          \
+    typedef char type##_has_##field##_at_##place[offsetof(type, field) == place ? 1 : -1]
+#endif
+BARROWTIDE_TAKES(barrowtide_blame, 24);
+BARROWTIDE_AT(barrowtide_blame, carried, 0);
+BARROWTIDE_AT(barrowtide_blame, layer, 8);
+BARROWTIDE_AT(barrowtide_blame, sibling, 16);
+BARROWTIDE_TAKES(barrowtide_answer, 80);
+BARROWTIDE_AT(barrowtide_answer, refusal, 0);
+BARROWTIDE_AT(barrowtide_answer, carried, 8);
+BARROWTIDE_AT(barrowtide_answer, layer, 16);
+BARROWTIDE_AT(barrowtide_answer, sibling, 24);
+BARROWTIDE_AT(barrowtide_answer, position, 32);
+BARROWTIDE_AT(barrowtide_answer, layers, 40);
+BARROWTIDE_AT(barrowtide_answer, root, 48);
+BARROWTIDE_TAKES(barrowtide_record, 80);
+BARROWTIDE_AT(barrowtide_record, start, 0);
+BARROWTIDE_AT(barrowtide_record, length, 8);
+BARROWTIDE_AT(barrowtide_record, id, 16);
+BARROWTIDE_AT(barrowtide_record, bump, 48);
+BARROWTIDE_AT(barrowtide_record, anchored, 52);
+BARROWTIDE_AT(barrowtide_record, position, 56);
+BARROWTIDE_AT(barrowtide_record, outputs, 64);
+BARROWTIDE_AT(barrowtide_record, total, 72);
+#undef BARROWTIDE_TAKES
+#undef BARROWTIDE_AT
 
 #ifdef __cplusplus
 }
