@@ -73,11 +73,12 @@
  * Cost. Whatever the bytes, one climb makes fewer joins than its path has layers and leaves: fewer
  * than 64 + n / 2 by a path of n bytes, and fewer than 57,406 by any. A page climbs once for each
  * id, all clients once for each client leaf, a bundle once for each transaction that names a BUMP,
- * and merging twice for each client leaf of either. But for clients of a level of up to four leaves,
- * climbs by one path are made together, up to 256 at a time: at most two joins for each climb and
- * layer, one for each layer and one for each leaf. Each node that is asked for is searched for among
- * the leaves of its level, which takes longest where offsets don't rise. Times, also of the worst
- * inputs known, are in docs/SPEED.md. A caller who has less time bounds the bytes that it takes.
+ * and merging twice for each client leaf of either. But for clients of a level of up to four
+ * leaves, climbs by one path are made together, up to 256 at a time, each time with at most one
+ * join for each climb and layer, one for each layer and one for each leaf. Each node that is asked
+ * for is searched for among the leaves of its level, which takes longest where offsets don't rise.
+ * Times, also of the worst inputs known, are in docs/SPEED.md. A caller who has less time bounds
+ * the bytes that it takes.
  */
 #ifndef BARROWTIDE_H
 #define BARROWTIDE_H
