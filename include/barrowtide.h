@@ -67,8 +67,8 @@
  *   -  1 KiB  barrowtide_sha256d, barrowtide_join, barrowtide_parts_start, barrowtide_parts_part,
  *             barrowtide_parts_end
  *   -  4 KiB  every other call
- * with the C library's memcpy and memset, which are all that it calls. Only the working out of a
- * sibling recurses, once a level, and is counted here.
+ * with the C library's memcpy and memset, which are all that it calls. Only the working out of
+ * siblings, of one climb or of many, recurses, once a level, and is counted here.
  *
  * Cost. Whatever the bytes, one climb makes fewer joins than its path has layers and leaves: fewer
  * than 64 + n / 2 by a path of n bytes, and fewer than 57,406 by any. A page climbs once for each
