@@ -43,9 +43,10 @@
 //! than 57,406 by any. Each node that is asked for is searched for among the leaves of its level,
 //! which takes longer than the joins where offsets do not rise. A page climbs once for each id,
 //! [`check_clients`] once for each client leaf, and a bundle once for each transaction that names a
-//! BUMP. Climbs by one path are made together, up to 256 at a time, and each node's value is made
-//! once for all of them: whatever the bytes, that takes at most two joins for each climb and layer,
-//! one for each layer and one for each leaf of the path. Where a join takes half a microsecond, the
+//! BUMP. But for clients of a level of up to four leaves, climbs by one path are made together, up
+//! to 256 at a time, and each node's value is made once for all of them: whatever the bytes, that
+//! takes at most one join for each climb and layer, one for each layer and one for each leaf of the
+//! path. Where a join takes half a microsecond, the
 //! worst inputs known take 0.2 s for one climb, a page or a bundle, and 0.4 s for all clients.
 //!
 //! # Byte order
