@@ -2,8 +2,8 @@
 # Finds libbarrowtide.a: the one that is kept in dist/, if it was proved from the sources as they stand, and else the one
 # of target/staticlib, which is proved anew unless it was made from them. What counts is what files hold, not their times.
 #
-# Sourced by ./barrowtide, ./install, dist/renew and .ci/run, which set `top`. Run by itself, as the Rust crate's build.rs
-# does, it prints where the archive is.
+# Sourced by ./barrowtide, ./install, dist/renew and .ci/run, which set `top`. Run by itself, as the build.rs of
+# barrowtide-sys does, it prints where the archive is.
 set -euo pipefail
 [ "${BASH_SOURCE[0]}" != "$0" ] || top=$(dirname "$(readlink -f "$0")")/..
 top=$(realpath "$top")
@@ -130,7 +130,8 @@ find_program() {
     target=$(realpath -m "$target")
     program=$target/release/barrowtide
     built=$program.built
-    of=$(cd "$top/bindings/rust" && "$top/dist/sources" Cargo.toml Cargo.lock build.rs src)\ $(sha256 "$archive")
+    of=$(cd "$top/bindings/rust" && "$top/dist/sources" Cargo.toml Cargo.lock barrowtide-sys/build.rs \
+        {barrowtide-sys,barrowtide,cli}/{Cargo.toml,src})\ $(sha256 "$archive")
     if [ -x "$program" ] && [ -f "$built" ] && [ "$(cat "$built")" = "$of $(sha256 "$program")" ]; then
         return
     fi
