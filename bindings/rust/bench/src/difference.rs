@@ -6,7 +6,8 @@ use reference::generate::path::Plan;
 use reference::generate::random::Random;
 use reference::generate::tree::Tree;
 
-use crate::read::{falling, heading, row, seconds_of};
+use crate::inputs::path::{beside, falling};
+use crate::read::{heading, row, seconds_of};
 
 /// Prints the table of differences.
 pub fn run() {
@@ -29,21 +30,6 @@ pub fn run() {
         }
         compare(&format!("{height} levels of 1,024 shuffled, {name}"), &first, &second);
     }
-}
-
-/// A path of falling leaves at the offsets of [`falling`], or at others where there are any.
-fn beside(height: u32, apart: bool) -> Plan {
-    let mut path = falling(height, false);
-    for leaf in path.levels.iter_mut().flatten() {
-        leaf.hash = [0xbb; 32];
-    }
-    if apart {
-        for leaves in path.levels.iter_mut().filter(|leaves| leaves.len() == 1_024) {
-            let least = leaves[1_023].offset;
-            leaves.iter_mut().for_each(|leaf| leaf.offset -= least);
-        }
-    }
-    path
 }
 
 fn compare(name: &str, first: &Plan, second: &Plan) {

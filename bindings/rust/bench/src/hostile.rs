@@ -2,19 +2,13 @@
 //! joins, in no order.
 
 use barrowtide::{merge_into, prove_page_into, Answer, Record, MAX_LISTED, MAX_PAGE, MERGE_EXTRA};
-use reference::generate::path::{Leaf, Plan};
 use reference::generate::random::Random;
 use reference::generate::{bundle, transaction};
 use reference::Hash;
 
+use crate::inputs::path::{two_parts, HEIGHT};
 use crate::joins::{heading_most, most};
 use crate::stored::{check_clients, prove_bump};
-
-const HEIGHT: usize = 64;
-/// The level of the two siblings that are worked out over all leaves that a level may have.
-const TOP: usize = 62;
-/// How many levels below it the first leaves stand.
-const DEPTH: usize = 9;
 
 /// Prints the table of such inputs.
 pub fn run() {
@@ -59,49 +53,4 @@ pub fn run() {
             barrowtide::judge_into(&beef, &roots, 0, &mut table)
         });
     }
-}
-
-/// Clients at the start of each half of a tree, which take turns at level 0. Copies stand beside
-/// them up to the top; there the sibling of each half's is worked out, over copies and as many
-/// leaves as a level may have, and then the other half, with its clients. Without its last leaf
-/// the right half has no value.
-pub fn two_parts(random: &mut Random, ids: &[Hash], missing: bool) -> Plan {
-    let half = ids.len() / 2;
-    let copy = |offset| Leaf { offset, flags: 1, hash: [0; 32] };
-    let mut levels = vec![Vec::new(); HEIGHT];
-    let start = |part: usize| (part as u64) << (HEIGHT - 1);
-    for (number, &hash) in ids.iter().enumerate() {
-        levels[0].push(Leaf { offset: start(number % 2) + number as u64 / 2, flags: 2, hash });
-    }
-    let full = half.next_power_of_two().trailing_zeros() as usize;
-    for part in [0, 1] {
-        for (level, leaves) in levels.iter_mut().enumerate().take(TOP).skip(full) {
-            leaves.push(copy((start(part) >> level) + 1));
-        }
-    }
-    // At each level so many nodes are worked out; the others are written, or copies.
-    let mut worked_out = vec![0, (1_024 - ids.len()) / 4];
-    for level in 2..=TOP - DEPTH {
-        worked_out.push((worked_out[level - 1] + 510) / 2);
-    }
-    for sibling in [1, 3] {
-        let mut nodes: Vec<u64> = (0..1 << DEPTH).map(|node| (sibling << DEPTH) + node).collect();
-        for level in (0..=TOP - DEPTH).rev() {
-            let written = nodes.split_off(worked_out[level]);
-            let leaf = |offset| Leaf { offset, flags: 0, hash: random.hash() };
-            levels[level].extend(written.into_iter().map(leaf));
-            if level > 0 {
-                levels[level - 1].extend(nodes.iter().map(|node| copy(2 * node + 1)));
-                nodes.iter_mut().for_each(|node| *node *= 2);
-            }
-        }
-    }
-    levels[1..].iter_mut().for_each(|level| random.shuffle(level));
-    if missing {
-        let last = |leaf: &Leaf| leaf.flags == 0 && leaf.offset >> TOP == 3;
-        let place =
-            levels[0].iter().rposition(last).expect("a leaf under the right half's sibling");
-        levels[0].remove(place);
-    }
-    Plan { block_height: 1, levels }
 }

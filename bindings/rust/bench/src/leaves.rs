@@ -7,9 +7,9 @@ use reference::generate::tree::Tree;
 use reference::leaves;
 use reference::merge::merge;
 
+use crate::inputs::path::{buried, falling};
 use crate::measure::{seconds, subject};
-use crate::prove::buried;
-use crate::read::{falling, heading, row, seconds_of};
+use crate::read::{heading, row, seconds_of};
 
 /// Prints the tables of lists, searches and merges.
 pub fn run() {

@@ -8,6 +8,7 @@ mod convert;
 mod difference;
 mod hash;
 mod hostile;
+mod inputs;
 mod joins;
 mod judge;
 mod leaves;

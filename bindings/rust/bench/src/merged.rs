@@ -1,7 +1,7 @@
 //! Paths whose inner nodes are left out: the inputs that make the most joins.
 
 use barrowtide::Record;
-use reference::generate::path::{Leaf, Plan};
+use reference::generate::path::Plan;
 use reference::generate::random::Random;
 use reference::generate::tree::Tree;
 use reference::generate::{bundle, transaction};
@@ -9,6 +9,7 @@ use reference::judge::judge;
 use reference::prove;
 use reference::Hash;
 
+use crate::inputs::path::{copied, halving};
 use crate::joins::{heading, long_row, row};
 use crate::measure::subject;
 use crate::stored::{check_clients, prove_bump};
@@ -88,51 +89,4 @@ fn arrange(random: &mut Random, path: &mut Plan, order: &str) {
             random.shuffle(level);
         }
     }
-}
-
-/// The path of most joins that 1,024 leaves a level allow, and how many its climb from position 0
-/// makes. Under the top sibling each level has as many worked-out nodes as its leaves below allow:
-/// of two children the left one is worked out, too, or written, and the right one is written or a
-/// copy. Where they are written the levels are filled up with surplus leaves.
-fn halving(height: usize, copies: bool) -> (Plan, usize) {
-    let leaf = |offset| Leaf { offset, flags: u8::from(copies && offset % 2 == 1), hash: [7; 32] };
-    let mut levels = vec![Vec::new(); height];
-    let mut worked_out = vec![0];
-    for level in 1..=height - 11 {
-        worked_out.push((worked_out[level - 1] + 1_022) / 2);
-    }
-    let joins = height + 1_023 + worked_out.iter().sum::<usize>();
-    // The node at offset 1 of the top level stands over 1,024 nodes ten levels lower.
-    let mut nodes: Vec<u64> = (1_024..2_048).collect();
-    for level in (0..=height - 11).rev() {
-        let written = nodes.split_off(worked_out[level]);
-        levels[level].extend(written.into_iter().map(leaf));
-        if level > 0 {
-            levels[level - 1].extend(nodes.iter().map(|node| leaf(2 * node + 1)));
-            nodes.iter_mut().for_each(|node| *node *= 2);
-        }
-    }
-    levels[0].push(Leaf { hash: [8; 32], ..leaf(0) });
-    for (level, leaves) in levels[..height - 1].iter_mut().enumerate() {
-        leaves.push(leaf(1));
-        let surplus = (2..1 << (height - 1 - level)).take(1_024 - leaves.len());
-        if level > 0 && !copies {
-            leaves.extend(surplus.map(leaf));
-        }
-    }
-    (Plan { block_height: 1, levels }, joins)
-}
-
-/// A path of copies at offset 1 of every level below the last; of the left half only the first
-/// leaf is written besides, and the client is the first of the right half, beside copies, too. So
-/// the top sibling is worked out over all levels below it.
-pub fn copied(height: usize, id: Hash) -> Plan {
-    let position = 1u64 << (height - 1);
-    let leaf = |offset, flags| Leaf { offset, flags, hash: [7; 32] };
-    let mut levels = vec![Vec::new(); height];
-    for (level, leaves) in levels[..height - 1].iter_mut().enumerate() {
-        leaves.extend([leaf(1, 1), leaf((position >> level) + 1, 1)]);
-    }
-    levels[0].extend([leaf(0, 0), Leaf { hash: id, ..leaf(position, 2) }]);
-    Plan { block_height: 1, levels }
 }

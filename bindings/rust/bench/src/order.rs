@@ -4,8 +4,9 @@ use barrowtide::{check_order, order_into, MAX_TRANSACTIONS};
 use reference::generate::random::Random;
 use reference::generate::set;
 use reference::generate::transaction::Plan;
-use reference::{order, Hash};
+use reference::order;
 
+use crate::inputs::set::{full, last};
 use crate::read::{heading, row, seconds_of};
 
 /// Prints the table of sets.
@@ -31,27 +32,6 @@ pub fn run() {
         hash
     };
     compare("400,000 inputs that begin as the last one", &full(alike));
-}
-
-/// Transactions with 400,000 inputs in all, and one more that spends a stranger.
-fn full(parent: impl Fn(usize) -> Hash) -> Vec<Plan> {
-    let others = MAX_TRANSACTIONS - 1;
-    let inputs = |number: usize| 400_000 * (number + 1) / others - 400_000 * number / others;
-    let parents = |number| (0..inputs(number)).map(&parent).collect::<Vec<_>>();
-    let mut plans: Vec<Plan> =
-        (0..others).map(|number| transaction(number, &parents(number))).collect();
-    plans.push(last());
-    plans
-}
-
-fn last() -> Plan {
-    transaction(MAX_TRANSACTIONS - 1, &[[7; 32]])
-}
-
-/// A transaction that spends these, with a lock time of its own.
-fn transaction(number: usize, parents: &[Hash]) -> Plan {
-    let inputs = parents.iter().map(|parent| (*parent, 0, Vec::new(), u32::MAX)).collect();
-    Plan { version: 1, inputs, outputs: vec![(1, Vec::new())], lock_time: number as u32 }
 }
 
 fn compare(name: &str, plans: &[Plan]) {

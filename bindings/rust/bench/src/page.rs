@@ -7,9 +7,9 @@ use reference::generate::tree::Tree;
 use reference::page::prove_page;
 use reference::Hash;
 
+use crate::inputs::path::buried;
 use crate::joins::{at_once, heading, heading_at_once, row};
 use crate::measure::subject;
-use crate::prove::buried;
 use crate::stored::{check_clients, prove_bump};
 
 /// Prints the table of pages.

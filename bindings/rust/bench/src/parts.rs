@@ -4,6 +4,7 @@ use barrowtide::{read_transaction, Received, Refusal, TransactionReader};
 use reference::generate::random::Random;
 use reference::generate::transaction::Plan;
 
+use crate::inputs::transaction::with;
 use crate::measure::{seconds, subject, time};
 
 /// Prints the table of transactions in parts.
@@ -14,17 +15,11 @@ pub fn run() {
     columns.iter().for_each(|column| print!(" {column:>9}"));
     println!(" {:>12}", "a byte alone");
     let mut random = Random::of("parts");
-    let input = |script: Vec<u8>| ([7; 32], 1, script, u32::MAX);
-    let outputs = vec![(1, vec![7; 25]); 2];
-    let plan = |inputs, outputs| Plan { version: 1, inputs, outputs, lock_time: 0 };
-    row("226 bytes", plan(vec![input(random.bytes(107))], outputs.clone()));
-    row("20,000 inputs of 148 bytes", plan(vec![input(vec![7; 107]); 20_000], outputs.clone()));
-    row("40,000 inputs of 41 bytes", plan(vec![input(Vec::new()); 40_000], outputs.clone()));
-    row(
-        "40,000 outputs of 34 bytes",
-        plan(vec![input(Vec::new())], vec![(1, vec![7; 25]); 40_000]),
-    );
-    row("a script of 3,000,000 bytes", plan(vec![input(random.bytes(3_000_000))], outputs));
+    row("226 bytes", with(1, random.bytes(107), 2));
+    row("20,000 inputs of 148 bytes", with(20_000, vec![7; 107], 2));
+    row("40,000 inputs of 41 bytes", with(40_000, Vec::new(), 2));
+    row("40,000 outputs of 34 bytes", with(1, Vec::new(), 40_000));
+    row("a script of 3,000,000 bytes", with(1, random.bytes(3_000_000), 2));
 }
 
 fn row(name: &str, plan: Plan) {

@@ -2,16 +2,16 @@
 
 use reference::compare::Claim;
 use reference::depth::compare_depths;
-use reference::generate::path::{Leaf, Plan};
+use reference::generate::path::Plan;
 use reference::generate::random::Random;
-use reference::generate::transaction;
 use reference::generate::tree::Tree;
 use reference::generate::tsc;
 use reference::prove;
-use reference::Hash;
 
+use crate::inputs::path::buried;
+use crate::inputs::transaction::with;
 use crate::measure::{seconds, subject, Subject};
-use crate::read::{falling, heading, row, seconds_of};
+use crate::read::{heading, row, seconds_of};
 use crate::stored::{check_clients, join, prove_bump, prove_cmp};
 
 /// Prints the tables of proofs.
@@ -53,13 +53,7 @@ pub fn run() {
     let upper = Tree::new((0..512).map(|place| tree.hash(1, place)).collect());
     let short = Plan::of(&upper, &[position / 2]).bump().bytes;
     let node = upper.ids()[position as usize / 2];
-    let raw = transaction::Plan {
-        version: 1,
-        inputs: vec![([7; 32], 0, vec![0; 107], 0)],
-        outputs: vec![(1, vec![0; 25]), (1, vec![0; 25])],
-        lock_time: 0,
-    };
-    let raw = raw.draft().bytes;
+    let raw = with(1, vec![7; 107], 2).draft().bytes;
     assert_eq!(raw.len(), 226);
     let two = (Claim::Bump(short.clone(), node), Claim::Bump(bump.clone(), id));
     let bump_of =
@@ -97,25 +91,4 @@ fn worst_cases(tree: &Tree) {
             seconds_of(|| prove::all_clients(&bytes).expect("sound proofs")),
         );
     }
-}
-
-/// A path of so many levels full of falling leaves; those that the climbs of a small tree's ids ask
-/// for are written last. And its root.
-pub fn buried(tree: &Tree, positions: &[u64], height: u32) -> (Plan, Hash) {
-    let mut path = falling(height, false);
-    let asked = Plan::of(tree, positions);
-    let mut root = tree.root();
-    for (level, leaves) in path.levels.iter_mut().enumerate() {
-        let mut own = asked.levels.get(level).cloned().unwrap_or_else(|| {
-            let sibling = Leaf { offset: 1, flags: 0, hash: [level as u8; 32] };
-            root = join(&root, &sibling.hash);
-            vec![sibling]
-        });
-        own.reverse();
-        let end = 1 << tree.height().saturating_sub(level).max(1);
-        leaves.retain(|leaf| leaf.offset >= end);
-        leaves.truncate(1_024 - own.len());
-        leaves.append(&mut own);
-    }
-    (path, root)
 }

@@ -1,26 +1,14 @@
 //! Reading paths, and searching in what was read.
 
 use barrowtide::{prove_page_into, Answer, MAX_PAGE};
-use reference::generate::path::{Leaf, Plan};
+use reference::generate::path::Plan;
 use reference::generate::random::Random;
-use reference::generate::tree::Tree;
 use reference::page::prove_page;
 use reference::Hash;
-use reference::{bump, generate, tsc};
+use reference::{bump, tsc};
 
+use crate::inputs::path::{apart, falling, small_bump, small_tsc, without_siblings};
 use crate::measure::{seconds, subject, time, time_of};
-
-/// A path of so many levels with as many leaves on each as fit, up to 1,024, their offsets falling.
-/// Copies stand on odd offsets and take ten bytes at most.
-pub fn falling(height: u32, copies: bool) -> Plan {
-    let step = if copies { 2 } else { 1 };
-    let level = |level: u32| {
-        let last = u64::MAX >> (64 - (height - level));
-        let leaf = |n| Leaf { offset: last - step * n, flags: u8::from(copies), hash: [0xaa; 32] };
-        (0..(last / step).min(1_023) + 1).map(leaf).collect()
-    };
-    Plan { block_height: 1, levels: (0..height).map(level).collect() }
-}
 
 /// Prints the tables of reading a path and of searching in it.
 pub fn run() {
@@ -57,17 +45,6 @@ pub fn run() {
     searches(&mut random);
 }
 
-/// Puts the leaves of each level 4,096 or the greatest power of two apart that it has room for: then
-/// all of them share a slot of the reader's, and each is looked for among all before it.
-fn apart(path: &mut Plan) {
-    let height = path.levels.len();
-    for (level, leaves) in path.levels.iter_mut().enumerate() {
-        let step = 1 << (height - level).saturating_sub(10).clamp(1, 12);
-        let count = leaves.len() as u64;
-        (0..count).rev().zip(leaves).for_each(|(n, leaf)| leaf.offset = step * n + 1);
-    }
-}
-
 fn large_row(name: &str, path: &Plan) {
     let path = path.bump().bytes;
     row(
@@ -78,29 +55,12 @@ fn large_row(name: &str, path: &Plan) {
     );
 }
 
-/// A path of so many levels with one leaf each.
-fn small_bump(height: u8) -> Vec<u8> {
-    let level = |level| vec![Leaf { offset: 1, flags: 0, hash: [level; 32] }];
-    Plan { block_height: 1, levels: (0..height).map(level).collect() }.bump().bytes
-}
-
-/// A TSC proof of so many nodes.
-fn small_tsc(count: u8) -> Vec<u8> {
-    let mut proof = generate::tsc::Plan::of(&Tree::new(vec![[7; 32], [8; 32]]), 0);
-    proof.nodes.resize(count.into(), (0, [9; 32]));
-    proof.draft().bytes
-}
-
 /// Pages of ids that make a search and no join: ids that no leaf carries, and ids whose sibling is
 /// not written.
 fn searches(random: &mut Random) {
     heading("Searching a level of 1,024 leaves for 256 ids");
     let ids: Vec<Hash> = (0..1_024).map(|_| random.hash()).collect();
-    let first = (1 << 32) - 2_048;
-    let leaf = |(n, &hash): (u64, &Hash)| Leaf { offset: first + 2 * n, flags: 2, hash };
-    let mut levels = vec![Vec::new(); 32];
-    levels[0] = (0..).zip(&ids).map(leaf).collect();
-    let path = Plan { block_height: 1, levels }.bump().bytes;
+    let path = without_siblings(&ids).bump().bytes;
     let absent: Vec<Hash> = (0..MAX_PAGE).map(|_| random.hash()).collect();
     search("ids that are not there", &path, &absent);
     search("ids at the end, then their siblings", &path, &ids[1_024 - MAX_PAGE..]);

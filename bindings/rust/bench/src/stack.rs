@@ -6,8 +6,8 @@ use reference::generate::random::Random;
 use reference::generate::tree::Tree;
 use reference::generate::{bundle, transaction, tsc};
 
-use crate::hostile::two_parts;
-use crate::merged::copied;
+use crate::inputs::path::{copied, two_parts};
+use crate::inputs::set::of_one_length;
 use crate::stored::prove_bump;
 
 extern "C" {
@@ -41,14 +41,7 @@ pub fn run() {
     let bundle = bundle::Plan { bumps: vec![path], entries, roots: vec![root], fee: 0 };
     let (beef, roots) = (bundle.draft().bytes, bundle.root_list());
 
-    // Of one length, so that it tells their number.
-    let one = |parent| transaction::Plan {
-        version: 1,
-        inputs: vec![([parent; 32], 0, vec![], 0)],
-        outputs: vec![(1, vec![])],
-        lock_time: 0,
-    };
-    let set: Vec<u8> = (0..=255).flat_map(|parent| one(parent).draft().bytes).collect();
+    let set: Vec<u8> = of_one_length().iter().flat_map(|plan| plan.draft().bytes).collect();
 
     let clients: Vec<_> = (0..8).map(|_| random.hash()).collect();
     let many = two_parts(&mut random, &clients, false).bump().bytes;
