@@ -15,7 +15,11 @@ fn files(part: &str, ending: &str) -> Vec<PathBuf> {
     let mut found = Vec::new();
     for entry in fs::read_dir(Path::new(TOP).join("crates")).expect("the crates") {
         let Ok(folder) = fs::read_dir(entry.expect("a crate").path().join(part)) else { continue };
-        found.extend(folder.map(|e| e.expect("a file").path()).filter(|p| p.extension().is_some_and(|e| e == ending)));
+        found.extend(
+            folder
+                .map(|e| e.expect("a file").path())
+                .filter(|p| p.extension().is_some_and(|e| e == ending)),
+        );
     }
     assert!(!found.is_empty(), "no file of {part}");
     found
@@ -23,12 +27,16 @@ fn files(part: &str, ending: &str) -> Vec<PathBuf> {
 
 #[test]
 fn the_table_of_definitions_is_the_one_that_the_sources_give() {
-    let said = Command::new(Path::new(TOP).join("docs/believed")).output().expect("docs/believed runs");
+    let said =
+        Command::new(Path::new(TOP).join("docs/believed")).output().expect("docs/believed runs");
     assert!(said.status.success());
     let table = String::from_utf8(said.stdout).expect("text");
     assert!(table.lines().count() > 50, "{table}");
     let promises = text(&Path::new(TOP).join("docs/PROMISES.md"));
-    assert!(promises.contains(&table), "docs/PROMISES.md has another table than docs/believed prints");
+    assert!(
+        promises.contains(&table),
+        "docs/PROMISES.md has another table than docs/believed prints"
+    );
 }
 
 #[test]
@@ -37,7 +45,11 @@ fn every_file_of_definitions_is_named_where_its_crate_lists_them() {
         let name = file.file_stem().expect("a name").to_str().expect("text");
         if name != "Lib" {
             let list = text(&file.with_file_name("Lib.antt"));
-            assert!(list.lines().any(|line| line == format!("pub mod {name}")), "{}", file.display());
+            assert!(
+                list.lines().any(|line| line == format!("pub mod {name}")),
+                "{}",
+                file.display()
+            );
         }
     }
 }
