@@ -65,3 +65,31 @@ fn no_definition_and_no_contract_cites_a_proof() {
         }
     }
 }
+
+/// Every wrong program that the prover must refuse stands in the promises' list of them, and what stands there is tried.
+#[test]
+fn the_wrong_programs_that_are_told_are_those_that_are_tried() {
+    let mut tried = Vec::new();
+    for file in files("must-fail", "edit") {
+        let folder = file.parent().and_then(Path::parent).expect("a crate");
+        let of = folder.file_name().expect("a name").to_str().expect("text");
+        for line in text(&file).lines() {
+            if let Some(rest) = line.strip_prefix("program: ") {
+                let (name, _) = rest.split_once(" in ").expect("program: NAME in FUNCTION ..");
+                tried.push((of.to_owned(), name.to_owned()));
+            }
+        }
+    }
+    let promises = text(&Path::new(TOP).join("docs/PROMISES.md"));
+    let list = promises.split("\n## ").find(|part| part.starts_with("Wrong programs"));
+    let told: Vec<&str> = list.expect("the list").split('`').skip(1).step_by(2).collect();
+    for (of, name) in &tried {
+        assert!(
+            told.iter().any(|t| t == name || *t == format!("{of}/{name}")),
+            "{of}/{name} is not told"
+        );
+    }
+    for (of, name) in told.iter().filter_map(|t| t.split_once('/')) {
+        assert!(tried.iter().any(|(c, n)| c == of && n == name), "{of}/{name} is not tried");
+    }
+}
