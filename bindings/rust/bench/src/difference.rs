@@ -6,7 +6,7 @@ use reference::generate::path::Plan;
 use reference::generate::random::Random;
 use reference::generate::tree::Tree;
 
-use crate::inputs::path::{beside, falling};
+use crate::inputs::path::{beside, falling, rise, shuffle};
 use crate::read::{heading, row, seconds_of};
 
 /// Prints the table of differences.
@@ -21,13 +21,9 @@ pub fn run() {
     {
         let (mut first, mut second) = (falling(height, false), beside(height, apart));
         compare(&format!("{height} levels of 1,024 falling, {name}"), &first, &second);
-        for path in [&mut first, &mut second] {
-            path.levels.iter_mut().for_each(|leaves| leaves.reverse());
-        }
+        [&mut first, &mut second].into_iter().for_each(rise);
         compare(&format!("{height} levels of 1,024 rising, {name}"), &first, &second);
-        for path in [&mut first, &mut second] {
-            path.levels.iter_mut().for_each(|leaves| random.shuffle(leaves));
-        }
+        [&mut first, &mut second].into_iter().for_each(|path| shuffle(&mut random, path));
         compare(&format!("{height} levels of 1,024 shuffled, {name}"), &first, &second);
     }
 }

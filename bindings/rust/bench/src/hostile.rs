@@ -3,10 +3,10 @@
 
 use barrowtide::{merge_into, prove_page_into, Answer, Record, MAX_LISTED, MAX_PAGE, MERGE_EXTRA};
 use reference::generate::random::Random;
-use reference::generate::{bundle, transaction};
 use reference::Hash;
 
-use crate::inputs::path::{two_parts, HEIGHT};
+use crate::inputs::bundle::in_two_parts;
+use crate::inputs::path::HEIGHT;
 use crate::joins::{heading_most, most};
 use crate::stored::{check_clients, prove_bump};
 
@@ -15,11 +15,9 @@ pub fn run() {
     heading_most("Inputs made to cost the most, beside the joins of the bound");
     let mut random = Random::of("hostile");
     for (name, missing) in [("", false), (", one leaf missing", true)] {
-        let entries: Vec<_> =
-            (0..256).map(|_| (transaction::Plan::mined(&mut random), Some(0))).collect();
-        let mut ids: Vec<Hash> = entries.iter().map(|entry| entry.0.id()).collect();
-        ids.resize_with(512, || random.hash());
-        let path = two_parts(&mut random, &ids, missing);
+        let plan = in_two_parts(&mut random, missing);
+        let path = &plan.bumps[0];
+        let ids: Vec<Hash> = plan.entries.iter().map(|entry| entry.0.id()).collect();
         let bump = path.bump().bytes;
         let leaves: usize = path.levels.iter().map(Vec::len).sum();
         let alone = prove_bump(&bump, &ids[0]).map(|proof| proof.root);
@@ -30,7 +28,7 @@ pub fn run() {
             || check_clients(&bump),
         );
 
-        let page = ids[..MAX_PAGE].as_flattened();
+        let page = ids.as_flattened();
         let mut answers = [Answer::default(); MAX_PAGE];
         assert_eq!(prove_page_into(&bump, page, &mut answers), Ok(()));
         most(&format!("a page of 256 ids{name}"), MAX_PAGE * HEIGHT + leaves, || {
@@ -44,8 +42,6 @@ pub fn run() {
             merge_into(&bump, &bump, &mut bytes, &mut list)
         });
 
-        let roots = alone.into_iter().collect();
-        let plan = bundle::Plan { bumps: vec![path], entries, roots, fee: 0 };
         let (beef, roots) = (plan.draft().bytes, plan.root_list());
         let mut table = [Record::default(); 256];
         assert_eq!(barrowtide::judge_into(&beef, &roots, 0, &mut table).is_ok(), !missing);

@@ -7,7 +7,8 @@ use reference::judge::judge;
 use reference::{beef, hex};
 
 use crate::inputs::bundle::{
-    all_spent, anchored_in_one, chain, chain_of, many_bumps, one_spent, two_in_turn, Order,
+    all_spent, anchored_in_one, chain, chain_of_250_bytes, many_bumps, one_spent, two_in_turn,
+    Order,
 };
 use crate::measure::{seconds, subject, time};
 use crate::read::{heading, row, seconds_of};
@@ -91,12 +92,7 @@ fn compare(name: &str, bundle: &[u8], roots: &[u8]) {
 
 /// Prints the row of a chain of so many transactions of 250 bytes.
 fn of_250_bytes(random: &mut Random, count: usize) {
-    let plan = chain_of(random, count, |random, mut next| {
-        next.inputs[0].2.clear();
-        next.outputs = vec![(next.outputs[0].0, random.bytes(25)), (0, random.bytes(25))];
-        next.inputs[0].2 = random.bytes(250 - next.draft().bytes.len());
-        next
-    });
+    let plan = chain_of_250_bytes(random, count);
     let (bundle, roots) = (plan.draft().bytes, plan.root_list());
     let mut table = vec![Record::default(); count];
     let judged = barrowtide::judge_into(&bundle, &roots, 0, &mut table);

@@ -7,7 +7,7 @@ use reference::generate::tree::Tree;
 use reference::leaves;
 use reference::merge::merge;
 
-use crate::inputs::path::{buried, falling};
+use crate::inputs::path::{buried, falling, ids_alone, rise, shuffle};
 use crate::measure::{seconds, subject};
 use crate::read::{heading, row, seconds_of};
 
@@ -24,9 +24,9 @@ fn lists(random: &mut Random, tree: &Tree) {
     list("10 layers, one client", &Plan::of(tree, &[777]));
     let mut path = falling(64, false);
     list("64 levels of 1,024 falling", &path);
-    path.levels.iter_mut().for_each(|leaves| leaves.reverse());
+    rise(&mut path);
     list("64 levels of 1,024 rising", &path);
-    path.levels.iter_mut().for_each(|leaves| random.shuffle(leaves));
+    shuffle(random, &mut path);
     list("64 levels of 1,024 shuffled", &path);
 }
 
@@ -68,18 +68,17 @@ fn merges(random: &mut Random, tree: &Tree) {
     compare("64 clients and 64 others, 10 layers", &of(&one), &of(&other));
     let halves = [0..512, 512..1_024].map(|half| of(&half.collect::<Vec<_>>()));
     compare("512 clients and 512 others, siblings written", &halves[0], &halves[1]);
-    for (name, whole) in [("siblings written", true), ("and nothing else", false)] {
-        let mut path = Plan::whole(tree);
-        if !whole {
-            path.levels[1..].iter_mut().for_each(Vec::clear);
-        }
+    for (name, mut path) in [
+        ("siblings written", Plan::whole(tree)),
+        ("and nothing else", ids_alone(Plan::whole(tree))),
+    ] {
         compare(&format!("1,024 clients, {name}, with itself"), &path, &path);
-        path.levels.iter_mut().for_each(|leaves| random.shuffle(leaves));
+        shuffle(random, &mut path);
         compare("  in no order", &path, &path);
     }
     let mut full = buried(tree, &[0], 64).0;
     compare("64 levels of 1,024 falling, with itself", &full, &full);
-    full.levels.iter_mut().for_each(|leaves| random.shuffle(leaves));
+    shuffle(random, &mut full);
     compare("64 levels of 1,024 shuffled, with itself", &full, &full);
 }
 

@@ -1,15 +1,14 @@
 //! Paths whose inner nodes are left out: the inputs that make the most joins.
 
 use barrowtide::Record;
+use reference::generate::bundle;
 use reference::generate::path::Plan;
 use reference::generate::random::Random;
-use reference::generate::tree::Tree;
-use reference::generate::{bundle, transaction};
 use reference::judge::judge;
 use reference::prove;
-use reference::Hash;
 
-use crate::inputs::path::{copied, halving};
+use crate::inputs::bundle::clients_alone;
+use crate::inputs::path::{copied, halving, rise, shuffle};
 use crate::joins::{heading, long_row, row};
 use crate::measure::subject;
 use crate::stored::{check_clients, prove_bump};
@@ -20,11 +19,18 @@ pub fn run() {
     let mut random = Random::of("merged");
     for shuffled in [false, true] {
         let order = if shuffled { "shuffled" } else { "rising" };
-        clients_alone(&mut random, order);
+        let mut plan = clients_alone(&mut random);
+        if shuffled {
+            shuffle(&mut random, &mut plan.bumps[0]);
+        }
+        block(&format!("1,024 clients alone, {order}"), &plan);
         for height in [32, 64] {
             for (name, copies) in [("full levels", false), ("levels of copies", true)] {
                 let (mut path, joins) = halving(height, copies);
-                arrange(&mut random, &mut path, order);
+                rise(&mut path);
+                if shuffled {
+                    shuffle(&mut random, &mut path);
+                }
                 one_id(&format!("{height} {name}, {order}"), &path, 0, joins);
             }
         }
@@ -35,28 +41,19 @@ pub fn run() {
     }
 }
 
-/// A block of 1,024 ids of which 256 are a bundle's transactions, as client leaves and nothing else.
-fn clients_alone(random: &mut Random, order: &str) {
-    let entries: Vec<_> = (0..256).map(|_| (transaction::Plan::mined(random), Some(0))).collect();
-    let mut ids: Vec<Hash> = entries.iter().map(|entry| entry.0.id()).collect();
-    ids.resize_with(1_024, || random.hash());
-    random.shuffle(&mut ids);
-    let tree = Tree::new(ids);
-    let all: Vec<u64> = (0..1_024).collect();
-    let mut path = Plan::of(&tree, &all);
-    path.levels[1..].iter_mut().for_each(Vec::clear);
-    arrange(random, &mut path, order);
-    one_id(&format!("1,024 clients alone, {order}"), &path, 777, 1_023);
+/// Prints the rows of a block of 1,024 ids of which 256 are a bundle's transactions.
+fn block(name: &str, plan: &bundle::Plan) {
+    let path = &plan.bumps[0];
+    one_id(name, path, 777, 1_023);
 
     let bump = path.bump().bytes;
-    assert_eq!(prove_bump(&bump, &tree.ids()[777]).map(|p| p.root), Ok(tree.root()));
+    assert_eq!(check_clients(&bump), Ok(plan.roots[0]));
     long_row(
         "  check_clients",
         1_024 * 1_023,
         subject(|| check_clients(&bump)),
         subject(|| prove::all_clients(&bump)),
     );
-    let plan = bundle::Plan { bumps: vec![path], entries, roots: vec![tree.root()], fee: 0 };
     let (beef, roots) = (plan.draft().bytes, plan.root_list());
     let mut table = [Record::default(); 256];
     let judged = barrowtide::judge_into(&beef, &roots, 0, &mut table);
@@ -80,13 +77,4 @@ fn one_id(name: &str, path: &Plan, position: u64, joins: usize) {
         subject(|| prove_bump(&bump, &id)),
         subject(|| prove::by_bump(&bump, &id)),
     );
-}
-
-fn arrange(random: &mut Random, path: &mut Plan, order: &str) {
-    for level in &mut path.levels {
-        level.sort_by_key(|leaf| leaf.offset);
-        if order == "shuffled" {
-            random.shuffle(level);
-        }
-    }
 }

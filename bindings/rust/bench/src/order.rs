@@ -1,22 +1,19 @@
 //! Sets of transactions put in order.
 
-use barrowtide::{check_order, order_into, MAX_TRANSACTIONS};
+use barrowtide::{check_order, order_into};
 use reference::generate::random::Random;
 use reference::generate::set;
 use reference::generate::transaction::Plan;
 use reference::order;
 
-use crate::inputs::set::{full, last};
+use crate::inputs::set::{alike, chain, full, last};
 use crate::read::{heading, row, seconds_of};
 
 /// Prints the table of sets.
 pub fn run() {
     heading("256 transactions put in order, and that order checked");
     let mut random = Random::of("order");
-    let chain: Vec<Vec<usize>> = (0..MAX_TRANSACTIONS)
-        .map(|number: usize| number.checked_sub(1).into_iter().collect())
-        .collect();
-    let mut plans = set::spending(&mut random, &chain);
+    let mut plans = chain(&mut random);
     compare("a chain", &plans);
     plans.reverse();
     compare("a chain from its end", &plans);
@@ -25,13 +22,7 @@ pub fn run() {
     compare("400,000 inputs of strangers", &full(|_| [7; 32]));
     let last = last().id();
     compare("400,000 inputs of the last one", &full(|_| last));
-    // As a search by the first bytes of an id would take for it.
-    let alike = |input: usize| {
-        let mut hash = last;
-        hash[31] ^= 1 + input as u8 % 255;
-        hash
-    };
-    compare("400,000 inputs that begin as the last one", &full(alike));
+    compare("400,000 inputs that begin as the last one", &full(alike(last)));
 }
 
 fn compare(name: &str, plans: &[Plan]) {

@@ -8,7 +8,7 @@ use reference::generate::tree::Tree;
 use reference::generate::tsc;
 use reference::prove;
 
-use crate::inputs::path::buried;
+use crate::inputs::path::{above, buried};
 use crate::inputs::transaction::with;
 use crate::measure::{seconds, subject, Subject};
 use crate::read::{heading, row, seconds_of};
@@ -50,7 +50,7 @@ pub fn run() {
     table("by TSC", 10.0, subject(by_tsc), subject(by_reference));
     // The same id, and the node above it with a layer less. A transaction of 226 bytes is hashed in
     // five compressions, a pair of nodes in three.
-    let upper = Tree::new((0..512).map(|place| tree.hash(1, place)).collect());
+    let upper = above(&tree);
     let short = Plan::of(&upper, &[position / 2]).bump().bytes;
     let node = upper.ids()[position as usize / 2];
     let raw = with(1, vec![7; 107], 2).draft().bytes;

@@ -7,7 +7,7 @@ use reference::page::prove_page;
 use reference::Hash;
 use reference::{bump, tsc};
 
-use crate::inputs::path::{apart, falling, small_bump, small_tsc, without_siblings};
+use crate::inputs::path::{apart, falling, rise, shuffle, small_bump, small_tsc, without_siblings};
 use crate::measure::{seconds, subject, time, time_of};
 
 /// Prints the tables of reading a path and of searching in it.
@@ -33,9 +33,9 @@ pub fn run() {
         for (name, copies) in [("hashes", false), ("copies", true)] {
             let mut path = falling(height, copies);
             large_row(&format!("BUMP, {height} levels of 1,024 falling {name}"), &path);
-            path.levels.iter_mut().for_each(|leaves| leaves.reverse());
+            rise(&mut path);
             large_row(&format!("BUMP, {height} levels of 1,024 rising {name}"), &path);
-            path.levels.iter_mut().for_each(|leaves| random.shuffle(leaves));
+            shuffle(&mut random, &mut path);
             large_row(&format!("BUMP, {height} levels of 1,024 shuffled {name}"), &path);
         }
         let mut path = falling(height, true);

@@ -3,12 +3,11 @@
 use std::ffi::{c_char, CStr};
 
 use reference::generate::random::Random;
-use reference::generate::tree::Tree;
-use reference::generate::{bundle, transaction, tsc};
+use reference::generate::{set, transaction};
 
-use crate::inputs::path::{copied, two_parts};
+use crate::inputs::bundle::spent_once;
+use crate::inputs::path::{two_parts, whole_tsc};
 use crate::inputs::set::of_one_length;
-use crate::stored::prove_bump;
 
 extern "C" {
     fn stack_of(
@@ -24,38 +23,25 @@ extern "C" {
 pub fn run() {
     let mut random = Random::of("stack");
     let own = transaction::Plan::spending(&mut random, &[([7; 32], 0)], &[1_000]);
-    let (id, raw) = (own.id(), own.draft());
-    let mut ids = vec![[7; 32]; 1_000];
-    ids[777] = id;
-    let tree = Tree::new(ids);
-    let path = copied(64, id);
-    let (bump, cmp) = (path.bump().bytes, path.cmp().bytes);
-    let mut proof = tsc::Plan::of(&tree, 777);
-    proof.stated = Some(raw.bytes.len() as u64);
-    proof.body = raw.clone();
-    proof.aim(4, &mut random);
-    let proof = proof.draft().bytes;
-    let root = prove_bump(&bump, &id).expect("a sound path").root;
-    let child = transaction::Plan::spending(&mut random, &[(id, 0)], &[1]);
-    let entries = vec![(own, Some(0)), (child, None)];
-    let bundle = bundle::Plan { bumps: vec![path], entries, roots: vec![root], fee: 0 };
+    let (id, raw) = (own.id(), own.draft().bytes);
+    let proof = whole_tsc(&mut random, &own);
+    let bundle = spent_once(&mut random, own);
     let (beef, roots) = (bundle.draft().bytes, bundle.root_list());
-
-    let set: Vec<u8> = of_one_length().iter().flat_map(|plan| plan.draft().bytes).collect();
-
+    let (bump, cmp) = (bundle.bumps[0].bump().bytes, bundle.bumps[0].cmp().bytes);
+    let set = set::draft(&of_one_length()).bytes;
     let clients: Vec<_> = (0..8).map(|_| random.hash()).collect();
     let many = two_parts(&mut random, &clients, false).bump().bytes;
 
     println!("\nStack of a call, in bytes");
-    row(c"sha256d", &raw.bytes, &[]);
+    row(c"sha256d", &raw, &[]);
     row(c"join", &id, &id);
     row(c"read_varint", &[0xfd, 0xfd, 0], &[]);
     row(c"read_bump", &bump, &[]);
     row(c"read_cmp", &cmp, &[]);
-    row(c"read_transaction", &raw.bytes, &[]);
+    row(c"read_transaction", &raw, &[]);
     row(c"parts_start", &[], &[]);
-    row(c"parts_part", &raw.bytes, &[]);
-    row(c"parts_end", &raw.bytes, &[]);
+    row(c"parts_part", &raw, &[]);
+    row(c"parts_end", &raw, &[]);
     row(c"read_tsc", &proof, &[]);
     row(c"read_beef", &beef, &[]);
     row(c"prove_bump", &bump, &id);

@@ -6,16 +6,27 @@ use reference::generate::tree::Tree;
 use reference::generate::{path, transaction};
 use reference::Hash;
 
-use super::path::{buried, falling};
+use super::path::{buried, copied, falling, ids_alone, two_parts};
+use crate::stored::prove_bump;
 
 /// A bundle with one anchored transaction and a chain of others that spend from it.
 pub fn chain(random: &mut Random, count: usize) -> Plan {
     chain_of(random, count, |_, next| next)
 }
 
+/// The same, of transactions of 250 bytes.
+pub fn chain_of_250_bytes(random: &mut Random, count: usize) -> Plan {
+    chain_of(random, count, |random, mut next| {
+        next.inputs[0].2.clear();
+        next.outputs = vec![(next.outputs[0].0, random.bytes(25)), (0, random.bytes(25))];
+        next.inputs[0].2 = random.bytes(250 - next.draft().bytes.len());
+        next
+    })
+}
+
 /// The same, of transactions that are changed as they are made. Each spends the first output of the
 /// one before it and leaves a satoshi.
-pub fn chain_of(
+fn chain_of(
     random: &mut Random,
     count: usize,
     changed: impl Fn(&mut Random, transaction::Plan) -> transaction::Plan,
@@ -39,10 +50,56 @@ pub fn chain_of(
     Plan { bumps: vec![path::Plan::of(&tree, &[500])], entries, roots: vec![tree.root()], fee: 0 }
 }
 
+/// A transaction that is mined by a path of copies, and one that spends it.
+pub fn spent_once(random: &mut Random, mined: transaction::Plan) -> Plan {
+    let id = mined.id();
+    let path = copied(64, id);
+    let root = prove_bump(&path.bump().bytes, &id).expect("a sound path").root;
+    let child = transaction::Plan::spending(random, &[(id, 0)], &[1]);
+    let entries = vec![(mined, Some(0)), (child, None)];
+    Plan { bumps: vec![path], entries, roots: vec![root], fee: 0 }
+}
+
+/// A transaction, and the number of the BUMP that it is anchored in.
+type Entry = (transaction::Plan, Option<u64>);
+
+/// 256 transactions to anchor in one BUMP.
+fn mined(random: &mut Random) -> Vec<Entry> {
+    (0..256).map(|_| (transaction::Plan::mined(random), Some(0))).collect()
+}
+
+fn ids(entries: &[Entry]) -> Vec<Hash> {
+    entries.iter().map(|entry| entry.0.id()).collect()
+}
+
+/// 256 transactions anchored in one BUMP, which has the 1,024 ids of their block as client leaves, in
+/// order, and nothing else.
+pub fn clients_alone(random: &mut Random) -> Plan {
+    let entries = mined(random);
+    let mut ids = ids(&entries);
+    ids.resize_with(1_024, || random.hash());
+    random.shuffle(&mut ids);
+    let tree = Tree::new(ids);
+    let all: Vec<u64> = (0..1_024).collect();
+    let bumps = vec![ids_alone(path::Plan::of(&tree, &all))];
+    Plan { bumps, entries, roots: vec![tree.root()], fee: 0 }
+}
+
+/// 256 transactions anchored in the path of [`two_parts`], which has as many other clients.
+pub fn in_two_parts(random: &mut Random, missing: bool) -> Plan {
+    let entries = mined(random);
+    let mut ids = ids(&entries);
+    ids.resize_with(512, || random.hash());
+    let path = two_parts(random, &ids, missing);
+    let proof = prove_bump(&path.bump().bytes, &ids[0]);
+    let roots = proof.into_iter().map(|proof| proof.root).collect();
+    Plan { bumps: vec![path], entries, roots, fee: 0 }
+}
+
 /// 256 transactions anchored in one BUMP of so many full levels.
 pub fn anchored_in_one(random: &mut Random, height: u32) -> Plan {
-    let entries: Vec<_> = (0..256).map(|_| (transaction::Plan::mined(random), Some(0))).collect();
-    let tree = Tree::new(entries.iter().map(|entry| entry.0.id()).collect());
+    let entries = mined(random);
+    let tree = Tree::new(ids(&entries));
     let positions: Vec<u64> = (0..256).collect();
     let (bump, root) = buried(&tree, &positions, height);
     Plan { bumps: vec![bump], entries, roots: vec![root], fee: 0 }
@@ -56,7 +113,7 @@ fn with_outputs(random: &mut Random, counts: &[usize]) -> Plan {
         (parent, Some(0))
     };
     let entries: Vec<_> = counts.iter().map(with).collect();
-    let tree = Tree::new(entries.iter().map(|entry| entry.0.id()).collect());
+    let tree = Tree::new(ids(&entries));
     let positions: Vec<u64> = (0..counts.len() as u64).collect();
     let bumps = vec![path::Plan::of(&tree, &positions)];
     Plan { bumps, entries, roots: vec![tree.root()], fee: 0 }
@@ -64,7 +121,7 @@ fn with_outputs(random: &mut Random, counts: &[usize]) -> Plan {
 
 /// Adds a transaction that spends outputs of others, and pays nothing.
 fn spend(plan: &mut Plan, random: &mut Random, outputs: impl Iterator<Item = (usize, u32)>) {
-    let ids: Vec<Hash> = plan.entries.iter().map(|entry| entry.0.id()).collect();
+    let ids = ids(&plan.entries);
     let mut greedy = transaction::Plan::spending(random, &[], &[0]);
     greedy.inputs = outputs.map(|(entry, output)| (ids[entry], output, Vec::new(), 0)).collect();
     plan.entries.push((greedy, None));

@@ -3,7 +3,7 @@
 use reference::generate::path::{Leaf, Plan};
 use reference::generate::random::Random;
 use reference::generate::tree::Tree;
-use reference::generate::tsc;
+use reference::generate::{transaction, tsc};
 use reference::Hash;
 
 use crate::stored::join;
@@ -31,6 +31,27 @@ pub fn apart(path: &mut Plan) {
     }
 }
 
+/// Puts the leaves of each level in the order of their offsets.
+pub fn rise(path: &mut Plan) {
+    path.levels.iter_mut().for_each(|leaves| leaves.sort_by_key(|leaf| leaf.offset));
+}
+
+/// Puts them in no order.
+pub fn shuffle(random: &mut Random, path: &mut Plan) {
+    path.levels.iter_mut().for_each(|leaves| random.shuffle(leaves));
+}
+
+/// A path without its leaves above level 0.
+pub fn ids_alone(mut path: Plan) -> Plan {
+    path.levels[1..].iter_mut().for_each(Vec::clear);
+    path
+}
+
+/// The tree whose ids are the nodes above those of another.
+pub fn above(tree: &Tree) -> Tree {
+    Tree::new((0..tree.ids().len() as u64 / 2).map(|place| tree.hash(1, place)).collect())
+}
+
 /// A path of so many levels with one leaf each.
 pub fn small_bump(height: u8) -> Vec<u8> {
     let level = |level| vec![Leaf { offset: 1, flags: 0, hash: [level; 32] }];
@@ -41,6 +62,17 @@ pub fn small_bump(height: u8) -> Vec<u8> {
 pub fn small_tsc(count: u8) -> Vec<u8> {
     let mut proof = tsc::Plan::of(&Tree::new(vec![[7; 32], [8; 32]]), 0);
     proof.nodes.resize(count.into(), (0, [9; 32]));
+    proof.draft().bytes
+}
+
+/// A TSC proof of a transaction of a block of 1,000, with the whole of it.
+pub fn whole_tsc(random: &mut Random, mined: &transaction::Plan) -> Vec<u8> {
+    let mut ids = vec![[7; 32]; 1_000];
+    ids[777] = mined.id();
+    let mut proof = tsc::Plan::of(&Tree::new(ids), 777);
+    proof.body = mined.draft();
+    proof.stated = Some(proof.body.bytes.len() as u64);
+    proof.aim(4, random);
     proof.draft().bytes
 }
 

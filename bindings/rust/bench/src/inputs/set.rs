@@ -1,8 +1,17 @@
 //! Sets of transactions.
 
 use barrowtide::MAX_TRANSACTIONS;
+use reference::generate::random::Random;
+use reference::generate::set;
 use reference::generate::transaction::Plan;
 use reference::Hash;
+
+/// As many transactions as a set may have, each of which spends the one before it.
+pub fn chain(random: &mut Random) -> Vec<Plan> {
+    let before = |number: usize| number.checked_sub(1).into_iter().collect();
+    let parents: Vec<Vec<usize>> = (0..MAX_TRANSACTIONS).map(before).collect();
+    set::spending(random, &parents)
+}
 
 /// Transactions with 400,000 inputs in all, and one more that spends a stranger.
 pub fn full(parent: impl Fn(usize) -> Hash) -> Vec<Plan> {
@@ -17,6 +26,15 @@ pub fn full(parent: impl Fn(usize) -> Hash) -> Vec<Plan> {
 
 pub fn last() -> Plan {
     transaction(MAX_TRANSACTIONS - 1, &[[7; 32]])
+}
+
+/// For each input a hash that a search by the first bytes of an id would take for it.
+pub fn alike(id: Hash) -> impl Fn(usize) -> Hash {
+    move |input| {
+        let mut hash = id;
+        hash[31] ^= 1 + input as u8 % 255;
+        hash
+    }
 }
 
 /// Transactions of one length, so that the set's tells their number.
