@@ -6,6 +6,7 @@ use std::process::ExitCode;
 use barrowtide::hex;
 
 use crate::json::{Fields, Json};
+use crate::standard;
 use crate::words::Refused;
 
 /// What a command prints.
@@ -90,7 +91,7 @@ const REFUSED: u8 = 1;
 const UNUSABLE: u8 = 2;
 
 /// Prints an answer; the exit status is 0 if all was accepted, 1 if something was refused, and 2 if
-/// nothing could be asked.
+/// nothing could be asked or written.
 pub fn print(answer: Answer, style: Style) -> ExitCode {
     let (status, out, err) = match answer {
         Ok(Told { output: Output::Printed, accepted, .. }) => {
@@ -120,8 +121,7 @@ pub fn print(answer: Answer, style: Style) -> ExitCode {
     };
     // A message that nobody reads is no fault.
     let _ = io::stderr().write_all(err.as_bytes());
-    let mut stdout = io::stdout().lock();
-    match stdout.write_all(&out).and_then(|()| stdout.flush()) {
+    match standard::write(&out) {
         // A reader that has seen enough, as `head`, is none either.
         Err(error) if error.kind() != io::ErrorKind::BrokenPipe => {
             let _ = writeln!(io::stderr(), "standard output: {error}");

@@ -13,6 +13,7 @@ use crate::answer::{self, Answer, Failure, Output, Style, Told};
 use crate::help::Command;
 use crate::input::{self, Word};
 use crate::json::{Fields, Json};
+use crate::standard;
 use crate::value::Value;
 
 /// The most bytes of a line: three inputs of the greatest size in hex, and more.
@@ -45,7 +46,7 @@ pub fn run(words: &[Word]) -> Answer {
     let name = from.map_or("standard input".to_string(), Word::name);
     let unusable = |error: io::Error| Failure::unusable(format!("{name}: {error}"));
     let file: Box<dyn Read + Send> = match from {
-        None => Box::new(io::stdin()),
+        None => Box::new(standard::input().map_err(unusable)?),
         Some(Word::Plain(path)) => Box::new(File::open(path).map_err(unusable)?),
         Some(_) => return Err(Failure::Misused),
     };
@@ -191,8 +192,7 @@ impl State {
             self.bytes -= answer.len();
             ready.extend(answer);
         }
-        let mut stdout = io::stdout().lock();
-        if let Err(error) = stdout.write_all(&ready).and_then(|()| stdout.flush()) {
+        if let Err(error) = standard::write(&ready) {
             self.failed.get_or_insert(error);
         }
         if self.shown.is_some_and(|shown| shown.elapsed() >= PAUSE) {

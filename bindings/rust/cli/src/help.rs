@@ -328,9 +328,9 @@ and what stands behind # is passed over. After -- no word is an option.
 --binary prints a proof that is made as it stands, not in hex.
 
 The exit status is 0 if the input is accepted, 1 if it is refused, 2 if it can't be
-used. A refusal has a number; docs/REFUSALS.md says what each means, who is to blame
-and what to ask the sender for. Where a proof or a picture is made, the refusal goes
-to standard error.
+used or the answer can't be written. A refusal has a number; docs/REFUSALS.md says
+what each means, who is to blame and what to ask the sender for. Where a proof or a
+picture is made, the refusal goes to standard error.
 ";
 
 /// The help of one command.

@@ -10,6 +10,7 @@ use std::time::SystemTime;
 use barrowtide::{Hash, MAX_INPUT, MAX_PARTS};
 
 use crate::answer::Failure;
+use crate::standard;
 
 /// The most that is read of a file: hex with two characters of white space after each byte.
 const MOST: u64 = 4 * (MAX_INPUT as u64 + 1);
@@ -92,7 +93,7 @@ impl Word {
 
     fn open(&self) -> io::Result<Box<dyn Read + '_>> {
         Ok(match self {
-            Word::Plain(word) if word == "-" => Box::new(io::stdin().lock()),
+            Word::Plain(word) if word == "-" => Box::new(standard::input()?.lock()),
             Word::Plain(word) => Box::new(File::open(word)?),
             Word::Option(text) => Box::new(File::open(text)?),
             Word::Content { bytes, .. } => Box::new(&bytes[..]),
@@ -136,7 +137,7 @@ impl<'a> Parts<'a> {
         let done = self.file.by_ref().take(PART).read_to_end(&mut part);
         done.map_err(|error| self.word.unusable(error))?;
         if self.came == 0 && part.is_empty() && self.word.is_standard_input() {
-            let why = "nothing came; it is closed, or the command before it failed";
+            let why = "nothing came; perhaps the command before it failed";
             return Err(self.word.unusable(why));
         }
         self.came += part.len() as u64;

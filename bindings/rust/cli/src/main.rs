@@ -13,6 +13,7 @@ mod input;
 mod json;
 mod leaves;
 mod looks;
+mod standard;
 mod svg;
 mod tsc;
 mod value;

@@ -10,7 +10,8 @@ use std::sync::atomic::{AtomicU64, Ordering};
 use std::thread;
 use std::time::Duration;
 
-use program::{cannot_use, command, data, file, run, run_on, Ran, DATA, ID, PROGRAM, ROOT};
+use program::{bad_descriptor, cannot_use, command, data, file, in_shell, run, run_on};
+use program::{Ran, DATA, ID, PROGRAM, ROOT};
 use reference::hex::encode;
 
 /// Runs a batch over lines.
@@ -334,6 +335,14 @@ fn closed_output() {
     let output = child.wait_with_output().expect("it ends");
     assert_eq!(output.status.code(), Some(2));
     assert!(output.stderr.starts_with(b"standard output: "));
+
+    let requests = file("one-request.jsonl", line);
+    let closed = in_shell(&format!("batch '{requests}' >&-"));
+    assert_eq!(closed, bad_descriptor("standard output"));
+    for words in ["batch <&-", "batch - <&-", "batch - 0>/dev/null"] {
+        assert_eq!(in_shell(words), bad_descriptor("standard input"));
+    }
+    assert_eq!(in_shell("batch </dev/null >&-"), (Some(0), String::new(), String::new()));
 }
 
 /// A list that is named in many requests is read anew if it changes.

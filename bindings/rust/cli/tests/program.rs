@@ -11,7 +11,8 @@ use std::process::{Command, Stdio};
 
 use barrowtide::{join, Hash, Reason};
 use program::{
-    accepts, cannot_use, command, data, file, ran, refuses, refuses_beside, run, run_on,
+    accepts, bad_descriptor, cannot_use, command, data, file, in_shell, ran, refuses,
+    refuses_beside, run, run_on,
 };
 use program::{DATA, ID, PROGRAM, ROOT};
 use reference::hex::{decode, encode};
@@ -1227,19 +1228,16 @@ fn as_people_type() {
 /// Nothing at standard input is no file of the sender's, but a command that failed before.
 #[test]
 fn nothing_came() {
-    let closed = |words: &str| {
-        let mut shell = Command::new("sh");
-        shell.args(["-c", &format!("\"$PROGRAM\" {words} <&-")]).env("PROGRAM", PROGRAM);
-        ran(shell.current_dir(DATA).output().expect("the shell starts"))
-    };
-    let nothing = "standard input: nothing came; it is closed, or the command before it failed\n";
-    let none = (Some(2), String::new(), nothing.to_string());
+    let nothing = "standard input: nothing came; perhaps the command before it failed\n";
     for words in ["clients -", "judge 004-bundle.hex -", "judge - 004-roots.txt", "order -"] {
-        assert_eq!(closed(words), none);
-        let words: Vec<&str> = words.split(' ').collect();
-        assert_eq!(run_on(b"", &words), none);
+        let split: Vec<&str> = words.split(' ').collect();
+        assert_eq!(run_on(b"", &split), (Some(2), String::new(), nothing.to_string()));
+        // Closed, and open for writing alone.
+        for other in ["<&-", "0>/dev/null"] {
+            assert_eq!(in_shell(&format!("{words} {other}")), bad_descriptor("standard input"));
+        }
     }
-    assert_eq!(closed("clients 004-bump.hex"), run(&["clients", "004-bump.hex"]));
+    assert_eq!(in_shell("clients 004-bump.hex <&-"), run(&["clients", "004-bump.hex"]));
 }
 
 /// Names and words of others go to no terminal as they are.
@@ -1302,6 +1300,35 @@ fn closed_output() {
     let (status, _, error) = ran(output.expect("the program starts"));
     assert_eq!(status, Some(2));
     assert!(error.starts_with("standard output: "), "{error}");
+}
+
+/// An answer that can't be written is not passed over, be it an acceptance, a refusal, bytes or help;
+/// where there is none, nothing is amiss.
+#[test]
+fn no_output() {
+    for (words, status) in [
+        ("clients 004-bump.hex", 0),
+        ("judge 004-bundle.hex /dev/null", 1),
+        ("extract bump 0 004-bundle.hex --binary", 0),
+        ("clients --json", 2),
+        ("judge --help", 0),
+        ("--version", 0),
+    ] {
+        // Closed, and open for reading alone.
+        for other in [">&-", "1</dev/null", "<&- >&-"] {
+            let ran = in_shell(&format!("{words} {other}"));
+            assert_eq!(ran, bad_descriptor("standard output"), "{words} {other}");
+        }
+        assert_eq!(in_shell(&format!("{words} >&- 2>&-")).0, Some(2), "{words}");
+        for other in [">/dev/null", "1<>/dev/null", ">/dev/null <&-"] {
+            let ran = in_shell(&format!("{words} {other} 2>/dev/null"));
+            assert_eq!(ran, (Some(status), String::new(), String::new()), "{words} {other}");
+        }
+    }
+    for words in ["clients", "frobnicate", "write 1 004-roots.txt 0"] {
+        let split: Vec<&str> = words.split(' ').collect();
+        assert_eq!(in_shell(&format!("{words} >&-")), run(&split));
+    }
 }
 
 /// Whatever the bytes, a command ends with an answer.

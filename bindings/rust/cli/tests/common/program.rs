@@ -45,6 +45,18 @@ pub fn run_on(input: &[u8], arguments: &[&str]) -> Ran {
     })
 }
 
+/// Runs it by a shell, which is told of its standard input and output.
+pub fn in_shell(words: &str) -> Ran {
+    let mut shell = Command::new("sh");
+    shell.args(["-c", &format!("\"$PROGRAM\" {words}")]).env("PROGRAM", PROGRAM);
+    ran(shell.current_dir(DATA).output().expect("the shell starts"))
+}
+
+/// Neither read nor written: of a standard input or output that is closed.
+pub fn bad_descriptor(name: &str) -> Ran {
+    (Some(2), String::new(), format!("{name}: Bad file descriptor (os error 9)\n"))
+}
+
 /// A file of its own for a test.
 pub fn file(name: &str, content: impl AsRef<[u8]>) -> String {
     let path = PathBuf::from(env!("CARGO_TARGET_TMPDIR")).join(name);
