@@ -287,7 +287,7 @@ missing or a twin. What is not on the climb is small, and folded where there is 
 of it; the picture is made even if the climb is refused. Of a BEEF the BUMP is drawn
 that prove beef asks.",
         example: "    ./barrowtide draw bindings/rust/tests/data/004-bump.hex \\
-      3ecead27a44d013ad1aae40038acbb1883ac9242406808bb4667c15b4f164eac > target/climb.svg",
+      3ecead27a44d013ad1aae40038acbb1883ac9242406808bb4667c15b4f164eac > climb.svg",
         gives_picture: true,
         run: commands::draw,
         ..PLAIN
@@ -351,6 +351,7 @@ pub fn of_program() -> String {
     for Command { name, brief, .. } in &COMMANDS {
         text += &format!("  {name:8}  {brief}\n");
     }
-    text += "\nbarrowtide COMMAND --help says more, with an example.\n\n";
+    text += "\nbarrowtide COMMAND --help says more, with an example.\n";
+    text += "barrowtide --version says which version this is.\n\n";
     text + COMMON
 }

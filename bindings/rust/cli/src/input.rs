@@ -4,6 +4,7 @@ use std::ffi::{OsStr, OsString};
 use std::fmt::Display;
 use std::fs::{self, File};
 use std::io::{self, Read};
+use std::path::Path;
 use std::sync::{Arc, Mutex, PoisonError};
 use std::time::SystemTime;
 
@@ -377,6 +378,13 @@ pub fn hashes(word: &Word) -> Result<Arc<[Hash]>, Failure> {
 }
 
 fn read_hashes(word: &Word) -> Result<Vec<Hash>, Failure> {
+    // Who has one root only may well give it in the file's place.
+    if let Word::Plain(path) = word {
+        let is_hash = word.text().is_some_and(|text| text.trim().parse::<Hash>().is_ok());
+        if is_hash && !Path::new(path).exists() {
+            return Err(word.unusable("no such file; roots or ids stand in a file, one on a line"));
+        }
+    }
     let mut hashes = Vec::new();
     lines(word, |number, line| {
         let before = line.split(|byte| *byte == b'#').next().unwrap_or_default().trim_ascii();

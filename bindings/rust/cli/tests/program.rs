@@ -7,6 +7,8 @@ mod program;
 use std::ffi::{OsStr, OsString};
 use std::fs::{self, File};
 use std::io::Write;
+use std::os::unix::fs::symlink;
+use std::path::PathBuf;
 use std::process::{Command, Stdio};
 
 use barrowtide::{join, Hash, Reason};
@@ -1126,17 +1128,20 @@ fn help() {
 /// The examples of the help, as printed. Only comparing can't show an acceptance.
 #[test]
 fn examples() {
-    let top = concat!(env!("CARGO_MANIFEST_DIR"), "/../../..");
+    // As at the top of a fresh clone, where nothing was built; what they write stays in here.
+    let top = PathBuf::from(env!("CARGO_TARGET_TMPDIR")).join("top");
+    let _ = fs::remove_dir_all(&top);
+    fs::create_dir(&top).expect("a folder");
+    let bindings = concat!(env!("CARGO_MANIFEST_DIR"), "/../..");
+    symlink(bindings, top.join("bindings")).expect("a link");
     for name in COMMANDS {
         let (status, text, error) = run(&[name, "--help"]);
         assert_eq!((status, error.as_str()), (Some(0), ""));
         let indented: Vec<&str> = text.lines().filter(|line| line.starts_with("    ")).collect();
         let script = indented.join("\n").replace("./barrowtide", "\"$PROGRAM\"");
         assert!(script.contains("$PROGRAM"), "{name}: {script}");
-        // The picture of the example goes to the tests' own files.
-        let script = script.replace("target/climb.svg", &file("climb.svg", ""));
         let mut shell = Command::new("sh");
-        shell.args(["-e", "-c", &script]).env("PROGRAM", PROGRAM).current_dir(top);
+        shell.args(["-e", "-c", &script]).env("PROGRAM", PROGRAM).current_dir(&top);
         let (status, text, error) = ran(shell.output().expect("the shell starts"));
         let expected = if name == "compare" { 1 } else { 0 };
         assert_eq!(status, Some(expected), "{script}\n{text}{error}");
@@ -1205,6 +1210,12 @@ fn as_people_type() {
         &["judge", "004-bundle.hex", &wrong],
         &format!("line 2: not 64 hex digits: {}\n", &ROOT[1..]),
     );
+
+    cannot_use(
+        &["judge", "004-bundle.hex", ROOT],
+        &format!("{ROOT}: no such file; roots or ids stand in a file, one on a line\n"),
+    );
+    cannot_use(&["judge", "004-bundle.hex", &ROOT[1..]], "No such file or directory");
 
     let clients = run(&["clients", "004-bump.hex"]);
     let dashed = file("--dashed.hex", data("004-bump.hex"));
