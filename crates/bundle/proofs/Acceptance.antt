@@ -12,7 +12,7 @@ use lib.Seq.{ext-getD}
 use borrow.Author.Tests.{leb-true, eqb-true, le-leb, eq-eqb}
 use Rattle.format.specs.Parse.{Parse, got, bad, pick, whole}
 use Rattle.format.specs.Field.{bytes}
-use Rattle.format.specs.Beef.{Beef, versionField, beefField, beefWhole}
+use Rattle.format.specs.Beef.{Beef, versionField, beefUpTo, beefWhole}
 use Rattle.format.proofs.BeefLaws.{beef-told}
 use Rattle.format.proofs.TransactionLaws.{tx-told}
 use Rattle.format.specs.Refusals.{TOO-LONG, BAD-ROOTS, MAX-INPUT}
@@ -25,7 +25,7 @@ use Rattle.bundle.proofs.AmountLaws.{noOutpoint}
 use Rattle.bundle.proofs.AmountTheorems.{Paid, Leaves, balance, difference, differences-leave, difference-more, spent-once, spent-earlier}
 use Rattle.bundle.proofs.AmountsExactly.{Pays, paid-exactly}
 use Rattle.spv.proofs.RowsLaws.{map-at}
-use Rattle.bundle.specs.Bundle.{proving, nthBump, standing, entryRow, judgeEntries, judgeRead, judgeBeef}
+use Rattle.bundle.specs.Bundle.{proving, nthBump, standing, entryRow, judgeEntries, judgeRead, judgeBeef, judgeUpTo}
 use Rattle.bundle.proofs.BundleLaws.{accepted-length}
 use Rattle.bundle.proofs.BundleTheorems.{emptyEntry, nth, idAt, inputsAt, New, Mined, Child, Stands, payments, Recorded, accepted-recorded, stands-accepted, accepted-different}
 use Rattle.bundle.specs.Payments.{noPayment, Different}
@@ -65,7 +65,7 @@ module _ (s roots : List ℕ) (fee : ℕ) (b : Beef) where
 
 module _ (s roots : List ℕ) (fee room : ℕ) (records : List Record) where
   accepted-acceptable : judgeBeef s roots fee room ≡ accepted records → AcceptableWith s roots fee room records
-  unfolding judgeBeef judgeRead
+  unfolding judgeUpTo judgeRead
   accepted-acceptable e = go (leb (length s) MAX-INPUT) refl (eqb (length roots % 32) 0) refl (beefWhole room s) refl e
     where
       go : (t : Bool) → leb (length s) MAX-INPUT ≡ t → (u : Bool) → eqb (length roots % 32) 0 ≡ u → (p : Parse Beef) → beefWhole room s ≡ p
@@ -84,7 +84,7 @@ module _ (s roots : List ℕ) (fee room : ℕ) (records : List Record) where
       }
 
   acceptable-accepted : AcceptableWith s roots fee room records → judgeBeef s roots fee room ≡ accepted records
-  unfolding judgeBeef judgeRead
+  unfolding judgeUpTo judgeRead
   acceptable-accepted a =
       let w = stands-accepted s roots fee (a .bundle) (λ k low. let x = a .each k low in (x .0, x .1 .0)) in
       simp (le-leb _ _ (a .size), eq-eqb _ _ (a .whole-roots), a .read) (w .1 ∙ ap accepted (these (w .0) (w .1)))
@@ -114,7 +114,7 @@ pub record Acceptable (s roots : List ℕ) (fee room : ℕ) : Type 0 where
 -- an input is accepted exactly when it has its size, the list is whole roots, "the whole BEEF is read", and every transaction is new and is mined under a
 -- listed root, or has each parent earlier and pays
 pub accepted-exactly : (s roots : List ℕ) (fee room : ℕ) → ((records : List Record) × (judgeBeef s roots fee room ≡ accepted records)) ↔ Acceptable s roots fee room
-unfolding judgeBeef judgeRead
+unfolding judgeUpTo judgeRead
 accepted-exactly s roots fee room = (
   (λ x. let a = accepted-acceptable s roots fee room (x .0) (x .1) in
       record { size = a .size; whole-roots = a .whole-roots; bundle = a .bundle; next = a .next; read = a .read; stands = λ k low. let y = a .each k low in (y .0, y .1 .0) }),
@@ -160,7 +160,7 @@ accepted-supported s roots fee room records e b q g k low = below (suc k) k (ome
 
 module _ (s roots : List ℕ) (fee room : ℕ) (records : List Record) (accept : judgeBeef s roots fee room ≡ accepted records) (b : Beef) (q : ℕ) (read : beefWhole room s ≡ got b q) where
   entries-accepted : judgeEntries s roots fee b ≡ accepted records
-  unfolding judgeBeef judgeRead
+  unfolding judgeUpTo judgeRead
   entries-accepted = go (leb (length s) MAX-INPUT) (eqb (length roots % 32) 0) accept
     where
       go : (t u : Bool) → pick t (pick u (judgeRead s roots fee (beefWhole room s)) (refused (carrying BAD-ROOTS 0))) (refused (carrying TOO-LONG 0)) ≡ accepted records → judgeEntries s roots fee b ≡ accepted records
@@ -211,9 +211,9 @@ module _ (s roots : List ℕ) (fee room : ℕ) (records : List Record) (accept :
 
 -- 21 comes before the first field, which is 2
 roots-first : judgeBeef [] (0 ∷ []) 0 0 ≡ refused (carrying 21 0)
-unfolding judgeBeef
+unfolding judgeUpTo
 roots-first = refl
 
 then-fields : judgeBeef [] [] 0 0 ≡ refused (carrying 2 0)
-unfolding judgeBeef judgeRead beefField versionField bytes whole
+unfolding judgeUpTo judgeRead beefUpTo versionField bytes whole
 then-fields = refl

@@ -21,7 +21,7 @@ use Rattle.format.specs.Beef.{Beef, beefWhole}
 use Rattle.format.proofs.BeefLaws.{BeefRead, beef-told}
 use Rattle.format.specs.Refusals.{TOO-LONG, BAD-ROOTS, MAX-INPUT, MAX-TXS}
 use Rattle.bundle.specs.Amounts.{paymentOf}
-use Rattle.bundle.specs.Bundle.{standing, entryRow, Judgement, judgeEntries, judgeRead, judgeBeef, verdictOf, tableOf}
+use Rattle.bundle.specs.Bundle.{standing, entryRow, Judgement, judgeEntries, judgeRead, judgeBeef, judgeUpTo, verdictOf, tableOf}
 use Rattle.bundle.proofs.BundleLaws.{accepted-length}
 use Rattle.bundle.proofs.BundleTheorems.{emptyEntry}
 use Rattle.bundle.specs.BundleAnswer.{judgementOf, countOf, rowIn}
@@ -44,7 +44,7 @@ entries-fit s roots fee n b read = go (judgeEntries s roots fee b) refl
         (omega arith, omega arith)
 
 judge-fits : (s roots : List ℕ) (fee n : ℕ) → Fits (judgeBeef s roots fee n) n
-unfolding Fits judgeBeef judgeRead
+unfolding Fits judgeUpTo judgeRead
 judge-fits s roots fee n = go (leb (length s) MAX-INPUT) (eqb (length roots % 32) 0) (beefWhole n s) refl
   where
     go : (t u : Bool) (p : Parse Beef) → beefWhole n s ≡ p → Fits (pick t (pick u (judgeRead s roots fee p) (refused (carrying BAD-ROOTS 0))) (refused (carrying TOO-LONG 0))) n

@@ -17,7 +17,7 @@ use Rattle.format.specs.Field.{bytes, byte, le4, number, varint}
 use Rattle.format.specs.Bump.{Bump, bumpField}
 use Rattle.format.specs.Transaction.{Transaction, beefTxField}
 use Rattle.format.proofs.TransactionLaws.{tx-told}
-use Rattle.format.specs.Beef.{VERSION, Entry, Beef, versionField, bumpCountField, bumpsField, txCountField, bumpNumberField, anchorField, entryField, entriesField, beefField, beefWhole}
+use Rattle.format.specs.Beef.{VERSION, Entry, Beef, versionField, bumpCountField, bumpsUpTo, txCountField, bumpNumberField, anchorField, entryField, entriesField, beefUpTo, beefWhole}
 use Rattle.format.specs.Refusals.{BAD-VERSION, MAX-INPUT, MAX-BUMPS}
 use Rattle.bundle.specs.Bundle.{nthBump, emptyBump}
 use Rattle.spv.proofs.RowsLaws.{map-at}
@@ -133,7 +133,7 @@ version-spells = refl
 assembled : (room : ℕ) (s : List ℕ) {v n m from to q : ℕ} {l : List Bump} {es : List Entry} → length s ≤ MAX-INPUT → versionField s 0 ≡ got v 4 → bumpCountField s 4 ≡ got n 5
     → times bumpField n s 5 ≡ got l from → length l ≡ n → txCountField room s from ≡ got m to → times (entryField n) m s to ≡ got es q → q ≡ length s
     → beefWhole room s ≡ got (record { bumps = l; entries = es }) (length s)
-unfolding beefField bumpsField entriesField whole
+unfolding beefUpTo bumpsUpTo entriesField whole
 assembled room s size v c b n t e q =
     let last : length s ≤ length s = omega arith in
     rw (le-leb _ _ size, v, c, b, n, t, e, q, le-ltb _ _ last)

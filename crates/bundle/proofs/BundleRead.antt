@@ -45,7 +45,7 @@ use Rattle.bundle.specs.Shown.{Answers}
 use Rattle.bundle.specs.declared.judging.Verdict.{Verdict}
 use Rattle.bundle.specs.declared.judging.Verdict.the-variants.{Accepted, Refused}
 use Rattle.bundle.proofs.TableLaws.{flat-length}
-use Rattle.bundle.specs.Bundle.{rests, trusted, proving, nthBump, emptyBump, entryId, entryRow, judgeFrom, judgeEntries, judgeRead, judgeBeef}
+use Rattle.bundle.specs.Bundle.{rests, trusted, proving, nthBump, emptyBump, entryId, entryRow, judgeFrom, judgeEntries, judgeRead, judgeBeef, judgeUpTo}
 use Rattle.bundle.proofs.BundleTheorems.{emptyEntry, take-map, trusted-told}
 use Rattle.bundle.proofs.BundleLaws.{from-map, from-same}
 use Rattle.bundle.specs.BundleHeads.{restsFrom, headTotal, headProving, headAnchoring, headStanding, headId, headStands, headRow, headsFrom, numbersOf, noHead, RowIs, Written}
@@ -224,17 +224,17 @@ reached-is (Refused x) ids numbers = refl
 
 module _ (s roots : List ℕ) (fee room : ℕ) where
   pub judge-long : MAX-INPUT < length s → refused (carrying TOO-LONG 0) ≡ judgeBeef s roots fee room
-  unfolding judgeBeef
+  unfolding judgeUpTo
   judge-long h = simp (lt-leb _ _ h)
 
   module _ (fits : length s ≤ MAX-INPUT) where
     pub judge-roots : (length roots % 32 ≡ 0 → ⊥) → refused (carrying BAD-ROOTS 0) ≡ judgeBeef s roots fee room
-    unfolding judgeBeef
+    unfolding judgeUpTo
     judge-roots h = simp (le-leb _ _ fits, ne-eqb _ _ h)
 
     module _ (even : length roots % 32 ≡ 0) where
       pub judge-refused : (x : Refusal) → each beefHeadOf (beefWhole room s) ≡ bad (x .number) (x .place) → refused (refusedReading x) ≡ judgeBeef s roots fee room
-      unfolding judgeBeef judgeRead
+      unfolding judgeUpTo judgeRead
       judge-refused x e = simp (le-leb _ _ fits, eq-eqb _ _ even, each-bad beefHeadOf (beefWhole room s) e)
 
       pub judge-read : (h : BeefHead) (q : ℕ) {bumps : List BumpHead} → each beefHeadOf (beefWhole room s) ≡ got h q → bumps ≡ headsOf (beefWhole room s)
@@ -242,7 +242,7 @@ module _ (s roots : List ℕ) (fee room : ℕ) where
           → judgementOf v ids numbers ≡ judgeFrom (headId s) (headStands s roots bumps) (headRow s) [] (headsFrom (h .bumps) s (h .transactions) (h .entries .at))
           → Written s ids numbers (headsFrom (h .bumps) s (h .transactions) (h .entries .at)) (reachedBy v) → Answers s ids numbers fee (reachedBy v) f
           → settled (faultOf f) (judgementOf v ids numbers) ≡ judgeBeef s roots fee room
-      unfolding judgeBeef judgeRead
+      unfolding judgeUpTo judgeRead
       judge-read h q {bumps} e found v ids numbers f judged written answers =
           let w = each-got beefHeadOf (beefWhole room s) e in
           outcome (w .0) (w .1) (w .2) (beef-told room s (w .1))

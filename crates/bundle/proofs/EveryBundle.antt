@@ -22,7 +22,7 @@ use Rattle.format.specs.Field.{bytes, byte, le2, le4, le8, number, announced, v
 use Rattle.format.specs.Bump.{Bump, bumpField}
 use Rattle.format.specs.Transaction.{Transaction, beefTxField}
 use Rattle.format.proofs.TransactionLaws.{tx-told}
-use Rattle.format.specs.Beef.{VERSION, Entry, Beef, versionField, bumpCountField, bumpsField, txCountField, bumpNumberField, anchorField, entryField, entriesField, beefField, beefWhole}
+use Rattle.format.specs.Beef.{VERSION, Entry, Beef, versionField, bumpCountField, bumpsField, bumpsUpTo, txCountField, bumpNumberField, anchorField, entryField, entriesField, beefField, beefUpTo, beefWhole}
 use Rattle.format.proofs.BeefLaws.{bump-count-told, tx-count-told, anchor-told}
 use Rattle.format.specs.Refusals.{LONG-VARINT, OVER-LIMIT, BAD-FLAG, BAD-VERSION, BAD-INDEX, EMPTY, NO-ROOM, MAX-INPUT, MAX-BUMPS, MAX-TXS}
 use Rattle.bundle.specs.Bundle.{judgeBeef}
@@ -253,7 +253,7 @@ split-of room s n m bumps count parts r₁ r₂ r₃ size few low nb bump counte
 
 -- every slice of u8 that is read as a bundle has them
 pub every-bundle : (room : ℕ) (s : List ℕ) (b : Beef) (q : ℕ) → ((i : ℕ) → Fits w8 (getD s i 0)) → beefWhole room s ≡ got b q → Split room s
-unfolding beefField bumpsField entriesField
+unfolding beefUpTo bumpsUpTo entriesField
 every-bundle room s b q all e =
     let v = onward-told (versionField s 0) _ (whole-told (beefField room) s e) in
     let l = onward-told (bumpsField s (v .1)) _ (v .3) in

@@ -1,4 +1,4 @@
--- 02, Item 8: "accepted proofs keep their answers", of a bundle: one that was accepted with at most so many layers in each BUMP is accepted now, with the same records.
+-- 02, Item 8: "accepted proofs keep their answers", of a bundle: one that is accepted with at most so many layers in each BUMP is accepted with more, with the same records; today's limit is MAX-HEIGHT, at which this is `judgeBeef`.
 use Prim.Native.Nat.{ℕ, _≤_, _%_}
 use mathlib.Core.Path.{_≡_, refl}
 use mathlib.Core.Bool.{Bool, true, false}
@@ -7,13 +7,13 @@ use lib.ListN.{length}
 use lib.Dec.{leb, eqb}
 use native.Mathlib.Omega.{arith}
 use Rattle.format.specs.Parse.{Parse, got, bad, pick, whole}
-use Rattle.format.specs.Refusals.{MAX-HEIGHT, MAX-INPUT, TOO-LONG, BAD-ROOTS}
-use Rattle.format.specs.Beef.{Beef, beefWhole}
-use Rattle.format.proofs.MoreLayers.{beefUpTo, beef-stays}
+use Rattle.format.specs.Refusals.{MAX-INPUT, TOO-LONG, BAD-ROOTS}
+use Rattle.format.specs.Beef.{Beef, beefUpTo}
+use Rattle.format.proofs.MoreLayers.{beef-stays}
 use Rattle.spv.specs.Result.{accepted, refused, carrying}
 use Rattle.spv.proofs.KeptAnswers.{Stays}
 use Rattle.bundle.specs.declared.table.Record.{Record}
-use Rattle.bundle.specs.Bundle.{Judgement, judgeRead, judgeBeef}
+use Rattle.bundle.specs.Bundle.{Judgement, judgeRead, judgeUpTo}
 
 judged-stays : (s roots : List ℕ) (fee : ℕ) (x y : Parse Beef) (l : List Record) → Stays x y → judgeRead s roots fee x ≡ accepted l → judgeRead s roots fee y ≡ accepted l
 unfolding judgeRead
@@ -24,16 +24,9 @@ tested : (t : Bool) (v w : Judgement) (why : ℕ) (l : List Record) → (v ≡ a
 tested true v w why l h e = h e
 tested false v w why l h e = e
 
--- judging as its own definition has it, but with BUMPs of at most so many layers
-unfoldable pub judgeUpTo : ℕ → List ℕ → List ℕ → ℕ → ℕ → Judgement
-judgeUpTo most s roots fee room =
-    pick (leb (length s) MAX-INPUT)
-    (pick (eqb (length roots % 32) 0) (judgeRead s roots fee (whole (beefUpTo most room) s)) (refused (carrying BAD-ROOTS 0)))
-    (refused (carrying TOO-LONG 0))
-
-pub verdict-kept : (most : ℕ) → most ≤ MAX-HEIGHT → (s roots : List ℕ) (fee room : ℕ) (l : List Record) → judgeUpTo most s roots fee room ≡ accepted l → judgeBeef s roots fee room ≡ accepted l
-unfolding judgeUpTo judgeBeef
-verdict-kept most low s roots fee room l =
+pub verdict-kept : (most more : ℕ) → most ≤ more → (s roots : List ℕ) (fee room : ℕ) (l : List Record) → judgeUpTo most s roots fee room ≡ accepted l → judgeUpTo more s roots fee room ≡ accepted l
+unfolding judgeUpTo
+verdict-kept most more low s roots fee room l =
     tested (leb (length s) MAX-INPUT) _ _ TOO-LONG l
     (tested (eqb (length roots % 32) 0) _ _ BAD-ROOTS l
-    (judged-stays s roots fee (whole (beefUpTo most room) s) (beefWhole room s) l (λ b end. beef-stays most low s end room b)))
+    (judged-stays s roots fee (whole (beefUpTo most room) s) (whole (beefUpTo more room) s) l (λ b end. beef-stays most more low s end room b)))

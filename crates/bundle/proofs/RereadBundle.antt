@@ -14,7 +14,7 @@ use Rattle.format.specs.Parse.{Reader, got, _passing_else_, times}
 use Rattle.format.specs.Bytes.{hashAt}
 use Rattle.format.specs.Field.{bytes, byte, le4, le8, number, varint}
 use Rattle.format.specs.Level.{holds, offsetField, flagAllowed, flagField, kindField, carriedField, leafField, andOffset, levelField, levelInTurn, nextTurn, levelFields}
-use Rattle.format.specs.Bump.{Bump, blockField, heightField, bumpField}
+use Rattle.format.specs.Bump.{Bump, blockField, heightUpTo, bumpField, bumpUpTo}
 use Rattle.format.specs.Transaction.{Transaction, scriptField, inputField, takes, outputField, outputsField, someField, listField, fieldsBy, txFieldBy}
 use Rattle.format.proofs.TransactionLaws.{TxRead, tx-told, tx-fields, tx-size, tx-read}
 use Rattle.format.specs.Beef.{Entry, bumpNumberField, anchorField, entryField}
@@ -87,7 +87,7 @@ module _ {u t : List ℕ} {base : ℕ} (stands : StandsIn u t base) where
       many-again (levelInTurn Layout.Bump height) (levelInTurn Layout.Bump height) nextTurn nextTurn (map (leafSaid u)) (map (leafSaid t)) (λ i. level-again _ _) (λ i a b e. refl) height 0
 
   pub bump-again : Same bumpField bumpField (bumpSaid u) (bumpSaid t)
-  unfolding bumpField blockField heightField
+  unfolding bumpUpTo blockField heightUpTo
   bump-again =
       then-same (passing-again varint varint (λ b. leb b MAX-BLOCK) (λ b. leb b MAX-BLOCK) OVER-LIMIT OVER-LIMIT (varint-again stands) (λ x. refl))
       (λ block. then-same (passing-again byte byte (λ h. leb 1 h && leb h MAX-HEIGHT) (λ h. leb 1 h && leb h MAX-HEIGHT) BAD-HEIGHT BAD-HEIGHT (byte-again stands) (λ x. refl))

@@ -16,7 +16,7 @@ use Rattle.format.specs.Beef.{Beef, beefWhole}
 use Rattle.format.proofs.BeefLaws.{beef-told}
 use Rattle.format.specs.Refusals.{BAD-ROOTS, MAX-INPUT, MAX-BUMPS}
 use Rattle.spv.specs.Result.{refused, carrying}
-use Rattle.bundle.specs.Bundle.{nthBump, judgeEntries, judgeRead, judgeBeef}
+use Rattle.bundle.specs.Bundle.{nthBump, judgeEntries, judgeRead, judgeBeef, judgeUpTo}
 use Rattle.spv.proofs.RowsLaws.{map-at}
 use Rattle.bundle.proofs.BundleTheorems.{emptyEntry}
 use Rattle.bundle.proofs.RereadBundle.{TxSaid, bumpSaid, txSaid, entrySaid}
@@ -78,7 +78,7 @@ same-place m (p ∷ parts) (suc k) =
 
 -- a bundle that was read is judged by its transactions, if the roots are whole
 judge-read : (s roots : List ℕ) (fee room : ℕ) (b : Beef) (q : ℕ) → length s ≤ MAX-INPUT → beefWhole room s ≡ got b q → judgeBeef s roots fee room ≡ pick (eqb (length roots % 32) 0) (judgeEntries s roots fee b) (refused (carrying BAD-ROOTS 0))
-unfolding judgeBeef judgeRead
+unfolding judgeUpTo judgeRead
 judge-read s roots fee room b q size e = rw (le-leb _ _ size, e)
 
 -- ---- the theorem

@@ -26,7 +26,7 @@ use Rattle.spv.specs.Hashes.{among}
 use Rattle.bundle.specs.declared.table.Record.{Record}
 use Rattle.bundle.specs.declared.judging.Standing.{Standing}
 use Rattle.bundle.specs.declared.judging.Standing.the-variants.{Refuses, Passes}
-use Rattle.bundle.specs.Bundle.{nthBump, entryId, proving, anchoring, standing, entryRow, Judgement, ahead, judgeFrom, judgeEntries, judgeRead, judgeBeef}
+use Rattle.bundle.specs.Bundle.{nthBump, entryId, proving, anchoring, standing, entryRow, Judgement, ahead, judgeFrom, judgeEntries, judgeRead, judgeBeef, judgeUpTo}
 use Rattle.bundle.proofs.BundleLaws.{from-refuses, from-passes}
 use Rattle.bundle.proofs.BundleTheorems.{emptyEntry, trusted-told}
 use Rattle.climbs.specs.Count.{startCost}
@@ -181,7 +181,7 @@ module _ (s roots : List ℕ) (fee : ℕ) (b : Beef) (all : SiblingsWritten s b)
 
 module _ (s roots : List ℕ) (fee room : ℕ) (b : Beef) (next : ℕ) (read : beefWhole room s ≡ got b next) (all : SiblingsWritten s b) where
   pub accepted-work : (records : List Record) → judgeBeef s roots fee room ≡ accepted records → judgeWork s roots fee room ≡ writtenWork b
-  unfolding judgeBeef judgeWork judgeRead readWork
+  unfolding judgeUpTo judgeWork judgeRead readWork
   accepted-work records e = go (leb (length s) MAX-INPUT) (eqb (length roots % 32) 0) (beefWhole room s) read e
     where
       go : (t u : Bool) (p : Parse Beef) → p ≡ got b next → pick t (pick u (judgeRead s roots fee p) (refused (carrying BAD-ROOTS 0))) (refused (carrying TOO-LONG 0)) ≡ accepted records

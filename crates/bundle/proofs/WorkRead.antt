@@ -54,7 +54,7 @@ use Rattle.bundle.specs.declared.judging.Standing.{Standing}
 use Rattle.bundle.specs.declared.judging.Standing.the-variants.{Refuses, Passes}
 use Rattle.bundle.specs.declared.judging.Verdict.{Verdict}
 use Rattle.bundle.specs.declared.judging.Verdict.the-variants.{Accepted, Refused}
-use Rattle.bundle.specs.Bundle.{trusted, proving, nthBump, emptyBump, entryId, anchoring, standing, entryRow, Judgement, ahead, judgeFrom, judgeEntries, judgeRead, judgeBeef}
+use Rattle.bundle.specs.Bundle.{trusted, proving, nthBump, emptyBump, entryId, anchoring, standing, entryRow, Judgement, ahead, judgeFrom, judgeEntries, judgeRead, judgeBeef, judgeUpTo}
 use Rattle.bundle.proofs.BundleLaws.{from-refuses, from-passes, accepted-length}
 use Rattle.bundle.proofs.BundleTheorems.{emptyEntry}
 use Rattle.bundle.specs.BundleHeads.{headId, headsFrom, noHead}
@@ -383,7 +383,7 @@ module _ (s roots : List ℕ) (fee room : ℕ) where
 
       pub work-read : (h : BeefHead) (q : ℕ) {bumps : List BumpHead} → each beefHeadOf (beefWhole room s) ≡ got h q → bumps ≡ headsOf (beefWhole room s)
           → (v : Verdict) (ids numbers anchors ends : List ℕ) {made : ℕ} → judgementOf v ids numbers ≡ judgeBeef s roots fee room → Counts bumps v ids numbers anchors ends made h
-      unfolding judgeBeef judgeRead judgeWork readWork
+      unfolding judgeUpTo judgeRead judgeWork readWork
       work-read h q {bumps} e found v ids numbers anchors ends {made} judged =
           let w = each-got beefHeadOf (beefWhole room s) e in
           outcome (w .0) (w .1) (w .2) (beef-told room s (w .1))

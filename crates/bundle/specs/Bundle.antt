@@ -7,13 +7,13 @@ use lib.ListN.{length, getD, replicate}
 use Rattle.format.specs.declared.tx.Input.{Input}
 use Rattle.format.specs.declared.beef.Anchor.{Anchor}
 use Rattle.format.specs.declared.beef.Anchor.the-variants.{Unanchored, Bump as InBump}
-use Rattle.format.specs.Parse.{Parse, got, bad, pick}
+use Rattle.format.specs.Parse.{Parse, got, bad, pick, whole}
 use Rattle.format.specs.Bytes.{hashAt}
 use Rattle.format.specs.Bump.{Bump}
 use Rattle.format.specs.Padded.{padded}
 use Rattle.format.specs.Id.{txid}
-use Rattle.format.specs.Beef.{Entry, Beef, beefWhole}
-use Rattle.format.specs.Refusals.{TOO-LONG, UNTRUSTED, SAME-TX, NO-PARENT, BAD-ROOTS, MAX-INPUT}
+use Rattle.format.specs.Beef.{Entry, Beef, beefUpTo}
+use Rattle.format.specs.Refusals.{TOO-LONG, UNTRUSTED, SAME-TX, NO-PARENT, BAD-ROOTS, MAX-INPUT, MAX-HEIGHT}
 use Rattle.bundle.specs.declared.table.Record.{Record}
 use Rattle.bundle.specs.declared.judging.Standing.{Standing}
 use Rattle.bundle.specs.declared.judging.Standing.the-variants.{Refuses, Passes}
@@ -103,12 +103,16 @@ unfoldable pub judgeRead : List ℕ → List ℕ → ℕ → Parse Beef → Judg
 judgeRead s roots fee (bad number place) = refused (carrying number place)
 judgeRead s roots fee (got b next) = judgeEntries s roots fee b
 
--- a BEEF, a list of roots, a fee for each transaction, and room for so many records: 1, 21, then fields as they come
-unfoldable pub judgeBeef : List ℕ → List ℕ → ℕ → ℕ → Judgement
-judgeBeef s roots fee room =
+-- a BEEF, a list of roots, a fee for each transaction, and room for so many records: 1, 21, then fields as they come, with BUMPs of at most so many layers
+unfoldable pub judgeUpTo : ℕ → List ℕ → List ℕ → ℕ → ℕ → Judgement
+judgeUpTo most s roots fee room =
     pick (leb (length s) MAX-INPUT)
-    (pick (eqb (length roots % 32) 0) (judgeRead s roots fee (beefWhole room s)) (refused (carrying BAD-ROOTS 0)))
+    (pick (eqb (length roots % 32) 0) (judgeRead s roots fee (whole (beefUpTo most room) s)) (refused (carrying BAD-ROOTS 0)))
     (refused (carrying TOO-LONG 0))
+
+-- with today's limit
+abbrev pub judgeBeef : List ℕ → List ℕ → ℕ → ℕ → Judgement
+judgeBeef = judgeUpTo MAX-HEIGHT
 
 -- the answer
 unfoldable pub verdictOf : Judgement → Verdict

@@ -25,7 +25,7 @@ use Rattle.spv.specs.Compare.{Target, any}
 use Rattle.spv.specs.Siblings.{levelSiblings, pathSiblings}
 use Rattle.spv.proofs.SiblingsLaws.{path-levels}
 use Rattle.spv.proofs.ReadingsLaws.{prove-same, bump-layers, bump-leads}
-use Rattle.spv.specs.Clients.{wantedBy, afterKind, afterLeaf, closing, clients, bumpClients}
+use Rattle.spv.specs.Clients.{wantedBy, afterKind, afterLeaf, closing, clients, bumpClients, clientsUpTo}
 use Rattle.climbs.specs.ClientsShapes.{clientsIn, clientsOfLevel}
 use Rattle.format.specs.Bytes.{hashAt}
 
@@ -100,7 +100,7 @@ bump-lowest s {q} b r = go (b .height) (r .some) (r .levels)
 
 -- a BUMP that was read, by its path's places
 pub bump-clients : (s : List ℕ) (b : Bump) (q : ℕ) → bumpWhole s ≡ got b q → clientsOfLevel (pathSiblings s (bumpPath s b)) (bumpPath s b .layers) s (b .start) ≡ bumpClients s
-unfolding bumpClients
+unfolding clientsUpTo
 bump-clients s b q e =
     let r = bump-whole-told s e in
     clients-level (pathSiblings s (bumpPath s b)) (bumpPath s b .layers) s (b .start) (bump-lowest s b r .1)
@@ -109,7 +109,7 @@ bump-clients s b q e =
     ∙ rw e
 
 pub clients-refused : (s : List ℕ) (number place : ℕ) → bumpWhole s ≡ bad number place → bumpClients s ≡ refused (carrying number place)
-unfolding bumpClients
+unfolding clientsUpTo
 clients-refused s number place e = rw e
 
 -- ---- one turn of a loop over a level's leaves: m are passed of n

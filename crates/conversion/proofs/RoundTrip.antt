@@ -20,7 +20,7 @@ use Rattle.spv.specs.Climb.{Siblings}
 use Rattle.spv.specs.Compare.{any, Proof, proofOf, prove}
 use Rattle.spv.proofs.CompareLaws.{prove-accepted}
 use Rattle.spv.proofs.Position.{position-exists}
-use Rattle.spv.specs.Readings.{bumpReading, tscReading, tscTarget, reading}
+use Rattle.spv.specs.Readings.{bumpReading, tscReading, tscReadingUpTo, tscTarget, readingUpTo}
 use Rattle.spv.proofs.ReadingsLaws.{read-proved, tsc-read}
 use Rattle.spv.specs.Siblings.{levelSiblings, nodeSiblings}
 use Rattle.block.proofs.OutputLaws.{room-enough}
@@ -42,7 +42,7 @@ tsc-round-trip s t q block room bumped all b w four call back enough =
 
 -- the BUMP of one id's climb proves what the climb proves, without the surplus leaves and other clients of its path
 climb-alone : (s id : List ℕ) (block : ℕ) (p : Proof) → AllBytes s → block ≤ MAX-BLOCK → prove (bumpReading s id) ≡ accepted p → prove (bumpReading (bumpBytes (clientBump block p)) id) ≡ accepted p
-unfolding reading
+unfolding readingUpTo
 climb-alone s id block p all b e =
     let c = bump-climb s id p e in
     let σ : Siblings = levelSiblings s (c .bump .levels) in
@@ -80,7 +80,7 @@ pub record ThereAndBack (s id tsc : List ℕ) (block : ℕ) : Type 0 where
   pub again : prove (bumpReading bumped id) ≡ accepted proof
 
 pub bump-round-trip : (s id : List ℕ) (room block : ℕ) (tsc : List ℕ) → AllBytes s → block ≤ MAX-BLOCK → bumpToTsc s id room ≡ accepted tsc → ThereAndBack s id tsc block
-unfolding tscReading
+unfolding tscReadingUpTo
 bump-round-trip s id room block tsc all b there =
     let x = to-tsc-proves s id room tsc all there in
     let r = read-proved (tscWhole tsc) _ (x .0) (x .2) in

@@ -24,7 +24,7 @@ use Rattle.spv.specs.Compare.{any, read, Proof, proveBy, prove}
 use Rattle.spv.proofs.Collide.{Whole}
 use Rattle.spv.specs.Siblings.{written, levelSiblings, nodeSiblings}
 use Rattle.spv.proofs.SiblingsLaws.{levelSiblings-whole}
-use Rattle.spv.specs.Readings.{starting, levelsReading, bumpReading, tscTarget, tscReading}
+use Rattle.spv.specs.Readings.{starting, levelsReading, bumpReading, bumpReadingUpTo, tscTarget, tscReading}
 use Rattle.spv.proofs.ReadingsLaws.{read-proved, tsc-read}
 use Rattle.spv.specs.Trace.{asCarried, nodesText, TRACE-ROOM}
 use Rattle.conversion.proofs.Taken.{taken, proof-siblings, proof-count, proof-layers}
@@ -41,7 +41,7 @@ pub record BumpClimb (s id : List ℕ) (p : Proof) : Type 0 where
   pub climbs : prove (read (levelSiblings s (bump .levels)) (bump .height) start id any) ≡ accepted p
 
 pub bump-climb : (s id : List ℕ) (p : Proof) → prove (bumpReading s id) ≡ accepted p → BumpClimb s id p
-unfolding bumpReading levelsReading starting proveBy
+unfolding bumpReadingUpTo levelsReading starting proveBy
 bump-climb s id p e =
     let r = read-proved (bumpWhole s) (λ b. levelsReading s (b .height) (b .levels) id) p e in
     go (r .0) (r .1) (r .2) (leastOffset s id (getD (r .0 .levels) 0 [])) refl (r .3)

@@ -16,7 +16,7 @@ use Rattle.spv.specs.Compare.{any, Proof, prove}
 use Rattle.spv.proofs.CompareLaws.{prove-accepted}
 use Rattle.spv.proofs.Position.{position-exists}
 use Rattle.spv.specs.Siblings.{levelSiblings}
-use Rattle.spv.specs.Readings.{bumpReading, tscReading, reading}
+use Rattle.spv.specs.Readings.{bumpReading, tscReading, readingUpTo}
 use Rattle.conversion.specs.Convert.{idTsc, bumpToTsc}
 use Rattle.block.specs.Output.{roomFor}
 use Rattle.conversion.proofs.Taken.{proof-siblings, proof-id}
@@ -28,7 +28,7 @@ use Rattle.block.proofs.OutputLaws.{room-told, room-enough}
 -- ---- the content is one that the layout can have
 
 pub tsc-fit : (s id : List ℕ) (p : Proof) → AllBytes s → prove (bumpReading s id) ≡ accepted p → TscFit (idTsc p)
-unfolding idTsc reading
+unfolding idTsc readingUpTo
 tsc-fit s id p all e =
     let c = bump-climb s id p e in
     let σ : Siblings = levelSiblings s (c .bump .levels) in

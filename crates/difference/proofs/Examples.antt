@@ -5,7 +5,7 @@ use Prim.Native.Nat.{ℕ}
 use Rattle.format.specs.Parse.{each, many, whole}
 use Rattle.format.specs.Field.{bytes, byte, varint}
 use Rattle.format.specs.Level.{holds, offsetField, flagField, kindField, carriedField, leafField, levelField, levelOfTurn}
-use Rattle.format.specs.Bump.{blockField, heightField, bumpField}
+use Rattle.format.specs.Bump.{blockField, heightUpTo, bumpUpTo}
 use Rattle.encoding.specs.BumpBytes.{Content, Entry, plain, copy, client, carriedOf}
 use Rattle.format.specs.Bytes.{same}
 use Rattle.spv.specs.Result.{refused, carrying}
@@ -65,5 +65,5 @@ pub listed : (left (0 ∷ 1 ∷ 0 ∷ []) (0 ∷ 1 ∷ 0 ∷ []) ≡ seven)
     × (left (0 ∷ 1 ∷ 0 ∷ []) (7 ∷ 2 ∷ 1 ∷ 1 ∷ 1 ∷ 0 ∷ []) ≡ seven)
     × (listing (0 ∷ 0 ∷ []) [] 0 ≡ refused (carrying 4 1))
     × (listing (0 ∷ 1 ∷ 0 ∷ []) (0 ∷ []) 0 ≡ refused (carrying 2 1))
-unfolding left varint byte bytes many each whole holds offsetField flagField kindField carriedField leafField levelField levelOfTurn blockField heightField bumpField carriedOf same at standing equal told tell offsetsFrom levelsFrom unless higher differences sideWord whatOf levelOf offsetOf wordsOf fitting listing wordsIn
+unfolding left varint byte bytes many each whole holds offsetField flagField kindField carriedField leafField levelField levelOfTurn blockField heightUpTo bumpUpTo carriedOf same at standing equal told tell offsetsFrom levelsFrom unless higher differences sideWord whatOf levelOf offsetOf wordsOf fitting listing wordsIn
 listed = (refl, refl, refl, refl, refl, refl)

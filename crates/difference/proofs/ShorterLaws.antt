@@ -10,11 +10,11 @@ use native.Mathlib.Omega.{arith}
 use Rattle.format.specs.Bytes.{same}
 use Rattle.format.specs.Parse.{pick, whole}
 use Rattle.format.specs.Field.{byte, varint}
-use Rattle.format.specs.Bump.{blockField, bumpField}
+use Rattle.format.specs.Bump.{blockField, bumpUpTo}
 use Rattle.format.specs.Refusals.{UNLIKE}
 use Rattle.spv.specs.Result.{Result, accepted, refused, carrying, follow}
 use Rattle.spv.specs.Compare.{Proof, proveBy, prove}
-use Rattle.spv.specs.Readings.{bumpReading}
+use Rattle.spv.specs.Readings.{bumpReading, bumpReadingUpTo}
 use Rattle.spv.specs.Shapes.{provedOf, acceptedOf}
 use Rattle.spv.specs.declared.prove.Outcome.the-variants.{Accepted, Refused}
 use Rattle.spv.specs.declared.prove.Proved.{Proved}
@@ -73,7 +73,7 @@ module _ (a b : List ℕ) where
 
 -- nothing is proved by an empty input
 proved-some : (a id : List ℕ) {p : Proof} → prove (bumpReading a id) ≡ accepted p → 0 < length a
-unfolding proveBy bumpReading whole bumpField blockField varint byte
+unfolding proveBy bumpReadingUpTo whole bumpUpTo blockField varint byte
 proved-some [] id e = let z : _≡_ {A = ℕ} 0 1 = cc in absurd (omega arith)
 proved-some (x ∷ a) id e = omega arith
 

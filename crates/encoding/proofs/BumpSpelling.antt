@@ -20,7 +20,7 @@ use Rattle.format.specs.Level.{holds, offsetField, flagAllowed, flagField, kind
 use Rattle.format.specs.Bytes.{hashAt}
 use Rattle.format.proofs.BytesLaws.{hash-there, hash-at-length}
 use Rattle.format.proofs.Basics.{and-true}
-use Rattle.format.specs.Bump.{Bump, blockField, heightField, bumpField}
+use Rattle.format.specs.Bump.{Bump, blockField, heightField, heightUpTo, bumpField, bumpUpTo}
 use Rattle.format.specs.Refusals.{BAD-OFFSET, REPEATED, BAD-FLAG, OVER-LIMIT, BAD-HEIGHT, MAX-BLOCK, MAX-HEIGHT, MAX-LEAVES}
 use Rattle.encoding.proofs.Stands.{Stands, stands-join, stands-split, stands-fits, stands-take, stands-here}
 use Rattle.format.proofs.Span.{bytes-told}
@@ -185,13 +185,13 @@ unfolding blockField
 block-spelling = refit (λ n f. (omega arith, le-leb n MAX-BLOCK f)) (λ n f. leb-true n MAX-BLOCK (f .1)) (tested-spelling (λ b. leb b MAX-BLOCK) OVER-LIMIT varint-spelling)
 
 height-spelling : Spelling heightField itself (λ b. b ∷ []) (λ h. (1 ≤ h) × (h ≤ MAX-HEIGHT))
-unfolding heightField
+unfolding heightUpTo
 height-spelling =
     refit (λ h f. (omega (arith, f .1), rw (le-leb 1 h (f .0)) (le-leb h MAX-HEIGHT (f .1)))) (λ h f. let t = and-true (leb 1 h) (leb h MAX-HEIGHT) (f .1) in (leb-true 1 h (t .0), leb-true h MAX-HEIGHT (t .1)))
     (tested-spelling (λ h. leb 1 h && leb h MAX-HEIGHT) BAD-HEIGHT byte-spelling)
 
 pub bump-spelling : Spelling bumpField contentOf bumpBytes ContentFit
-unfolding bumpField bumpBytes
+unfolding bumpUpTo bumpBytes
 bump-spelling = record { reads = reading; told = telling }
   where
     reading : (s : List ℕ) (at q : ℕ) (c : Content) → ContentFit c → Stands s at (bumpBytes c) q → (b : Bump) × (bumpField s at ≡ got b q) × (contentOf s b ≡ c)

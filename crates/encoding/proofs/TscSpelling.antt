@@ -17,7 +17,7 @@ use Rattle.format.specs.Field.{bytes, byte, varint}
 use Rattle.format.specs.Level.{kindField}
 use Rattle.format.specs.Node.{nodeField}
 use Rattle.format.specs.Transaction.{Listed}
-use Rattle.format.specs.Tsc.{flagsAllowed, flagsField, subjectField, targetField, indexFits, nodeCountField, nodesField, Tsc, tscField}
+use Rattle.format.specs.Tsc.{flagsAllowed, flagsField, subjectField, targetField, indexFits, nodeCountField, nodeCountUpTo, nodesField, nodesUpTo, Tsc, tscField, tscUpTo}
 use Rattle.format.specs.Id.{subjectId}
 use Rattle.format.specs.Refusals.{BAD-FLAG, BAD-OFFSET, OVER-LIMIT, MAX-HEIGHT}
 use Rattle.encoding.proofs.Stands.{Stands, stands-join, stands-split}
@@ -73,14 +73,14 @@ times-spelling : (n : ℕ) → Spelling (times nodeField n) (λ s. map (carriedO
 times-spelling n = many-spelling {S = Unit {0}} (λ _. nodeField) (λ u _. u) carriedOf carriedBytes (λ _. NodeFit) (λ u _. u) (λ s st a. refl) (λ _. node-spelling) n tt
 
 count-spelling : Spelling nodeCountField itself varintBytes (λ n. n ≤ MAX-HEIGHT)
-unfolding nodeCountField
+unfolding nodeCountUpTo
 count-spelling = refit (λ n f. (omega arith, le-leb n MAX-HEIGHT f)) (λ n f. leb-true n MAX-HEIGHT (f .1)) (tested-spelling (λ n. leb n MAX-HEIGHT) OVER-LIMIT varint-spelling)
 
 -- node count and nodes, for an index
 module _ (index indexAt : ℕ) where
   nodes-spelling : Spelling (nodesField index indexAt) (λ s l. map (carriedOf s) (l .items)) (λ l. varintBytes (length l) ++ spells carriedBytes l)
       (λ l. (index < 2 ^ length l) × (length l ≤ MAX-HEIGHT) × NodesFit l)
-  unfolding nodesField indexFits
+  unfolding nodesUpTo indexFits
   nodes-spelling = record {
     reads = λ s at q l f a.
         let sp = stands-split (varintBytes (length l)) (spells carriedBytes l) a in
@@ -115,7 +115,7 @@ flags-spelling = tested-spelling (λ f. flagsAllowed f) BAD-FLAG byte-spelling
 -- what is written is read, and says what was written
 pub tsc-reads : (s : List ℕ) (at q : ℕ) (c : TscContent) → TscFit c → Stands s at (tscBytes c) q
     → (t : Tsc) × (tscField s at ≡ got t q) × (t .flags ≡ ID-AND-ROOT) × (tscContentOf s t ≡ c)
-unfolding tscField subjectField targetField tscBytes subjectId each
+unfolding tscUpTo subjectField targetField tscBytes subjectId each
 tsc-reads s at q c f a =
     let nodes : List ℕ = varintBytes (length (c .nodes)) ++ spells carriedBytes (c .nodes) in
     let flags-end : ℕ = at + 1 in
@@ -147,7 +147,7 @@ tsc-reads s at q c f a =
 -- what was read with these flags is the writing of what it says
 pub tsc-says : (s : List ℕ) (at q : ℕ) (t : Tsc) → AllBytes s → tscField s at ≡ got t q → t .flags ≡ ID-AND-ROOT
     → Stands s at (tscBytes (tscContentOf s t)) q × TscFit (tscContentOf s t)
-unfolding tscField subjectField targetField tscBytes subjectId
+unfolding tscUpTo subjectField targetField tscBytes subjectId
 tsc-says s at q t h e four =
     let a = onward-told (flagsField s at) _ e in
     let b = onward-told (varint s (a .1)) _ (a .3) in

@@ -21,7 +21,7 @@ use Rattle.format.specs.Padded.{padded}
 use Rattle.format.specs.Bump.{Bump, bumpField, headOf}
 use Rattle.format.specs.Transaction.{Transaction, beefTxField, txHeadOf}
 use Rattle.format.proofs.TransactionLaws.{tx-told}
-use Rattle.format.specs.Beef.{Entry, Beef, versionField, bumpCountField, txCountField, bumpsField, bumpNumberField, anchorField, entryField, entriesField, beefField, beefWhole}
+use Rattle.format.specs.Beef.{Entry, Beef, versionField, bumpCountField, txCountField, bumpsField, bumpsUpTo, bumpNumberField, anchorField, entryField, entriesField, beefField, beefUpTo, beefWhole}
 use Rattle.format.specs.BeefAnswer.{entryHeadOf, firstAt, entriesOf, beefHeadOf, noBump, noBumps, headsKept, headsOf, opened, closing}
 use Rattle.format.specs.Refusals.{TOO-LONG, OVER-LIMIT, BAD-FLAG, EXTRA, EMPTY, BAD-INDEX, NO-ROOM, MAX-INPUT, MAX-BUMPS, MAX-TXS}
 
@@ -64,7 +64,7 @@ heads-kept p {l} {kept} {n} {q} e len k =
 
 -- by the fields
 pub heads-counted : (s : List ℕ) (at : ℕ) {n q : ℕ} → bumpCountField s at ≡ got n q → headsKept (times bumpField n s q) ≡ headsKept (bumpsField s at)
-unfolding bumpsField
+unfolding bumpsUpTo
 heads-counted s at e = rw e
 
 -- an anchor that was read: its BUMP number is below the count
@@ -122,7 +122,7 @@ pub record BeefRead (room : ℕ) (s : List ℕ) (b : Beef) : Type 0 where
 -- the BUMPs
 bumps-told : (s : List ℕ) (at : ℕ) {l : List Bump} {q : ℕ} → bumpsField s at ≡ got l q
     → (length l ≤ MAX-BUMPS) × ((k : ℕ) (d : Bump) → k < length l → ItemRead bumpField s (getD l k d))
-unfolding bumpsField
+unfolding bumpsUpTo
 bumps-told s at e =
     let x = onward-told (bumpCountField s at) _ e in
     let n = many-length {S = Unit {0}} (λ _. bumpField) (λ u _. u) (x .0) tt s (x .1) (x .3) in
@@ -163,7 +163,7 @@ entries-told bumps room s at {l} {q} e =
     }
 
 pub beef-told : (room : ℕ) (s : List ℕ) {b : Beef} {q : ℕ} → beefWhole room s ≡ got b q → BeefRead room s b
-unfolding beefField
+unfolding beefUpTo
 beef-told room s {b} {q} e =
     let v = onward-told (versionField s 0) _ (whole-told (beefField room) s e) in
     let x = onward-told (bumpsField s (v .1)) _ (v .3) in
@@ -233,7 +233,7 @@ module _ (room n : ℕ) (s : List ℕ) (at : ℕ) where
 
 -- a bundle by its parts
 pub beef-parts : (room : ℕ) (s : List ℕ) → each beefHeadOf (beefWhole room s) ≡ onward (opened s) (λ _ at. onward (each length (bumpsField s at)) (λ n next. closing room n s next))
-unfolding each whole opened beefField closing
+unfolding each whole opened beefUpTo closing
 beef-parts room s = sized (leb (length s) MAX-INPUT)
   where
     last : (l : List Bump) (entries : List Entry) (q : ℕ) (t : Bool)
@@ -284,7 +284,7 @@ heads-read e = rw e
 
 -- which are those of its BUMPs
 pub heads-opened : (room : ℕ) (s : List ℕ) {v at : ℕ} {h : BeefHead} {q : ℕ} → opened s ≡ got v at → each beefHeadOf (beefWhole room s) ≡ got h q → headsKept (bumpsField s at) ≡ headsOf (beefWhole room s)
-unfolding opened beefField headsKept
+unfolding opened beefUpTo headsKept
 heads-opened room s {v} {at} {h} {q} e f =
     let w = each-got beefHeadOf (beefWhole room s) f in
     let x = onward-told (versionField s 0) _ (whole-told (beefField room) s (w .1)) in

@@ -14,34 +14,34 @@ use Rattle.format.proofs.ParseLaws.{each-got, each-bad, passing-told, o
 use Rattle.format.specs.Field.{byte}
 use Rattle.format.specs.Level.{levelFields, total}
 use Rattle.format.proofs.LevelLaws.{total-reverse}
-use Rattle.format.specs.Bump.{Bump, blockField, heightField, bumpField, bumpWhole, headOf}
-use Rattle.format.specs.Cmp.{Cmp, topField, cmpField, cmpWhole, cmpHeadOf}
-use Rattle.format.specs.Refusals.{BAD-HEIGHT, MAX-HEIGHT, MAX-TOP}
+use Rattle.format.specs.Bump.{Bump, blockField, heightField, heightUpTo, bumpField, bumpUpTo, bumpWhole, headOf}
+use Rattle.format.specs.Cmp.{Cmp, topField, topUpTo, cmpField, cmpUpTo, cmpWhole, cmpHeadOf}
+use Rattle.format.specs.Refusals.{BAD-HEIGHT, MAX-HEIGHT}
 
 pub height-bounded : (s : List ℕ) (at : ℕ) {h q : ℕ} → heightField s at ≡ got h q → (1 ≤ h) × (h ≤ MAX-HEIGHT)
-unfolding heightField
+unfolding heightUpTo
 height-bounded s at {h} e =
     let t = and-true (leb 1 h) (leb h MAX-HEIGHT) (passing-told byte (λ h. leb 1 h && leb h MAX-HEIGHT) BAD-HEIGHT s at e .1) in
     (leb-true 1 h (t .0), leb-true h MAX-HEIGHT (t .1))
 
-pub top-bounded : (s : List ℕ) (at : ℕ) {m q : ℕ} → topField s at ≡ got m q → m ≤ MAX-TOP
-unfolding topField
-top-bounded s at {m} e = leb-true m MAX-TOP (passing-told byte (λ m. leb m MAX-TOP) BAD-HEIGHT s at e .1)
+pub top-bounded : (s : List ℕ) (at : ℕ) {m q : ℕ} → topField s at ≡ got m q → m + 1 ≤ MAX-HEIGHT
+unfolding topUpTo
+top-bounded s at {m} e = leb-true (m + 1) MAX-HEIGHT (passing-told byte (λ m. leb (m + 1) MAX-HEIGHT) BAD-HEIGHT s at e .1)
 
 -- the answer of a BUMP, by its fields
 module _ (s : List ℕ) (at : ℕ) {block q : ℕ} (e : blockField s at ≡ got block q) where
   pub bump-no-height : {n t : ℕ} → heightField s q ≡ bad n t → each headOf (bumpField s at) ≡ bad n t
-  unfolding each bumpField
+  unfolding each bumpUpTo
   bump-no-height f = rw (e, f)
 
   module _ {height r : ℕ} (f : heightField s q ≡ got height r) where
     pub bump-no-levels : {n t : ℕ} → each total (levelFields Layout.Bump height s r) ≡ bad n t → each headOf (bumpField s at) ≡ bad n t
-    unfolding each bumpField
+    unfolding each bumpUpTo
     bump-no-levels g = rw (e, f, each-bad total (levelFields Layout.Bump height s r) g)
 
     pub bump-read : {n t : ℕ} → each total (levelFields Layout.Bump height s r) ≡ got n t
         → each headOf (bumpField s at) ≡ got (record { block = block; height = height; leaves = n; levels = record { at = r } }) t
-    unfolding each bumpField
+    unfolding each bumpUpTo
     bump-read {t = t} g =
         let x = each-got total (levelFields Layout.Bump height s r) g in
         rw (e, f, x .1) (ap (λ (n : ℕ). got (record { block = block; height = height; leaves = n; levels = record { at = r } }) t) (x .2))
@@ -49,12 +49,12 @@ module _ (s : List ℕ) (at : ℕ) {block q : ℕ} (e : blockField s at ≡ got 
 -- the answer of a CMP, by its fields
 module _ (s : List ℕ) (at : ℕ) {m r : ℕ} (e : topField s at ≡ got m r) where
   pub cmp-no-levels : {n t : ℕ} → each total (levelFields Layout.Cmp (m + 1) s r) ≡ bad n t → each cmpHeadOf (cmpField s at) ≡ bad n t
-  unfolding each cmpField
+  unfolding each cmpUpTo
   cmp-no-levels g = rw (e, each-bad total (levelFields Layout.Cmp (m + 1) s r) g)
 
   pub cmp-read : {n t : ℕ} → each total (levelFields Layout.Cmp (m + 1) s r) ≡ got n t
       → each cmpHeadOf (cmpField s at) ≡ got (record { height = m + 1; leaves = n; levels = record { at = r } }) t
-  unfolding each cmpField
+  unfolding each cmpUpTo
   cmp-read {t = t} g =
       let x = each-got total (levelFields Layout.Cmp (m + 1) s r) g in
       rw (e, x .1) (ap (λ (n : ℕ). got (record { height = m + 1; leaves = n; levels = record { at = r } }) t) (total-reverse (x .0) ∙ x .2))
@@ -66,7 +66,7 @@ pub record BumpRead (s : List ℕ) (q : ℕ) (b : Bump) : Type 0 where
   pub levels : levelFields Layout.Bump (b .height) s (b .start) ≡ got (b .levels) q
 
 pub bump-told : (s : List ℕ) (at : ℕ) {b : Bump} {q : ℕ} → bumpField s at ≡ got b q → BumpRead s q b
-unfolding bumpField
+unfolding bumpUpTo
 bump-told s at {b} {q} e =
     let x = onward-told (blockField s at) _ e in
     let y = onward-told (heightField s (x .1)) _ (x .3) in
@@ -86,17 +86,17 @@ bump-whole-told s e = bump-told s 0 (whole-told bumpField s e)
 -- what is known of a CMP that was read: its height's bounds, and its levels at their place, from the top down
 pub record CmpRead (s : List ℕ) (q : ℕ) (p : Cmp) : Type 0 where
   pub some : 1 ≤ p .height
-  pub low : p .height ≤ MAX-TOP + 1
+  pub low : p .height ≤ MAX-HEIGHT
   pub levels : (down : List (List Leaf)) × (levelFields Layout.Cmp (p .height) s (p .start) ≡ got down q) × (reverse down ≡ p .levels)
 
 pub cmp-told : (s : List ℕ) (at : ℕ) {p : Cmp} {q : ℕ} → cmpField s at ≡ got p q → CmpRead s q p
-unfolding cmpField
+unfolding cmpUpTo
 cmp-told s at {p} {q} e =
     let x = onward-told (topField s at) _ e in
     let z = onward-told (levelFields Layout.Cmp (x .0 + 1) s (x .1)) _ (x .3) in
     built (x .0) (x .1) (z .1) (z .0) (top-bounded s at (x .2)) (z .2) (z .3)
   where
-    built : (m start end : ℕ) (down : List (List Leaf)) → m ≤ MAX-TOP → levelFields Layout.Cmp (m + 1) s start ≡ got down end
+    built : (m start end : ℕ) (down : List (List Leaf)) → m + 1 ≤ MAX-HEIGHT → levelFields Layout.Cmp (m + 1) s start ≡ got down end
         → _≡_ {A = Parse Cmp} (got (record { height = m + 1; start = start; levels = reverse down }) end) (got p q) → CmpRead s q p
     built m start end down h l is =
         let ep : record { height = m + 1; start = start; levels = reverse down } ≡ p = cc in

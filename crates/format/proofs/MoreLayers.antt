@@ -1,4 +1,4 @@
--- What is accepted with fewer layers is accepted with more, and is the same (02, Item 8: "accepted proofs keep their answers").
+-- What is accepted with fewer layers is accepted with more, and is the same (02, Item 8: "accepted proofs keep their answers"). Today's limit is MAX-HEIGHT.
 use mathlib.Core.Path.{_≡_}
 use mathlib.Core.Bool.{Bool, true, false, _&&_}
 use mathlib.Core.List.{List, reverse}
@@ -8,66 +8,17 @@ use lib.Dec.{ltb, leb}
 use native.Mathlib.Omega.{arith}
 use borrow.Author.Tests.{le-leb, leb-true}
 use Rattle.format.specs.declared.level.Layout.{Layout}
-use Rattle.format.specs.declared.level.Kind.{Kind}
 use Rattle.format.proofs.Basics.{and-true}
 use Rattle.format.specs.Parse.{Reader, pick, pure, here, _>>=_, _>>_, _passing_else_, require, times, ended, whole, got, bad}
 use Rattle.format.proofs.ParseLaws.{passing-told, onward-told, many-loose}
 use Rattle.format.specs.Field.{byte, varint}
 use Rattle.format.specs.Level.{levelFields}
-use Rattle.format.specs.Bump.{Bump, blockField, heightField, bumpField, bumpWhole}
-use Rattle.format.specs.Cmp.{Cmp, topField, cmpField, cmpWhole}
+use Rattle.format.specs.Bump.{Bump, blockField, heightUpTo, bumpUpTo}
+use Rattle.format.specs.Cmp.{Cmp, topUpTo, cmpUpTo}
 use Rattle.format.specs.Node.{nodeField}
-use Rattle.format.specs.Transaction.{Listed}
-use Rattle.format.specs.Tsc.{Tsc, flagsField, subjectField, targetField, indexFits, nodeCountField, nodesField, tscField, tscWhole}
-use Rattle.format.specs.Beef.{Beef, versionField, bumpCountField, bumpsField, entriesField, beefField, beefWhole}
-use Rattle.format.specs.Refusals.{TOO-LONG, EXTRA, BAD-HEIGHT, OVER-LIMIT, BAD-OFFSET, MAX-INPUT, MAX-HEIGHT, MAX-TOP}
-
--- each form as its own definition has it, but of at most so many layers
-module _ (most : ℕ) where
-  unfoldable pub bumpUpTo : Reader Bump
-  bumpUpTo = do
-    block ← blockField
-    height ← byte passing (λ h. leb 1 h && leb h most) else BAD-HEIGHT
-    start ← here
-    levels ← levelFields Layout.Bump height
-    pure (record { block = block; height = height; start = start; levels = levels })
-
-  unfoldable pub cmpUpTo : Reader Cmp
-  cmpUpTo = do
-    m ← byte passing (λ m. leb (m + 1) most) else BAD-HEIGHT
-    start ← here
-    levels ← levelFields Layout.Cmp (m + 1)
-    pure (record { height = m + 1; start = start; levels = reverse levels })
-
-  unfoldable pub nodesUpTo : ℕ → ℕ → Reader (Listed Kind)
-  nodesUpTo index indexAt = do
-    count ← varint passing (λ n. leb n most) else OVER-LIMIT
-    require (indexFits index count) BAD-OFFSET indexAt
-    at ← here
-    nodes ← times nodeField count
-    pure (record { at = at; items = nodes })
-
-  unfoldable pub tscUpTo : Reader Tsc
-  tscUpTo = do
-    flags ← flagsField
-    indexAt ← here
-    index ← varint
-    subject ← subjectField flags
-    target ← targetField flags
-    nodes ← nodesUpTo index indexAt
-    pure (record { flags = flags; index = index; subject = subject; target = target; nodesAt = nodes .at; nodes = nodes .items })
-
-  unfoldable pub bumpsUpTo : Reader (List Bump)
-  bumpsUpTo = do
-    count ← bumpCountField
-    times bumpUpTo count
-
-  unfoldable pub beefUpTo : ℕ → Reader Beef
-  beefUpTo room = do
-    _ ← versionField
-    bumps ← bumpsUpTo
-    entries ← entriesField (length bumps) room
-    pure (record { bumps = bumps; entries = entries })
+use Rattle.format.specs.Tsc.{Tsc, flagsField, subjectField, targetField, indexFits, nodeCountUpTo, nodesUpTo, tscUpTo}
+use Rattle.format.specs.Beef.{Beef, versionField, bumpCountField, bumpsUpTo, entriesField, beefUpTo}
+use Rattle.format.specs.Refusals.{TOO-LONG, EXTRA, BAD-HEIGHT, OVER-LIMIT, BAD-OFFSET, MAX-INPUT}
 
 -- what one reader reads the other reads, too, to the same end
 abbrev pub Keeps : {A : Type 0} → Reader A → Reader A → Type 0
@@ -94,28 +45,34 @@ input {A} {p} {q} k s a end e = go (leb (length s) MAX-INPUT) e
     go true m = let x = onward-told (p s 0) (λ b next. pick (ltb next (length s)) (bad EXTRA next) (got b next)) m in rw (k s 0 (x .0) (x .1) (x .2)) (x .3)
     go false m = m
 
-module _ (most : ℕ) (low : most ≤ MAX-HEIGHT) where
-  bump-kept : Keeps (bumpUpTo most) bumpField
-  unfolding bumpUpTo bumpField heightField
+module _ (most more : ℕ) (low : most ≤ more) where
+  height-kept : Keeps (heightUpTo most) (heightUpTo more)
+  unfolding heightUpTo
+  height-kept =
+      fewer byte (λ h. leb 1 h && leb h most) (λ h. leb 1 h && leb h more) BAD-HEIGHT
+      (λ h e. let x = and-true (leb 1 h) (leb h most) e in rw (x .0) (le-leb h more (let y = leb-true h most (x .1) in omega arith)))
+
+  bump-kept : Keeps (bumpUpTo most) (bumpUpTo more)
+  unfolding bumpUpTo
   bump-kept =
       andThen (same blockField)
-      (λ block. andThen (fewer byte (λ h. leb 1 h && leb h most) (λ h. leb 1 h && leb h MAX-HEIGHT) BAD-HEIGHT (λ h e. let x = and-true (leb 1 h) (leb h most) e in rw (x .0) (le-leb h MAX-HEIGHT (let y = leb-true h most (x .1) in omega arith))))
+      (λ block. andThen height-kept
       (λ height. same (here >>= (λ start. levelFields Layout.Bump height >>= (λ levels. pure (record { block = block; height = height; start = start; levels = levels }))))))
 
-  cmp-kept : Keeps (cmpUpTo most) cmpField
-  unfolding cmpUpTo cmpField topField
+  cmp-kept : Keeps (cmpUpTo most) (cmpUpTo more)
+  unfolding cmpUpTo topUpTo
   cmp-kept =
-      andThen (fewer byte (λ m. leb (m + 1) most) (λ m. leb m MAX-TOP) BAD-HEIGHT (λ m e. le-leb m MAX-TOP (let y = leb-true (m + 1) most e in omega arith)))
+      andThen (fewer byte (λ m. leb (m + 1) most) (λ m. leb (m + 1) more) BAD-HEIGHT (λ m e. le-leb (m + 1) more (let y = leb-true (m + 1) most e in omega arith)))
       (λ m. same (here >>= (λ start. levelFields Layout.Cmp (m + 1) >>= (λ levels. pure (record { height = m + 1; start = start; levels = reverse levels })))))
 
-  nodes-kept : (index indexAt : ℕ) → Keeps (nodesUpTo most index indexAt) (nodesField index indexAt)
-  unfolding nodesUpTo nodesField nodeCountField
+  nodes-kept : (index indexAt : ℕ) → Keeps (nodesUpTo most index indexAt) (nodesUpTo more index indexAt)
+  unfolding nodesUpTo nodeCountUpTo
   nodes-kept index indexAt =
-      andThen (fewer varint (λ n. leb n most) (λ n. leb n MAX-HEIGHT) OVER-LIMIT (λ n e. le-leb n MAX-HEIGHT (let y = leb-true n most e in omega arith)))
+      andThen (fewer varint (λ n. leb n most) (λ n. leb n more) OVER-LIMIT (λ n e. le-leb n more (let y = leb-true n most e in omega arith)))
       (λ count. same (require (indexFits index count) BAD-OFFSET indexAt >>= (λ _. here >>= (λ at. times nodeField count >>= (λ nodes. pure (record { at = at; items = nodes }))))))
 
-  tsc-kept : Keeps (tscUpTo most) tscField
-  unfolding tscUpTo tscField
+  tsc-kept : Keeps (tscUpTo most) (tscUpTo more)
+  unfolding tscUpTo
   tsc-kept =
       andThen (same flagsField)
       (λ flags. andThen (same here)
@@ -125,23 +82,23 @@ module _ (most : ℕ) (low : most ≤ MAX-HEIGHT) where
       (λ target. andThen (nodes-kept index indexAt)
       (λ nodes. same (pure (record { flags = flags; index = index; subject = subject; target = target; nodesAt = nodes .at; nodes = nodes .items }))))))))
 
-  beef-kept : (room : ℕ) → Keeps (beefUpTo most room) (beefField room)
-  unfolding beefUpTo beefField bumpsUpTo bumpsField
+  beef-kept : (room : ℕ) → Keeps (beefUpTo most room) (beefUpTo more room)
+  unfolding beefUpTo bumpsUpTo
   beef-kept room =
       andThen (same versionField)
-      (λ _. andThen (andThen (same bumpCountField) (λ count s at l end e. many-loose {S = Unit {0}} {S′ = Unit {0}} (λ _. bumpUpTo most) (λ u _. u) (λ _. bumpField) (λ u _. u) s (λ _ _ at a q. bump-kept s at a q) count tt tt at e))
+      (λ _. andThen (andThen (same bumpCountField) (λ count s at l end e. many-loose {S = Unit {0}} {S′ = Unit {0}} (λ _. bumpUpTo most) (λ u _. u) (λ _. bumpUpTo more) (λ u _. u) s (λ _ _ at a q. bump-kept s at a q) count tt tt at e))
       (λ bumps. same (entriesField (length bumps) room >>= (λ entries. pure (record { bumps = bumps; entries = entries })))))
 
   -- an input that was accepted with fewer layers
   module _ (s : List ℕ) (end : ℕ) where
-    pub bump-stays : (b : Bump) → whole (bumpUpTo most) s ≡ got b end → bumpWhole s ≡ got b end
+    pub bump-stays : (b : Bump) → whole (bumpUpTo most) s ≡ got b end → whole (bumpUpTo more) s ≡ got b end
     bump-stays b = input bump-kept s b end
 
-    pub cmp-stays : (c : Cmp) → whole (cmpUpTo most) s ≡ got c end → cmpWhole s ≡ got c end
+    pub cmp-stays : (c : Cmp) → whole (cmpUpTo most) s ≡ got c end → whole (cmpUpTo more) s ≡ got c end
     cmp-stays c = input cmp-kept s c end
 
-    pub tsc-stays : (t : Tsc) → whole (tscUpTo most) s ≡ got t end → tscWhole s ≡ got t end
+    pub tsc-stays : (t : Tsc) → whole (tscUpTo most) s ≡ got t end → whole (tscUpTo more) s ≡ got t end
     tsc-stays t = input tsc-kept s t end
 
-    pub beef-stays : (room : ℕ) (b : Beef) → whole (beefUpTo most room) s ≡ got b end → beefWhole room s ≡ got b end
+    pub beef-stays : (room : ℕ) (b : Beef) → whole (beefUpTo most room) s ≡ got b end → whole (beefUpTo more room) s ≡ got b end
     beef-stays room b = input (beef-kept room) s b end

@@ -22,7 +22,7 @@ use Rattle.format.specs.Node.{nodeField}
 use Rattle.format.proofs.BytesLaws.{hash-none}
 use Rattle.format.specs.Transaction.{Listed, Transaction, txField, itemsOf, txHeadOf}
 use Rattle.format.proofs.TransactionLaws.{tx-told}
-use Rattle.format.specs.Tsc.{flagsAllowed, flagsField, hasTransaction, hasHeader, exactly, exactField, asSubject, statedField, subjectField, targetField, indexFits, nodeCountField, nodesField, Tsc, tscField, tscWhole, tscHeadOf, targetRoot}
+use Rattle.format.specs.Tsc.{flagsAllowed, flagsField, hasTransaction, hasHeader, exactly, exactField, asSubject, statedField, subjectField, targetField, indexFits, nodeCountField, nodeCountUpTo, nodesField, nodesUpTo, Tsc, tscField, tscUpTo, tscWhole, tscHeadOf, targetRoot}
 use Rattle.format.specs.Refusals.{OVER-LIMIT, BAD-OFFSET, BAD-FLAG, BAD-TX, MAX-HEIGHT}
 
 -- the index test by division: 2 ^ 64 need not fit
@@ -65,21 +65,21 @@ module _ (n : ℕ) (s : List ℕ) (at : ℕ) where
 -- the nodes with their count
 module _ (index indexAt : ℕ) (s : List ℕ) (at : ℕ) where
   pub nodes-no-count : {n q : ℕ} → nodeCountField s at ≡ bad n q → each itemsOf (nodesField index indexAt s at) ≡ bad n q
-  unfolding nodesField each
+  unfolding nodesUpTo each
   nodes-no-count e = rw e
 
   pub nodes-outside : {n q : ℕ} → nodeCountField s at ≡ got n q → indexFits index n ≡ false → each itemsOf (nodesField index indexAt s at) ≡ bad BAD-OFFSET indexAt
-  unfolding nodesField each
+  unfolding nodesUpTo each
   nodes-outside e h = rw (e, h)
 
   pub nodes-refused : {n q k r : ℕ} → nodeCountField s at ≡ got n q → indexFits index n ≡ true → times nodeField n s q ≡ bad k r
       → each itemsOf (nodesField index indexAt s at) ≡ bad k r
-  unfolding nodesField each
+  unfolding nodesUpTo each
   nodes-refused e h f = rw (e, h, f)
 
   pub nodes-read : {n q m r : ℕ} {l : List Kind} → nodeCountField s at ≡ got n q → indexFits index n ≡ true → times nodeField n s q ≡ got l r → length l ≡ m
       → each itemsOf (nodesField index indexAt s at) ≡ got (record { count = m; at = record { at = q } }) r
-  unfolding nodesField each
+  unfolding nodesUpTo each
   nodes-read e h f m = rw (e, h, f, m)
 
 -- what a reading answers, by what it kept
@@ -149,7 +149,7 @@ pub record NodesRead (index : ℕ) (s : List ℕ) (next : ℕ) (l : Listed Kind)
   pub read : times nodeField (length (l .items)) s (l .at) ≡ got (l .items) next
 
 pub nodes-told : (index indexAt : ℕ) (s : List ℕ) (at : ℕ) {l : Listed Kind} {q : ℕ} → nodesField index indexAt s at ≡ got l q → NodesRead index s q l
-unfolding nodesField nodeCountField
+unfolding nodesUpTo nodeCountUpTo
 nodes-told index indexAt s at {l} {q} e =
     let x = onward-told (nodeCountField s at) _ e in
     let y = onward-told (require (indexFits index (x .0)) BAD-OFFSET indexAt s (x .1)) _ (x .3) in
@@ -176,7 +176,7 @@ pub record TscRead (s : List ℕ) (next : ℕ) (t : Tsc) : Type 0 where
   pub nodes : times nodeField (length (t .nodes)) s (t .nodesAt) ≡ got (t .nodes) next
 
 pub tsc-told : (s : List ℕ) (at : ℕ) {t : Tsc} {q : ℕ} → tscField s at ≡ got t q → TscRead s q t
-unfolding tscField flagsField targetField
+unfolding tscUpTo flagsField targetField
 tsc-told s at {t} {q} e =
     let a = onward-told (flagsField s at) _ e in
     let b = onward-told (varint s (a .1)) _ (a .3) in

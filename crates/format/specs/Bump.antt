@@ -23,16 +23,23 @@ pub record Bump : Type 0 where
 unfoldable pub blockField : Reader ℕ
 blockField = varint passing (λ b. leb b MAX-BLOCK) else OVER-LIMIT
 
-unfoldable pub heightField : Reader ℕ
-heightField = byte passing (λ h. leb 1 h && leb h MAX-HEIGHT) else BAD-HEIGHT
+-- at most so many layers; `heightField` and `bumpField` have today's limit
+unfoldable pub heightUpTo : ℕ → Reader ℕ
+heightUpTo most = byte passing (λ h. leb 1 h && leb h most) else BAD-HEIGHT
 
-unfoldable pub bumpField : Reader Bump
-bumpField = do
+unfoldable pub bumpUpTo : ℕ → Reader Bump
+bumpUpTo most = do
   block ← blockField
-  height ← heightField
+  height ← heightUpTo most
   start ← here
   levels ← levelFields Layout.Bump height
   pure (record { block = block; height = height; start = start; levels = levels })
+
+abbrev pub heightField : Reader ℕ
+heightField = heightUpTo MAX-HEIGHT
+
+abbrev pub bumpField : Reader Bump
+bumpField = bumpUpTo MAX-HEIGHT
 
 -- an input that is one whole BUMP
 abbrev pub bumpWhole : List ℕ → Parse Bump

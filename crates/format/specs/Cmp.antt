@@ -10,7 +10,7 @@ use Rattle.format.specs.declared.refusal.Refusal.{Refusal}
 use Rattle.format.specs.Parse.{Parse, Reader, pure, here, _>>=_, _passing_else_, whole, got, bad}
 use Rattle.format.specs.Field.{byte}
 use Rattle.format.specs.Level.{levelFields, total}
-use Rattle.format.specs.Refusals.{BAD-HEIGHT, MAX-TOP}
+use Rattle.format.specs.Refusals.{BAD-HEIGHT, MAX-HEIGHT}
 
 -- its m + 1 layers, the place where the levels start, and the levels from 0 up, though they are written from m down
 pub record Cmp : Type 0 where
@@ -18,16 +18,22 @@ pub record Cmp : Type 0 where
   pub start : ℕ
   pub levels : List (List Leaf)
 
--- the byte m
-unfoldable pub topField : Reader ℕ
-topField = byte passing (λ m. leb m MAX-TOP) else BAD-HEIGHT
+-- the byte m, which stands for m + 1 layers, at most so many; `topField` and `cmpField` have today's limit
+unfoldable pub topUpTo : ℕ → Reader ℕ
+topUpTo most = byte passing (λ m. leb (m + 1) most) else BAD-HEIGHT
 
-unfoldable pub cmpField : Reader Cmp
-cmpField = do
-  m ← topField
+unfoldable pub cmpUpTo : ℕ → Reader Cmp
+cmpUpTo most = do
+  m ← topUpTo most
   start ← here
   levels ← levelFields Layout.Cmp (m + 1)
   pure (record { height = m + 1; start = start; levels = reverse levels })
+
+abbrev pub topField : Reader ℕ
+topField = topUpTo MAX-HEIGHT
+
+abbrev pub cmpField : Reader Cmp
+cmpField = cmpUpTo MAX-HEIGHT
 
 -- an input that is one whole CMP
 abbrev pub cmpWhole : List ℕ → Parse Cmp

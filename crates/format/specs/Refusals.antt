@@ -132,10 +132,6 @@ MAX-INPUT = S.MAX-INPUT
 abbrev pub MAX-HEIGHT : ℕ
 MAX-HEIGHT = 64
 
--- the byte m of a CMP
-abbrev pub MAX-TOP : ℕ
-MAX-TOP = 63
-
 -- how many numbers 32 bits hold
 abbrev pub U32 : ℕ
 U32 = 4294967296

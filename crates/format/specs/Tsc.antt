@@ -60,14 +60,14 @@ targetField flags = bytes (pick (hasHeader flags) 80 32)
 unfoldable pub indexFits : ℕ → ℕ → Bool
 indexFits index layers = ltb index (2 ^ layers)
 
--- a node count VarInt
-unfoldable pub nodeCountField : Reader ℕ
-nodeCountField = varint passing (λ n. leb n MAX-HEIGHT) else OVER-LIMIT
+-- a node count VarInt, at most so many nodes; `nodeCountField`, `nodesField` and `tscField` have today's limit
+unfoldable pub nodeCountUpTo : ℕ → Reader ℕ
+nodeCountUpTo most = varint passing (λ n. leb n most) else OVER-LIMIT
 
 -- node count, nodes; the index is tested after the count, before the nodes
-unfoldable pub nodesField : ℕ → ℕ → Reader (Listed Kind)
-nodesField index indexAt = do
-  count ← nodeCountField
+unfoldable pub nodesUpTo : ℕ → ℕ → ℕ → Reader (Listed Kind)
+nodesUpTo most index indexAt = do
+  count ← nodeCountUpTo most
   require (indexFits index count) BAD-OFFSET indexAt
   at ← here
   nodes ← times nodeField count
@@ -82,15 +82,24 @@ pub record Tsc : Type 0 where
   pub nodesAt : ℕ
   pub nodes : List Kind
 
-unfoldable pub tscField : Reader Tsc
-tscField = do
+unfoldable pub tscUpTo : ℕ → Reader Tsc
+tscUpTo most = do
   flags ← flagsField
   indexAt ← here
   index ← varint
   subject ← subjectField flags
   target ← targetField flags
-  nodes ← nodesField index indexAt
+  nodes ← nodesUpTo most index indexAt
   pure (record { flags = flags; index = index; subject = subject; target = target; nodesAt = nodes .at; nodes = nodes .items })
+
+abbrev pub nodeCountField : Reader ℕ
+nodeCountField = nodeCountUpTo MAX-HEIGHT
+
+abbrev pub nodesField : ℕ → ℕ → Reader (Listed Kind)
+nodesField = nodesUpTo MAX-HEIGHT
+
+abbrev pub tscField : Reader Tsc
+tscField = tscUpTo MAX-HEIGHT
 
 -- an input that is one TSC proof
 abbrev pub tscWhole : List ℕ → Parse Tsc

@@ -7,7 +7,7 @@ use lib.ListN.{replicate}
 use Rattle.format.specs.Parse.{each, many, whole}
 use Rattle.format.specs.Field.{bytes, byte, varint}
 use Rattle.format.specs.Level.{holds, offsetField, flagField, kindField, carriedField, leafField, levelField, levelOfTurn}
-use Rattle.format.specs.Bump.{blockField, heightField, bumpField}
+use Rattle.format.specs.Bump.{blockField, heightUpTo, bumpUpTo}
 use Rattle.format.specs.Bytes.{hashAt}
 use Rattle.listing.specs.Text.{ascii, digits, decimal, hex, printed}
 use Rattle.listing.specs.Listing.{kindText, leafLine, leafLines, levelLine, levelLines, bumpLines, refusedLine, report, listing}
@@ -33,5 +33,5 @@ cases =
     []
 
 pub examples : map (λ c. listing (c .input)) cases ≡ map (λ c. ascii (c .text)) cases
-unfolding cases digits decimal hex printed kindText leafLine leafLines levelLine levelLines bumpLines refusedLine report listing varint byte bytes many each holds offsetField flagField kindField carriedField leafField levelField levelOfTurn blockField heightField bumpField whole hashAt
+unfolding cases digits decimal hex printed kindText leafLine leafLines levelLine levelLines bumpLines refusedLine report listing varint byte bytes many each holds offsetField flagField kindField carriedField leafField levelField levelOfTurn blockField heightUpTo bumpUpTo whole hashAt
 examples = refl

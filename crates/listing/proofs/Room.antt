@@ -17,7 +17,7 @@ use Rattle.format.specs.Parse.{Parse, pick, many, whole}
 use Rattle.format.specs.Field.{byte, varint}
 use Rattle.format.specs.Refusals.{TOO-LONG, BAD-HEIGHT, OVER-LIMIT, MAX-INPUT, MAX-LEAVES, MAX-BLOCK, MAX-HEIGHT}
 use Rattle.format.specs.Level.{leafField, andOffset, levelField, levelOfTurn, levelInTurn, nextTurn}
-use Rattle.format.specs.Bump.{Bump, blockField, heightField, bumpField, bumpWhole}
+use Rattle.format.specs.Bump.{Bump, blockField, heightUpTo, bumpField, bumpUpTo, bumpWhole}
 use Rattle.format.specs.Bytes.{hashAt}
 use Rattle.format.proofs.BytesLaws.{hash-at-length}
 use Rattle.listing.specs.Text.{digit, digits, decimal, hex, printed}
@@ -112,7 +112,7 @@ levels-room s height low (suc n) level at few inside =
     (λ ls q k. omega (arith, level-few level (length l) (omega arith) (omega arith), length-append (levelLine level (length l)) (leafLines s l), length-append (levelLine level (length l) ++ leafLines s l) (levelLines s (level + 1) ls))))
 
 bump-room : (s : List ℕ) → Bounded (length s) (BumpFew s) (bumpField s 0)
-unfolding bumpField blockField heightField bumpLines
+unfolding bumpUpTo blockField heightUpTo bumpLines
 bump-room s =
     within-then (BumpFew s) _ (within-passing varint (λ b. leb b MAX-BLOCK) OVER-LIMIT s 0 (omega arith) (omega arith) (within-varint s 0 (omega arith)))
     (λ block next h e. within-then (BumpFew s) _ (within-passing byte (λ n. leb 1 n && leb n MAX-HEIGHT) BAD-HEIGHT s next (omega arith) h (within-byte s next h))

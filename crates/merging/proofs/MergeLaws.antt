@@ -35,7 +35,7 @@ use Rattle.climbs.specs.declared.want.Agreement.{Agreement}
 use Rattle.climbs.specs.declared.want.Checked.{Checked as Check}
 use Rattle.spv.specs.Result.{Result, accepted, refused, carrying, afterReading, follow}
 use Rattle.spv.specs.Climb.{Siblings}
-use Rattle.spv.specs.Clients.{bumpClients}
+use Rattle.spv.specs.Clients.{bumpClients, clientsUpTo}
 use Rattle.climbs.specs.ClientsShapes.{checkedOf, refusedCheck}
 use Rattle.spv.proofs.ClientsTheorems.{HasClient, clients-agree}
 use Rattle.levels.proofs.Within.{within}
@@ -80,7 +80,7 @@ module _ (c : Check) where
 -- ---- each path's own refusals
 
 unread-check : (s : List ℕ) {n q : ℕ} → bumpWhole s ≡ bad n q → bumpClients s ≡ refused (carrying n q)
-unfolding bumpClients
+unfolding clientsUpTo
 unread-check s f = rw f refl
 
 checked-refused : (s : List ℕ) (why : Rejection) → bumpClients s ≡ refused why → checked s ≡ refused why

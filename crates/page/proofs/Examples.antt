@@ -7,11 +7,11 @@ use Rattle.format.specs.Parse.{each, many, whole}
 use Rattle.format.specs.Field.{bytes, byte, varint}
 use Rattle.format.specs.Padded.{padded}
 use Rattle.format.specs.Level.{levelField}
-use Rattle.format.specs.Bump.{blockField, heightField, bumpField}
+use Rattle.format.specs.Bump.{blockField, heightUpTo, bumpUpTo}
 use Rattle.path.specs.Search.{leastOffset}
 use Rattle.spv.specs.Result.{carrying}
 use Rattle.spv.specs.Compare.{proveBy}
-use Rattle.spv.specs.Readings.{starting, levelsReading, bumpReading}
+use Rattle.spv.specs.Readings.{starting, levelsReading, bumpReadingUpTo}
 use Rattle.spv.specs.Shapes.{provedOf}
 use Rattle.spv.specs.Hashes.{hashes, hashesOf}
 use Rattle.page.specs.declared.Answer.{Answer}
@@ -57,5 +57,5 @@ cases =
 
 -- every page comes to what the table says
 pub examples : map answering cases ≡ map (λ c. c .comes) cases
-unfolding answering cases answerBy answerOf single answers allowed bumpFor page pagedOf rowOf padded hashes hashesOf provedOf varint byte bytes many each levelField blockField heightField bumpField whole leastOffset proveBy starting levelsReading bumpReading
+unfolding answering cases answerBy answerOf single answers allowed bumpFor page pagedOf rowOf padded hashes hashesOf provedOf varint byte bytes many each levelField blockField heightUpTo bumpUpTo whole leastOffset proveBy starting levelsReading bumpReadingUpTo
 examples = refl

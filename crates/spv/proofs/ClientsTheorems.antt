@@ -19,7 +19,7 @@ use Rattle.spv.specs.Climb.{Siblings, ascend, endOf}
 use Rattle.spv.specs.Compare.{Target, any, bound, hits, read, settle, proofOf, proveBy, prove}
 use Rattle.spv.proofs.CompareLaws.{prove-root}
 use Rattle.spv.specs.Siblings.{levelSiblings}
-use Rattle.spv.specs.Clients.{wantedBy, afterKind, afterLeaf, closing, clients, bumpClients}
+use Rattle.spv.specs.Clients.{wantedBy, afterKind, afterLeaf, closing, clients, bumpClients, clientsUpTo}
 
 abbrev pub noLeaf : Leaf
 noLeaf = record { offset = 0; kind = Copy }
@@ -148,7 +148,7 @@ pub record Agrees (s r : List ℕ) : Type 0 where
 
 -- all clients agree on r exactly when there is one and each climbs to r
 pub clients-agree : (s r : List ℕ) → (bumpClients s ≡ accepted r) ↔ Agrees s r
-unfolding bumpClients Still
+unfolding clientsUpTo Still
 clients-agree s r = (λ e. told (bumpWhole s) refl e, λ a. rw (a .read) (told-agreed (levelSiblings s (a .bump .levels)) (a .bump .height) s r any (getD (a .bump .levels) 0 []) (a .some) (a .all)))
   where
     told : (p : Parse Bump) → bumpWhole s ≡ p → afterReading p (λ b. clients (levelSiblings s (b .levels)) (b .height) s any (getD (b .levels) 0 [])) ≡ accepted r → Agrees s r

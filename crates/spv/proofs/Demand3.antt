@@ -23,7 +23,7 @@ use Rattle.spv.proofs.Collide.{WholeReading, CollidedBy, Collided, dema
 use Rattle.spv.specs.Siblings.{levelSiblings, nodeSiblings}
 use Rattle.spv.proofs.SiblingsLaws.{written-whole, levelSiblings-whole}
 use Rattle.format.specs.Id.{subjectId}
-use Rattle.spv.specs.Readings.{readAs, starting, levelsReading, bumpReading, cmpReading, tscReading, reading}
+use Rattle.spv.specs.Readings.{readAs, starting, levelsReading, bumpReadingUpTo, cmpReadingUpTo, tscReadingUpTo, reading, readingUpTo}
 use Rattle.spv.proofs.Surplus.{Least, least-is}
 use Rattle.spv.proofs.Position.{carrier}
 use Rattle.spv.specs.Shapes.{acceptedOf, provedOf, refusedPair, comparedOf}
@@ -55,7 +55,7 @@ read-whole (got a q) f h = h a
 read-whole (bad number place) f h = tt
 
 pub reading-whole : (form : Form) (s id : List ℕ) → WholeReading (reading form s id)
-unfolding reading bumpReading cmpReading tscReading WholeReading nodeSiblings
+unfolding readingUpTo bumpReadingUpTo cmpReadingUpTo tscReadingUpTo WholeReading nodeSiblings
 reading-whole Form.Bump s id = read-whole (bumpWhole s) _ (λ b. levels-whole s id (b .height) (b .levels))
 reading-whole Form.Cmp s id = read-whole (cmpWhole s) _ (λ p. levels-whole s id (p .height) (p .levels))
 reading-whole Form.Tsc s id = read-whole (tscWhole s) _ (λ t. (subject-long s (t .subject), λ k j. written-whole s _))

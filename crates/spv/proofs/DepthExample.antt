@@ -9,7 +9,7 @@ use Rattle.format.specs.Bytes.{same, hashAt}
 use Rattle.format.specs.Parse.{each, many, whole, got}
 use Rattle.format.specs.Field.{bytes, byte, varint}
 use Rattle.format.specs.Level.{holds, offsetField, flagField, kindField, carriedField, leafField, levelField, levelOfTurn}
-use Rattle.format.specs.Bump.{blockField, heightField, bumpField}
+use Rattle.format.specs.Bump.{blockField, heightUpTo, bumpUpTo}
 use Rattle.format.specs.Transaction.{scriptField, inputField, takes, outputField, outputsField, someField, listField, Transaction, fieldsBy, txFieldBy, txWhole}
 use Rattle.path.specs.Search.{carries, lesser, lookup, leastOffset}
 use Rattle.spv.specs.Result.{accepted}
@@ -17,7 +17,7 @@ use Rattle.spv.specs.Climb.{value, siblingPosition, joined, step, ascend
 use Rattle.spv.specs.Compare.{Proof, hits, settle, proveBy, meetBy}
 use Rattle.spv.specs.Siblings.{written, sibling, levelSiblings}
 use Rattle.spv.specs.Values.{valueBy, valueOf, workedOut}
-use Rattle.spv.specs.Readings.{starting, levelsReading, bumpReading, reading}
+use Rattle.spv.specs.Readings.{starting, levelsReading, bumpReadingUpTo, reading, readingUpTo}
 use Rattle.spv.proofs.PairExample.{firstHalf, half-wide, hashOf, cmp, proofFrom, cmp-accepted}
 use Rattle.spv.specs.Depth.{halved, deeper, transaction, strings, pairOf, lowestBy, matched, againstDeeperBy, unevenBy, depthBy}
 use Rattle.spv.proofs.Demand3Depth.{DeeperBy, DepthCollided, demand3-depth-by}
@@ -45,7 +45,7 @@ abbrev pub shortProof : Proof
 shortProof = record { id = rawId; position = 1; layers = 1; root = hashOf 4; preimages = (hashOf 4 ++ rawId) ∷ []; siblings = value (hashOf 4) ∷ [] }
 
 pub short-accepted : proveBy firstHalf (reading Form.Bump short rawId) ≡ accepted shortProof
-unfolding varint byte bytes many each holds offsetField flagField kindField carriedField leafField levelField levelOfTurn blockField heightField bumpField whole leastOffset lesser carries hashAt same lookup written sibling levelSiblings workedOut valueOf valueBy siblingPosition joined step ascendBy endBy preimagesOf siblingsOf hits settle proveBy starting levelsReading bumpReading reading
+unfolding varint byte bytes many each holds offsetField flagField kindField carriedField leafField levelField levelOfTurn blockField heightUpTo bumpUpTo whole leastOffset lesser carries hashAt same lookup written sibling levelSiblings workedOut valueOf valueBy siblingPosition joined step ascendBy endBy preimagesOf siblingsOf hits settle proveBy starting levelsReading bumpReadingUpTo readingUpTo
 short-accepted = refl
 
 -- a BUMP of two layers: at position 3 the id of 2s, beside it the transaction's id, and 4s beside the layer above
@@ -56,7 +56,7 @@ abbrev pub longProof : Proof
 longProof = record { id = hashOf 2; position = 3; layers = 2; root = hashOf 4; preimages = (rawId ++ hashOf 2) ∷ (hashOf 4 ++ rawId) ∷ []; siblings = value rawId ∷ value (hashOf 4) ∷ [] }
 
 pub long-accepted : proveBy firstHalf (reading Form.Bump long (hashOf 2)) ≡ accepted longProof
-unfolding varint byte bytes many each holds offsetField flagField kindField carriedField leafField levelField levelOfTurn blockField heightField bumpField whole leastOffset lesser carries hashAt same lookup written sibling levelSiblings workedOut valueOf valueBy siblingPosition joined step ascendBy endBy preimagesOf siblingsOf hits settle proveBy starting levelsReading bumpReading reading
+unfolding varint byte bytes many each holds offsetField flagField kindField carriedField leafField levelField levelOfTurn blockField heightUpTo bumpUpTo whole leastOffset lesser carries hashAt same lookup written sibling levelSiblings workedOut valueOf valueBy siblingPosition joined step ascendBy endBy preimagesOf siblingsOf hits settle proveBy starting levelsReading bumpReadingUpTo readingUpTo
 long-accepted = refl
 
 one-two : 1 < 2

@@ -6,13 +6,13 @@ use Prim.Native.Nat.{ℕ}
 use Rattle.format.specs.Parse.{Parse, each, many, whole, got, bad}
 use Rattle.format.specs.Field.{bytes, byte, varint}
 use Rattle.format.specs.Level.{holds, offsetField, flagField, kindField, carriedField, leafField, levelField, levelOfTurn}
-use Rattle.format.specs.Bump.{Bump, blockField, heightField, bumpField, bumpWhole}
+use Rattle.format.specs.Bump.{Bump, blockField, heightUpTo, bumpUpTo, bumpWhole}
 use Rattle.path.specs.Search.{leastOffset}
 use Rattle.format.specs.Tsc.{indexFits}
 use Rattle.spv.specs.Result.{Result, refused, carrying}
 use Rattle.spv.specs.Climb.{siblingPosition, siblingPositions}
 use Rattle.spv.specs.Compare.{proveBy, prove, Proof}
-use Rattle.spv.specs.Readings.{starting, levelsReading, bumpReading}
+use Rattle.spv.specs.Readings.{starting, levelsReading, bumpReading, bumpReadingUpTo}
 
 pub data Input : Type 0 where
   varIntOf : List ℕ → Input
@@ -65,5 +65,5 @@ cases =
 
 -- every case answers what the table says
 pub examples : map (λ c. given (c .input)) cases ≡ map (λ c. c .answer) cases
-unfolding given cases varint byte bytes many each holds offsetField flagField kindField carriedField leafField levelField levelOfTurn blockField heightField bumpField whole leastOffset siblingPosition siblingPositions indexFits proveBy starting levelsReading bumpReading
+unfolding given cases varint byte bytes many each holds offsetField flagField kindField carriedField leafField levelField levelOfTurn blockField heightUpTo bumpUpTo whole leastOffset siblingPosition siblingPositions indexFits proveBy starting levelsReading bumpReadingUpTo
 examples = refl

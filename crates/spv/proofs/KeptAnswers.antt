@@ -1,22 +1,21 @@
--- 02, Item 8: "accepted proofs keep their answers". Each form read with at most so many layers: what was accepted so is accepted now, with the same answer.
+-- 02, Item 8: "accepted proofs keep their answers". What is accepted with at most so many layers is accepted with more, with the same answer; today's limit is MAX-HEIGHT, at which these are `reading` and `bumpClients`.
 use Prim.Native.Nat.{ℕ, _≤_}
 use mathlib.Core.Path.{_≡_, refl}
 use mathlib.Core.List.{List, []}
 use lib.ListN.{length, getD}
 use native.Mathlib.Omega.{arith}
 use Rattle.format.specs.Parse.{Parse, got, bad, whole}
-use Rattle.format.specs.Refusals.{MAX-HEIGHT}
-use Rattle.format.specs.Bump.{bumpWhole}
-use Rattle.format.specs.Cmp.{cmpWhole}
-use Rattle.format.specs.Tsc.{tscWhole}
+use Rattle.format.specs.Bump.{bumpUpTo}
+use Rattle.format.specs.Cmp.{cmpUpTo}
+use Rattle.format.specs.Tsc.{tscUpTo}
 use Rattle.format.specs.Id.{subjectId}
-use Rattle.format.proofs.MoreLayers.{bumpUpTo, cmpUpTo, tscUpTo, bump-stays, cmp-stays, tsc-stays}
+use Rattle.format.proofs.MoreLayers.{bump-stays, cmp-stays, tsc-stays}
 use Rattle.path.specs.declared.path.Form.{Form}
 use Rattle.spv.specs.Result.{Result, accepted, refused, afterReading}
 use Rattle.spv.specs.Compare.{any, Reading, read, unread, Proof, Strings, prove, proveBy, compare}
 use Rattle.spv.specs.Siblings.{levelSiblings, nodeSiblings}
-use Rattle.spv.specs.Readings.{readAs, levelsReading, bumpReading, cmpReading, tscTarget, tscReading, reading}
-use Rattle.spv.specs.Clients.{clients, bumpClients}
+use Rattle.spv.specs.Readings.{readAs, levelsReading, bumpReadingUpTo, cmpReadingUpTo, tscTarget, tscReadingUpTo, readingUpTo}
+use Rattle.spv.specs.Clients.{clients, clientsUpTo}
 
 -- a reader that reads what another one reads answers what that one answers
 abbrev pub Stays : {A : Type 0} → Parse A → Parse A → Type 0
@@ -31,31 +30,23 @@ unfolding proveBy
 proof-stays (got a end) y f p h e = rw (h a end refl) e
 proof-stays (bad number place) y f p h e = let z : _≡_ {A = ℕ} 0 1 = cc in absurd (omega arith)
 
-module _ (most : ℕ) where
-  -- each form's reading as its own definition has it, but of at most so many layers
-  unfoldable pub readingUpTo : Form → List ℕ → List ℕ → Reading
-  readingUpTo Form.Bump s id = readAs (whole (bumpUpTo most) s) (λ b. levelsReading s (b .height) (b .levels) id)
-  readingUpTo Form.Cmp s id = readAs (whole (cmpUpTo most) s) (λ p. levelsReading s (p .height) (p .levels) id)
-  readingUpTo Form.Tsc s id = readAs (whole (tscUpTo most) s) (λ t. read (nodeSiblings s (t .nodes)) (length (t .nodes)) (t .index) (subjectId s (t .subject)) (tscTarget s t))
-
-  unfoldable pub clientsUpTo : List ℕ → Result (List ℕ)
-  clientsUpTo s = afterReading (whole (bumpUpTo most) s) (λ b. clients (levelSiblings s (b .levels)) (b .height) s any (getD (b .levels) 0 []))
-
-module _ (most : ℕ) (low : most ≤ MAX-HEIGHT) where
+module _ (most more : ℕ) (low : most ≤ more) where
   -- proving an id by a BUMP, a CMP or a TSC proof
-  pub proof-kept : (form : Form) (s id : List ℕ) (p : Proof) → prove (readingUpTo most form s id) ≡ accepted p → prove (reading form s id) ≡ accepted p
-  unfolding readingUpTo reading bumpReading cmpReading tscReading
-  proof-kept Form.Bump s id p = proof-stays (whole (bumpUpTo most) s) (bumpWhole s) (λ b. levelsReading s (b .height) (b .levels) id) p (λ b end. bump-stays most low s end b)
-  proof-kept Form.Cmp s id p = proof-stays (whole (cmpUpTo most) s) (cmpWhole s) (λ c. levelsReading s (c .height) (c .levels) id) p (λ c end. cmp-stays most low s end c)
+  pub proof-kept : (form : Form) (s id : List ℕ) (p : Proof) → prove (readingUpTo most form s id) ≡ accepted p → prove (readingUpTo more form s id) ≡ accepted p
+  unfolding readingUpTo bumpReadingUpTo cmpReadingUpTo tscReadingUpTo
+  proof-kept Form.Bump s id p = proof-stays (whole (bumpUpTo most) s) (whole (bumpUpTo more) s) (λ b. levelsReading s (b .height) (b .levels) id) p (λ b end. bump-stays most more low s end b)
+  proof-kept Form.Cmp s id p = proof-stays (whole (cmpUpTo most) s) (whole (cmpUpTo more) s) (λ c. levelsReading s (c .height) (c .levels) id) p (λ c end. cmp-stays most more low s end c)
   proof-kept Form.Tsc s id p =
-      proof-stays (whole (tscUpTo most) s) (tscWhole s) (λ t. read (nodeSiblings s (t .nodes)) (length (t .nodes)) (t .index) (subjectId s (t .subject)) (tscTarget s t)) p (λ t end. tsc-stays most low s end t)
+      proof-stays (whole (tscUpTo most) s) (whole (tscUpTo more) s) (λ t. read (nodeSiblings s (t .nodes)) (length (t .nodes)) (t .index) (subjectId s (t .subject)) (tscTarget s t)) p
+      (λ t end. tsc-stays most more low s end t)
 
   -- comparing two accepted proofs: whatever it answered, 23 and 24 included
   pub compared-kept : (f g : Form) (s id t jd : List ℕ) (p q : Proof) → prove (readingUpTo most f s id) ≡ accepted p → prove (readingUpTo most g t jd) ≡ accepted q
-      → compare (prove (reading f s id)) (prove (reading g t jd)) ≡ compare (prove (readingUpTo most f s id)) (prove (readingUpTo most g t jd))
+      → compare (prove (readingUpTo more f s id)) (prove (readingUpTo more g t jd)) ≡ compare (prove (readingUpTo most f s id)) (prove (readingUpTo most g t jd))
   compared-kept f g s id t jd p q x y = rw (proof-kept f s id p x, proof-kept g t jd q y, x, y) refl
 
   -- the all-clients check
-  pub clients-kept : (s root : List ℕ) → clientsUpTo most s ≡ accepted root → bumpClients s ≡ accepted root
-  unfolding clientsUpTo bumpClients
-  clients-kept s root = result-stays (whole (bumpUpTo most) s) (bumpWhole s) (λ b. clients (levelSiblings s (b .levels)) (b .height) s any (getD (b .levels) 0 [])) root (λ b end. bump-stays most low s end b)
+  pub clients-kept : (s root : List ℕ) → clientsUpTo most s ≡ accepted root → clientsUpTo more s ≡ accepted root
+  unfolding clientsUpTo
+  clients-kept s root =
+      result-stays (whole (bumpUpTo most) s) (whole (bumpUpTo more) s) (λ b. clients (levelSiblings s (b .levels)) (b .height) s any (getD (b .levels) 0 [])) root (λ b end. bump-stays most more low s end b)

@@ -10,8 +10,8 @@ use Rattle.format.specs.Bytes.{same, hashAt}
 use Rattle.format.specs.Parse.{each, many, whole}
 use Rattle.format.specs.Field.{bytes, byte, varint}
 use Rattle.format.specs.Level.{holds, offsetField, flagField, kindField, carriedField, leafField, levelField, levelOfTurn}
-use Rattle.format.specs.Bump.{blockField, heightField, bumpField}
-use Rattle.format.specs.Cmp.{topField, cmpField}
+use Rattle.format.specs.Bump.{blockField, heightUpTo, bumpUpTo}
+use Rattle.format.specs.Cmp.{topUpTo, cmpUpTo}
 use Rattle.path.specs.Search.{carries, lesser, lookup, leastOffset}
 use Rattle.spv.specs.Result.{accepted}
 use Rattle.spv.specs.Climb.{value, siblingPosition, joined, step, ascendBy, endBy, preimagesOf, siblingsOf}
@@ -19,7 +19,7 @@ use Rattle.spv.specs.Compare.{Proof, hits, settle, proveBy, meetBy, stri
 use Rattle.spv.proofs.Collide.{CollidedBy}
 use Rattle.spv.specs.Siblings.{written, sibling, levelSiblings}
 use Rattle.spv.specs.Values.{valueBy, valueOf, workedOut}
-use Rattle.spv.specs.Readings.{starting, levelsReading, bumpReading, cmpReading, reading}
+use Rattle.spv.specs.Readings.{starting, levelsReading, bumpReadingUpTo, cmpReadingUpTo, reading, readingUpTo}
 use Rattle.spv.proofs.Demand3.{demand3-by}
 
 -- the first 32 bytes, filled up with zeros
@@ -45,11 +45,11 @@ abbrev pub proofFrom : ℕ → Proof
 proofFrom n = record { id = hashOf n; position = 2; layers = 2; root = hashOf 4; preimages = (hashOf n ++ hashOf 3) ∷ (hashOf 4 ++ hashOf n) ∷ []; siblings = value (hashOf 3) ∷ value (hashOf 4) ∷ [] }
 
 pub bump-accepted : proveBy firstHalf (reading Form.Bump bump (hashOf 1)) ≡ accepted (proofFrom 1)
-unfolding varint byte bytes many each holds offsetField flagField kindField carriedField leafField levelField levelOfTurn blockField heightField bumpField whole leastOffset lesser carries hashAt same lookup written sibling levelSiblings workedOut valueOf valueBy siblingPosition joined step ascendBy endBy preimagesOf siblingsOf hits settle proveBy starting levelsReading bumpReading reading
+unfolding varint byte bytes many each holds offsetField flagField kindField carriedField leafField levelField levelOfTurn blockField heightUpTo bumpUpTo whole leastOffset lesser carries hashAt same lookup written sibling levelSiblings workedOut valueOf valueBy siblingPosition joined step ascendBy endBy preimagesOf siblingsOf hits settle proveBy starting levelsReading bumpReadingUpTo readingUpTo
 bump-accepted = refl
 
 pub cmp-accepted : proveBy firstHalf (reading Form.Cmp cmp (hashOf 2)) ≡ accepted (proofFrom 2)
-unfolding varint byte bytes many each holds offsetField flagField kindField carriedField leafField levelField levelOfTurn topField cmpField whole leastOffset lesser carries hashAt same lookup written sibling levelSiblings workedOut valueOf valueBy siblingPosition joined step ascendBy endBy preimagesOf siblingsOf hits settle proveBy starting levelsReading cmpReading reading
+unfolding varint byte bytes many each holds offsetField flagField kindField carriedField leafField levelField levelOfTurn topUpTo cmpUpTo whole leastOffset lesser carries hashAt same lookup written sibling levelSiblings workedOut valueOf valueBy siblingPosition joined step ascendBy endBy preimagesOf siblingsOf hits settle proveBy starting levelsReading cmpReadingUpTo readingUpTo
 cmp-accepted = refl
 
 ids-differ : hashOf 1 ≡ hashOf 2 → ⊥

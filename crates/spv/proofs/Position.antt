@@ -33,7 +33,7 @@ use Rattle.spv.proofs.CompareLaws.{prove-accepted}
 use Rattle.spv.specs.Siblings.{levelSiblings, nodeSiblings}
 use Rattle.format.specs.Id.{subjectId}
 use Rattle.spv.proofs.ReadingsLaws.{read-proved}
-use Rattle.spv.specs.Readings.{starting, levelsReading, bumpReading, cmpReading, tscTarget, tscReading, reading}
+use Rattle.spv.specs.Readings.{starting, levelsReading, bumpReadingUpTo, cmpReadingUpTo, tscTarget, tscReadingUpTo, reading, readingUpTo}
 use Rattle.spv.proofs.Surplus.{carriedAt, Least, least-is}
 use Rattle.format.specs.Bytes.{hashAt}
 
@@ -166,7 +166,7 @@ tsc-position s t r p e =
 
 -- of every form
 pub position-exists : (form : Form) (s id : List ℕ) (p : Proof) → prove (reading form s id) ≡ accepted p → p .position < 2 ^ p .layers
-unfolding reading bumpReading cmpReading tscReading
+unfolding readingUpTo bumpReadingUpTo cmpReadingUpTo tscReadingUpTo
 position-exists Form.Bump s id p e =
     let r = read-proved (bumpWhole s) _ p e in
     levels-position s id (r .0 .height) (r .0 .levels) (bump-below s (r .0) (bump-whole-told s (r .2))) p (r .3)

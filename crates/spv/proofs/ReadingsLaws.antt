@@ -29,7 +29,7 @@ use Rattle.spv.specs.Compare.{Target, any, Reading, unread, read, Proof,
 use Rattle.spv.proofs.CompareLaws.{prove-climb}
 use Rattle.spv.specs.Siblings.{levelSiblings, nodeSiblings, joinIn, pathSiblings}
 use Rattle.spv.proofs.SiblingsLaws.{LeadsTo, path-levels, path-nodes}
-use Rattle.spv.specs.Readings.{readAs, starting, levelsReading, bumpReading, cmpReading, tscTarget, tscReading, pathReading}
+use Rattle.spv.specs.Readings.{readAs, starting, levelsReading, bumpReading, bumpReadingUpTo, cmpReading, cmpReadingUpTo, tscTarget, tscReading, tscReadingUpTo, pathReading}
 use Rattle.path.specs.Subject.{subjectHash}
 
 -- an accepted proof was read
@@ -57,19 +57,19 @@ path-proves s path h levels id l e =
     ∙ starting-same (pathSiblings s path) (levelSiblings s levels) h id (leastOffset s id (getD levels 0 [])) (path-levels s path h levels l)
 
 pub bump-refused : (s id : List ℕ) (number place : ℕ) → bumpWhole s ≡ bad number place → bumpReading s id ≡ unread (carrying number place)
-unfolding bumpReading
+unfolding bumpReadingUpTo
 bump-refused s id number place e = rw e
 
 pub bump-read : (s id : List ℕ) (b : Bump) (q : ℕ) → bumpWhole s ≡ got b q → bumpReading s id ≡ levelsReading s (b .height) (b .levels) id
-unfolding bumpReading
+unfolding bumpReadingUpTo
 bump-read s id b q e = rw e
 
 pub cmp-refused : (s id : List ℕ) (number place : ℕ) → cmpWhole s ≡ bad number place → cmpReading s id ≡ unread (carrying number place)
-unfolding cmpReading
+unfolding cmpReadingUpTo
 cmp-refused s id number place e = rw e
 
 pub cmp-read : (s id : List ℕ) (p : Cmp) (q : ℕ) → cmpWhole s ≡ got p q → cmpReading s id ≡ levelsReading s (p .height) (p .levels) id
-unfolding cmpReading
+unfolding cmpReadingUpTo
 cmp-read s id p q e = rw e
 
 -- a path has the layers that were read
@@ -103,12 +103,12 @@ cmp-proves s id p q e =
     path-proves s (cmpPath s p) (p .height) (p .levels) id (cmp-leads s p r) (cmp-start-in s p r id) ∙ sym (ap prove (cmp-read s id p q e))
 
 pub tsc-refused : (s : List ℕ) (number place : ℕ) → tscWhole s ≡ bad number place → tscReading s ≡ unread (carrying number place)
-unfolding tscReading
+unfolding tscReadingUpTo
 tsc-refused s number place e = rw e
 
 pub tsc-read : (s : List ℕ) (t : Tsc) (q : ℕ) → tscWhole s ≡ got t q
     → tscReading s ≡ read (nodeSiblings s (t .nodes)) (length (t .nodes)) (t .index) (subjectId s (t .subject)) (tscTarget s t)
-unfolding tscReading
+unfolding tscReadingUpTo
 tsc-read s t q e = rw e
 
 pub tsc-layers : (s : List ℕ) {q : ℕ} (t : Tsc) → TscRead s q t → tscPath s t .layers ≡ length (t .nodes)

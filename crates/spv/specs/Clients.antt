@@ -5,9 +5,10 @@ use lib.ListN.{getD}
 use Rattle.format.specs.declared.level.Kind.{Kind}
 use Rattle.format.specs.declared.level.Kind.the-variants.{Plain, Copy, Client}
 use Rattle.format.specs.declared.level.Leaf.{Leaf}
-use Rattle.format.specs.Refusals.{NOT-LISTED}
+use Rattle.format.specs.Refusals.{NOT-LISTED, MAX-HEIGHT}
 use Rattle.format.specs.Bytes.{hashAt}
-use Rattle.format.specs.Bump.{bumpWhole}
+use Rattle.format.specs.Parse.{whole}
+use Rattle.format.specs.Bump.{bumpUpTo}
 use Rattle.spv.specs.Result.{Result, accepted, refused, carrying, afterReading, follow}
 use Rattle.spv.specs.Climb.{Siblings}
 use Rattle.spv.specs.Compare.{Target, any, bound, read, Proof, prove}
@@ -37,5 +38,9 @@ unfoldable pub clients : Siblings → ℕ → List ℕ → Target → List Leaf 
 clients σ h s w [] = closing w
 clients σ h s w (leaf ∷ leaves) = follow (afterLeaf σ h s w leaf) (λ w′. clients σ h s w′ leaves)
 
-unfoldable pub bumpClients : List ℕ → Result (List ℕ)
-bumpClients s = afterReading (bumpWhole s) (λ b. clients (levelSiblings s (b .levels)) (b .height) s any (getD (b .levels) 0 []))
+-- of a BUMP of at most so many layers; `bumpClients` has today's limit
+unfoldable pub clientsUpTo : ℕ → List ℕ → Result (List ℕ)
+clientsUpTo most s = afterReading (whole (bumpUpTo most) s) (λ b. clients (levelSiblings s (b .levels)) (b .height) s any (getD (b .levels) 0 []))
+
+abbrev pub bumpClients : List ℕ → Result (List ℕ)
+bumpClients = clientsUpTo MAX-HEIGHT

@@ -14,9 +14,9 @@ use Rattle.format.specs.Parse.{Parse, got, bad, pick, each, many, whole}
 use Rattle.format.specs.Bytes.{same, hashAt}
 use Rattle.format.specs.Field as F
 use Rattle.format.specs.Level as L
-use Rattle.format.specs.Bump.{Bump, blockField, heightField, bumpField}
+use Rattle.format.specs.Bump.{Bump, blockField, heightUpTo, bumpUpTo}
 use Rattle.format.specs.Transaction.{scriptField, inputField, takes, outputField, outputsField, someField, listField, fieldsBy, txFieldBy}
-use Rattle.format.specs.Beef.{Entry, Beef, versionField, bumpCountField, bumpsField, txCountField, bumpNumberField, anchorField, entryField, entriesField, beefField, beefWhole}
+use Rattle.format.specs.Beef.{Entry, Beef, versionField, bumpCountField, bumpsUpTo, txCountField, bumpNumberField, anchorField, entryField, entriesField, beefUpTo, beefWhole}
 use Rattle.path.specs.Search.{leastOffset, lookup, carries, lesser}
 use Rattle.format.specs.Id.{txid}
 use Rattle.spv.specs.Climb.{siblingPosition, Siblings, step, joined, joins}
@@ -117,15 +117,15 @@ unfoldable read : Beef
 read = beefOf (beefWhole 2 bundle)
 
 is-read : beefWhole 2 bundle ≡ got read 677
-unfolding bundle beefOf read each many whole F.byte F.bytes F.varint L.holds L.offsetField L.flagField L.kindField L.carriedField L.leafField L.levelField L.levelOfTurn blockField heightField bumpField scriptField inputField takes outputField outputsField someField listField fieldsBy txFieldBy versionField bumpCountField bumpsField txCountField bumpNumberField anchorField entryField entriesField beefField
+unfolding bundle beefOf read each many whole F.byte F.bytes F.varint L.holds L.offsetField L.flagField L.kindField L.carriedField L.leafField L.levelField L.levelOfTurn blockField heightUpTo bumpUpTo scriptField inputField takes outputField outputsField someField listField fieldsBy txFieldBy versionField bumpCountField bumpsUpTo txCountField bumpNumberField anchorField entryField entriesField beefUpTo
 is-read = refl
 
 first-id : entryId bundle (getD (read .entries) 0 emptyEntry) ≡ id
-unfolding bundle beefOf read id txid each many whole F.byte F.bytes F.varint L.holds L.offsetField L.flagField L.kindField L.carriedField L.leafField L.levelField L.levelOfTurn blockField heightField bumpField scriptField inputField takes outputField outputsField someField listField fieldsBy txFieldBy versionField bumpCountField bumpsField txCountField bumpNumberField anchorField entryField entriesField beefField _⊞_ _⊕_ not32 shl shr rotr Ch Maj Σ0 Σ1 σ0 σ1 K bytes word4 zeros padding pad word words H0 W schedule T1 T2 round rounds plus compress H hashValue digest sha256 sha256d
+unfolding bundle beefOf read id txid each many whole F.byte F.bytes F.varint L.holds L.offsetField L.flagField L.kindField L.carriedField L.leafField L.levelField L.levelOfTurn blockField heightUpTo bumpUpTo scriptField inputField takes outputField outputsField someField listField fieldsBy txFieldBy versionField bumpCountField bumpsUpTo txCountField bumpNumberField anchorField entryField entriesField beefUpTo _⊞_ _⊕_ not32 shl shr rotr Ch Maj Σ0 Σ1 σ0 σ1 K bytes word4 zeros padding pad word words H0 W schedule T1 T2 round rounds plus compress H hashValue digest sha256 sha256d
 first-id = refl
 
 starts : leastOffset bundle id (getD (nthBump (read .bumps) 0 .levels) 0 []) ≡ At 21
-unfolding bundle beefOf read id leastOffset hashAt carries lesser same each many whole F.byte F.bytes F.varint L.holds L.offsetField L.flagField L.kindField L.carriedField L.leafField L.levelField L.levelOfTurn blockField heightField bumpField scriptField inputField takes outputField outputsField someField listField fieldsBy txFieldBy versionField bumpCountField bumpsField txCountField bumpNumberField anchorField entryField entriesField beefField
+unfolding bundle beefOf read id leastOffset hashAt carries lesser same each many whole F.byte F.bytes F.varint L.holds L.offsetField L.flagField L.kindField L.carriedField L.leafField L.levelField L.levelOfTurn blockField heightUpTo bumpUpTo scriptField inputField takes outputField outputsField someField listField fieldsBy txFieldBy versionField bumpCountField bumpsUpTo txCountField bumpNumberField anchorField entryField entriesField beefUpTo
 starts = refl
 
 abbrev beside : Siblings
@@ -173,7 +173,7 @@ p0 =
     0xde ∷ 0x98 ∷ 0xee ∷ 0xd8 ∷ 0x95 ∷ 0xdb ∷ 0xed ∷ 0xfe ∷ 0x4e ∷ 0x5b ∷ 0xc7 ∷ 0x0d ∷ []
 
 step-0 : step (workedOut beside 0 (siblingPosition 21)) (eqb (21 % 2) 1) id ≡ joins p0 id
-unfolding bundle beefOf read id c1 c2 c3 c4 c5 c6 c7 p0 step joined same workedOut valueOf valueBy written sibling lookup hashAt siblingPosition each many whole F.byte F.bytes F.varint L.holds L.offsetField L.flagField L.kindField L.carriedField L.leafField L.levelField L.levelOfTurn blockField heightField bumpField scriptField inputField takes outputField outputsField someField listField fieldsBy txFieldBy versionField bumpCountField bumpsField txCountField bumpNumberField anchorField entryField entriesField beefField
+unfolding bundle beefOf read id c1 c2 c3 c4 c5 c6 c7 p0 step joined same workedOut valueOf valueBy written sibling lookup hashAt siblingPosition each many whole F.byte F.bytes F.varint L.holds L.offsetField L.flagField L.kindField L.carriedField L.leafField L.levelField L.levelOfTurn blockField heightUpTo bumpUpTo scriptField inputField takes outputField outputsField someField listField fieldsBy txFieldBy versionField bumpCountField bumpsUpTo txCountField bumpNumberField anchorField entryField entriesField beefUpTo
 step-0 = refl
 
 hash-0 : sha256d (p0 ++ id) ≡ c1
@@ -181,7 +181,7 @@ unfolding id c1 c2 c3 c4 c5 c6 c7 p0 _⊞_ _⊕_ not32 shl shr rotr Ch Maj Σ0 �
 hash-0 = refl
 
 free-0 : costOf beside 0 (siblingPosition 21) ≡ 0
-unfolding bundle beefOf read costOf joinsBy written sibling lookup siblingPosition each many whole F.byte F.bytes F.varint L.holds L.offsetField L.flagField L.kindField L.carriedField L.leafField L.levelField L.levelOfTurn blockField heightField bumpField scriptField inputField takes outputField outputsField someField listField fieldsBy txFieldBy versionField bumpCountField bumpsField txCountField bumpNumberField anchorField entryField entriesField beefField
+unfolding bundle beefOf read costOf joinsBy written sibling lookup siblingPosition each many whole F.byte F.bytes F.varint L.holds L.offsetField L.flagField L.kindField L.carriedField L.leafField L.levelField L.levelOfTurn blockField heightUpTo bumpUpTo scriptField inputField takes outputField outputsField someField listField fieldsBy txFieldBy versionField bumpCountField bumpsUpTo txCountField bumpNumberField anchorField entryField entriesField beefUpTo
 free-0 = refl
 
 unfoldable p1 : List ℕ
@@ -190,7 +190,7 @@ p1 =
     0xb8 ∷ 0x1f ∷ 0x61 ∷ 0x3f ∷ 0x70 ∷ 0x31 ∷ 0x3a ∷ 0xcd ∷ 0x28 ∷ 0xcf ∷ 0x45 ∷ 0x57 ∷ []
 
 step-1 : step (workedOut beside 1 (siblingPosition 10)) (eqb (10 % 2) 1) c1 ≡ joins c1 p1
-unfolding bundle beefOf read id c1 c2 c3 c4 c5 c6 c7 p1 step joined same workedOut valueOf valueBy written sibling lookup hashAt siblingPosition each many whole F.byte F.bytes F.varint L.holds L.offsetField L.flagField L.kindField L.carriedField L.leafField L.levelField L.levelOfTurn blockField heightField bumpField scriptField inputField takes outputField outputsField someField listField fieldsBy txFieldBy versionField bumpCountField bumpsField txCountField bumpNumberField anchorField entryField entriesField beefField
+unfolding bundle beefOf read id c1 c2 c3 c4 c5 c6 c7 p1 step joined same workedOut valueOf valueBy written sibling lookup hashAt siblingPosition each many whole F.byte F.bytes F.varint L.holds L.offsetField L.flagField L.kindField L.carriedField L.leafField L.levelField L.levelOfTurn blockField heightUpTo bumpUpTo scriptField inputField takes outputField outputsField someField listField fieldsBy txFieldBy versionField bumpCountField bumpsUpTo txCountField bumpNumberField anchorField entryField entriesField beefUpTo
 step-1 = refl
 
 hash-1 : sha256d (c1 ++ p1) ≡ c2
@@ -198,7 +198,7 @@ unfolding id c1 c2 c3 c4 c5 c6 c7 p1 _⊞_ _⊕_ not32 shl shr rotr Ch Maj Σ0 �
 hash-1 = refl
 
 free-1 : costOf beside 1 (siblingPosition 10) ≡ 0
-unfolding bundle beefOf read costOf joinsBy written sibling lookup siblingPosition each many whole F.byte F.bytes F.varint L.holds L.offsetField L.flagField L.kindField L.carriedField L.leafField L.levelField L.levelOfTurn blockField heightField bumpField scriptField inputField takes outputField outputsField someField listField fieldsBy txFieldBy versionField bumpCountField bumpsField txCountField bumpNumberField anchorField entryField entriesField beefField
+unfolding bundle beefOf read costOf joinsBy written sibling lookup siblingPosition each many whole F.byte F.bytes F.varint L.holds L.offsetField L.flagField L.kindField L.carriedField L.leafField L.levelField L.levelOfTurn blockField heightUpTo bumpUpTo scriptField inputField takes outputField outputsField someField listField fieldsBy txFieldBy versionField bumpCountField bumpsUpTo txCountField bumpNumberField anchorField entryField entriesField beefUpTo
 free-1 = refl
 
 unfoldable p2 : List ℕ
@@ -207,7 +207,7 @@ p2 =
     0xb4 ∷ 0x9a ∷ 0x28 ∷ 0xa4 ∷ 0x64 ∷ 0x3b ∷ 0x6d ∷ 0x1a ∷ 0x6a ∷ 0x09 ∷ 0x2a ∷ 0x52 ∷ []
 
 step-2 : step (workedOut beside 2 (siblingPosition 5)) (eqb (5 % 2) 1) c2 ≡ joins p2 c2
-unfolding bundle beefOf read id c1 c2 c3 c4 c5 c6 c7 p2 step joined same workedOut valueOf valueBy written sibling lookup hashAt siblingPosition each many whole F.byte F.bytes F.varint L.holds L.offsetField L.flagField L.kindField L.carriedField L.leafField L.levelField L.levelOfTurn blockField heightField bumpField scriptField inputField takes outputField outputsField someField listField fieldsBy txFieldBy versionField bumpCountField bumpsField txCountField bumpNumberField anchorField entryField entriesField beefField
+unfolding bundle beefOf read id c1 c2 c3 c4 c5 c6 c7 p2 step joined same workedOut valueOf valueBy written sibling lookup hashAt siblingPosition each many whole F.byte F.bytes F.varint L.holds L.offsetField L.flagField L.kindField L.carriedField L.leafField L.levelField L.levelOfTurn blockField heightUpTo bumpUpTo scriptField inputField takes outputField outputsField someField listField fieldsBy txFieldBy versionField bumpCountField bumpsUpTo txCountField bumpNumberField anchorField entryField entriesField beefUpTo
 step-2 = refl
 
 hash-2 : sha256d (p2 ++ c2) ≡ c3
@@ -215,7 +215,7 @@ unfolding id c1 c2 c3 c4 c5 c6 c7 p2 _⊞_ _⊕_ not32 shl shr rotr Ch Maj Σ0 �
 hash-2 = refl
 
 free-2 : costOf beside 2 (siblingPosition 5) ≡ 0
-unfolding bundle beefOf read costOf joinsBy written sibling lookup siblingPosition each many whole F.byte F.bytes F.varint L.holds L.offsetField L.flagField L.kindField L.carriedField L.leafField L.levelField L.levelOfTurn blockField heightField bumpField scriptField inputField takes outputField outputsField someField listField fieldsBy txFieldBy versionField bumpCountField bumpsField txCountField bumpNumberField anchorField entryField entriesField beefField
+unfolding bundle beefOf read costOf joinsBy written sibling lookup siblingPosition each many whole F.byte F.bytes F.varint L.holds L.offsetField L.flagField L.kindField L.carriedField L.leafField L.levelField L.levelOfTurn blockField heightUpTo bumpUpTo scriptField inputField takes outputField outputsField someField listField fieldsBy txFieldBy versionField bumpCountField bumpsUpTo txCountField bumpNumberField anchorField entryField entriesField beefUpTo
 free-2 = refl
 
 unfoldable p3 : List ℕ
@@ -224,7 +224,7 @@ p3 =
     0x02 ∷ 0xd6 ∷ 0x16 ∷ 0x07 ∷ 0xf9 ∷ 0x77 ∷ 0xb4 ∷ 0xec ∷ 0xd2 ∷ 0x70 ∷ 0x1c ∷ 0x19 ∷ []
 
 step-3 : step (workedOut beside 3 (siblingPosition 2)) (eqb (2 % 2) 1) c3 ≡ joins c3 p3
-unfolding bundle beefOf read id c1 c2 c3 c4 c5 c6 c7 p3 step joined same workedOut valueOf valueBy written sibling lookup hashAt siblingPosition each many whole F.byte F.bytes F.varint L.holds L.offsetField L.flagField L.kindField L.carriedField L.leafField L.levelField L.levelOfTurn blockField heightField bumpField scriptField inputField takes outputField outputsField someField listField fieldsBy txFieldBy versionField bumpCountField bumpsField txCountField bumpNumberField anchorField entryField entriesField beefField
+unfolding bundle beefOf read id c1 c2 c3 c4 c5 c6 c7 p3 step joined same workedOut valueOf valueBy written sibling lookup hashAt siblingPosition each many whole F.byte F.bytes F.varint L.holds L.offsetField L.flagField L.kindField L.carriedField L.leafField L.levelField L.levelOfTurn blockField heightUpTo bumpUpTo scriptField inputField takes outputField outputsField someField listField fieldsBy txFieldBy versionField bumpCountField bumpsUpTo txCountField bumpNumberField anchorField entryField entriesField beefUpTo
 step-3 = refl
 
 hash-3 : sha256d (c3 ++ p3) ≡ c4
@@ -232,7 +232,7 @@ unfolding id c1 c2 c3 c4 c5 c6 c7 p3 _⊞_ _⊕_ not32 shl shr rotr Ch Maj Σ0 �
 hash-3 = refl
 
 free-3 : costOf beside 3 (siblingPosition 2) ≡ 0
-unfolding bundle beefOf read costOf joinsBy written sibling lookup siblingPosition each many whole F.byte F.bytes F.varint L.holds L.offsetField L.flagField L.kindField L.carriedField L.leafField L.levelField L.levelOfTurn blockField heightField bumpField scriptField inputField takes outputField outputsField someField listField fieldsBy txFieldBy versionField bumpCountField bumpsField txCountField bumpNumberField anchorField entryField entriesField beefField
+unfolding bundle beefOf read costOf joinsBy written sibling lookup siblingPosition each many whole F.byte F.bytes F.varint L.holds L.offsetField L.flagField L.kindField L.carriedField L.leafField L.levelField L.levelOfTurn blockField heightUpTo bumpUpTo scriptField inputField takes outputField outputsField someField listField fieldsBy txFieldBy versionField bumpCountField bumpsUpTo txCountField bumpNumberField anchorField entryField entriesField beefUpTo
 free-3 = refl
 
 unfoldable p4 : List ℕ
@@ -241,7 +241,7 @@ p4 =
     0x22 ∷ 0x17 ∷ 0x66 ∷ 0xc5 ∷ 0x72 ∷ 0x14 ∷ 0xb1 ∷ 0xd3 ∷ 0x8c ∷ 0x7b ∷ 0x48 ∷ 0x1f ∷ []
 
 step-4 : step (workedOut beside 4 (siblingPosition 1)) (eqb (1 % 2) 1) c4 ≡ joins p4 c4
-unfolding bundle beefOf read id c1 c2 c3 c4 c5 c6 c7 p4 step joined same workedOut valueOf valueBy written sibling lookup hashAt siblingPosition each many whole F.byte F.bytes F.varint L.holds L.offsetField L.flagField L.kindField L.carriedField L.leafField L.levelField L.levelOfTurn blockField heightField bumpField scriptField inputField takes outputField outputsField someField listField fieldsBy txFieldBy versionField bumpCountField bumpsField txCountField bumpNumberField anchorField entryField entriesField beefField
+unfolding bundle beefOf read id c1 c2 c3 c4 c5 c6 c7 p4 step joined same workedOut valueOf valueBy written sibling lookup hashAt siblingPosition each many whole F.byte F.bytes F.varint L.holds L.offsetField L.flagField L.kindField L.carriedField L.leafField L.levelField L.levelOfTurn blockField heightUpTo bumpUpTo scriptField inputField takes outputField outputsField someField listField fieldsBy txFieldBy versionField bumpCountField bumpsUpTo txCountField bumpNumberField anchorField entryField entriesField beefUpTo
 step-4 = refl
 
 hash-4 : sha256d (p4 ++ c4) ≡ c5
@@ -249,7 +249,7 @@ unfolding id c1 c2 c3 c4 c5 c6 c7 p4 _⊞_ _⊕_ not32 shl shr rotr Ch Maj Σ0 �
 hash-4 = refl
 
 free-4 : costOf beside 4 (siblingPosition 1) ≡ 0
-unfolding bundle beefOf read costOf joinsBy written sibling lookup siblingPosition each many whole F.byte F.bytes F.varint L.holds L.offsetField L.flagField L.kindField L.carriedField L.leafField L.levelField L.levelOfTurn blockField heightField bumpField scriptField inputField takes outputField outputsField someField listField fieldsBy txFieldBy versionField bumpCountField bumpsField txCountField bumpNumberField anchorField entryField entriesField beefField
+unfolding bundle beefOf read costOf joinsBy written sibling lookup siblingPosition each many whole F.byte F.bytes F.varint L.holds L.offsetField L.flagField L.kindField L.carriedField L.leafField L.levelField L.levelOfTurn blockField heightUpTo bumpUpTo scriptField inputField takes outputField outputsField someField listField fieldsBy txFieldBy versionField bumpCountField bumpsUpTo txCountField bumpNumberField anchorField entryField entriesField beefUpTo
 free-4 = refl
 
 unfoldable p5 : List ℕ
@@ -258,7 +258,7 @@ p5 =
     0x66 ∷ 0xc5 ∷ 0x6e ∷ 0x7e ∷ 0x8c ∷ 0x5d ∷ 0x4b ∷ 0xf2 ∷ 0xd4 ∷ 0x0a ∷ 0xcc ∷ 0x5e ∷ []
 
 step-5 : step (workedOut beside 5 (siblingPosition 0)) (eqb (0 % 2) 1) c5 ≡ joins c5 p5
-unfolding bundle beefOf read id c1 c2 c3 c4 c5 c6 c7 p5 step joined same workedOut valueOf valueBy written sibling lookup hashAt siblingPosition each many whole F.byte F.bytes F.varint L.holds L.offsetField L.flagField L.kindField L.carriedField L.leafField L.levelField L.levelOfTurn blockField heightField bumpField scriptField inputField takes outputField outputsField someField listField fieldsBy txFieldBy versionField bumpCountField bumpsField txCountField bumpNumberField anchorField entryField entriesField beefField
+unfolding bundle beefOf read id c1 c2 c3 c4 c5 c6 c7 p5 step joined same workedOut valueOf valueBy written sibling lookup hashAt siblingPosition each many whole F.byte F.bytes F.varint L.holds L.offsetField L.flagField L.kindField L.carriedField L.leafField L.levelField L.levelOfTurn blockField heightUpTo bumpUpTo scriptField inputField takes outputField outputsField someField listField fieldsBy txFieldBy versionField bumpCountField bumpsUpTo txCountField bumpNumberField anchorField entryField entriesField beefUpTo
 step-5 = refl
 
 hash-5 : sha256d (c5 ++ p5) ≡ c6
@@ -266,7 +266,7 @@ unfolding id c1 c2 c3 c4 c5 c6 c7 p5 _⊞_ _⊕_ not32 shl shr rotr Ch Maj Σ0 �
 hash-5 = refl
 
 free-5 : costOf beside 5 (siblingPosition 0) ≡ 0
-unfolding bundle beefOf read costOf joinsBy written sibling lookup siblingPosition each many whole F.byte F.bytes F.varint L.holds L.offsetField L.flagField L.kindField L.carriedField L.leafField L.levelField L.levelOfTurn blockField heightField bumpField scriptField inputField takes outputField outputsField someField listField fieldsBy txFieldBy versionField bumpCountField bumpsField txCountField bumpNumberField anchorField entryField entriesField beefField
+unfolding bundle beefOf read costOf joinsBy written sibling lookup siblingPosition each many whole F.byte F.bytes F.varint L.holds L.offsetField L.flagField L.kindField L.carriedField L.leafField L.levelField L.levelOfTurn blockField heightUpTo bumpUpTo scriptField inputField takes outputField outputsField someField listField fieldsBy txFieldBy versionField bumpCountField bumpsUpTo txCountField bumpNumberField anchorField entryField entriesField beefUpTo
 free-5 = refl
 
 unfoldable p6 : List ℕ
@@ -275,7 +275,7 @@ p6 =
     0x16 ∷ 0x1c ∷ 0x53 ∷ 0xa9 ∷ 0xc5 ∷ 0x4b ∷ 0x12 ∷ 0xc8 ∷ 0x41 ∷ 0x12 ∷ 0x63 ∷ 0x31 ∷ []
 
 step-6 : step (workedOut beside 6 (siblingPosition 0)) (eqb (0 % 2) 1) c6 ≡ joins c6 p6
-unfolding bundle beefOf read id c1 c2 c3 c4 c5 c6 c7 p6 step joined same workedOut valueOf valueBy written sibling lookup hashAt siblingPosition each many whole F.byte F.bytes F.varint L.holds L.offsetField L.flagField L.kindField L.carriedField L.leafField L.levelField L.levelOfTurn blockField heightField bumpField scriptField inputField takes outputField outputsField someField listField fieldsBy txFieldBy versionField bumpCountField bumpsField txCountField bumpNumberField anchorField entryField entriesField beefField
+unfolding bundle beefOf read id c1 c2 c3 c4 c5 c6 c7 p6 step joined same workedOut valueOf valueBy written sibling lookup hashAt siblingPosition each many whole F.byte F.bytes F.varint L.holds L.offsetField L.flagField L.kindField L.carriedField L.leafField L.levelField L.levelOfTurn blockField heightUpTo bumpUpTo scriptField inputField takes outputField outputsField someField listField fieldsBy txFieldBy versionField bumpCountField bumpsUpTo txCountField bumpNumberField anchorField entryField entriesField beefUpTo
 step-6 = refl
 
 hash-6 : sha256d (c6 ++ p6) ≡ c7
@@ -283,7 +283,7 @@ unfolding id c1 c2 c3 c4 c5 c6 c7 p6 _⊞_ _⊕_ not32 shl shr rotr Ch Maj Σ0 �
 hash-6 = refl
 
 free-6 : costOf beside 6 (siblingPosition 0) ≡ 0
-unfolding bundle beefOf read costOf joinsBy written sibling lookup siblingPosition each many whole F.byte F.bytes F.varint L.holds L.offsetField L.flagField L.kindField L.carriedField L.leafField L.levelField L.levelOfTurn blockField heightField bumpField scriptField inputField takes outputField outputsField someField listField fieldsBy txFieldBy versionField bumpCountField bumpsField txCountField bumpNumberField anchorField entryField entriesField beefField
+unfolding bundle beefOf read costOf joinsBy written sibling lookup siblingPosition each many whole F.byte F.bytes F.varint L.holds L.offsetField L.flagField L.kindField L.carriedField L.leafField L.levelField L.levelOfTurn blockField heightUpTo bumpUpTo scriptField inputField takes outputField outputsField someField listField fieldsBy txFieldBy versionField bumpCountField bumpsUpTo txCountField bumpNumberField anchorField entryField entriesField beefUpTo
 free-6 = refl
 
 climb-7 : climbCost beside 7 0 0 c7 ≡ 0
@@ -312,7 +312,7 @@ climb-0 : climbCost beside 0 7 21 id ≡ 7
 climb-0 = climb-joins beside 0 6 21 id p0 id step-0 ∙ ap (λ (x : List ℕ). costOf beside 0 (siblingPosition 21) + 1 + climbCost beside 1 6 10 x) hash-0 ∙ omega (arith, free-0, climb-1)
 
 tall : nthBump (read .bumps) 0 .height ≡ 7
-unfolding bundle beefOf read each many whole F.byte F.bytes F.varint L.holds L.offsetField L.flagField L.kindField L.carriedField L.leafField L.levelField L.levelOfTurn blockField heightField bumpField scriptField inputField takes outputField outputsField someField listField fieldsBy txFieldBy versionField bumpCountField bumpsField txCountField bumpNumberField anchorField entryField entriesField beefField
+unfolding bundle beefOf read each many whole F.byte F.bytes F.varint L.holds L.offsetField L.flagField L.kindField L.carriedField L.leafField L.levelField L.levelOfTurn blockField heightUpTo bumpUpTo scriptField inputField takes outputField outputsField someField listField fieldsBy txFieldBy versionField bumpCountField bumpsUpTo txCountField bumpNumberField anchorField entryField entriesField beefUpTo
 tall = refl
 
 climbed : bumpCost bundle (nthBump (read .bumps) 0) (entryId bundle (getD (read .entries) 0 emptyEntry)) ≡ 7
@@ -323,15 +323,15 @@ climbed =
     ∙ ap (startCost beside 7 id) starts ∙ climb-0
 
 ids : idsWork (read .entries) ≡ 10
-unfolding idsWork idWork sumOf bundle beefOf read each many whole F.byte F.bytes F.varint L.holds L.offsetField L.flagField L.kindField L.carriedField L.leafField L.levelField L.levelOfTurn blockField heightField bumpField scriptField inputField takes outputField outputsField someField listField fieldsBy txFieldBy versionField bumpCountField bumpsField txCountField bumpNumberField anchorField entryField entriesField beefField
+unfolding idsWork idWork sumOf bundle beefOf read each many whole F.byte F.bytes F.varint L.holds L.offsetField L.flagField L.kindField L.carriedField L.leafField L.levelField L.levelOfTurn blockField heightUpTo bumpUpTo scriptField inputField takes outputField outputsField someField listField fieldsBy txFieldBy versionField bumpCountField bumpsUpTo txCountField bumpNumberField anchorField entryField entriesField beefUpTo
 ids = refl
 
 entries-are : read .entries ≡ getD (read .entries) 0 emptyEntry ∷ getD (read .entries) 1 emptyEntry ∷ []
-unfolding bundle beefOf read each many whole F.byte F.bytes F.varint L.holds L.offsetField L.flagField L.kindField L.carriedField L.leafField L.levelField L.levelOfTurn blockField heightField bumpField scriptField inputField takes outputField outputsField someField listField fieldsBy txFieldBy versionField bumpCountField bumpsField txCountField bumpNumberField anchorField entryField entriesField beefField
+unfolding bundle beefOf read each many whole F.byte F.bytes F.varint L.holds L.offsetField L.flagField L.kindField L.carriedField L.leafField L.levelField L.levelOfTurn blockField heightUpTo bumpUpTo scriptField inputField takes outputField outputsField someField listField fieldsBy txFieldBy versionField bumpCountField bumpsUpTo txCountField bumpNumberField anchorField entryField entriesField beefUpTo
 entries-are = refl
 
 anchored : (getD (read .entries) 0 emptyEntry .anchor ≡ InBump 0) × (getD (read .entries) 1 emptyEntry .anchor ≡ Unanchored)
-unfolding bundle beefOf read each many whole F.byte F.bytes F.varint L.holds L.offsetField L.flagField L.kindField L.carriedField L.leafField L.levelField L.levelOfTurn blockField heightField bumpField scriptField inputField takes outputField outputsField someField listField fieldsBy txFieldBy versionField bumpCountField bumpsField txCountField bumpNumberField anchorField entryField entriesField beefField
+unfolding bundle beefOf read each many whole F.byte F.bytes F.varint L.holds L.offsetField L.flagField L.kindField L.carriedField L.leafField L.levelField L.levelOfTurn blockField heightUpTo bumpUpTo scriptField inputField takes outputField outputsField someField listField fieldsBy txFieldBy versionField bumpCountField bumpsUpTo txCountField bumpNumberField anchorField entryField entriesField beefUpTo
 anchored = (refl, refl)
 
 counted : (roots : List ℕ) (fee : ℕ) → entriesWork bundle roots fee read ≡ 31

@@ -1,7 +1,7 @@
 use borrow.Author.Needs.{needs}
 use native.Mathlib.Omega.{arith}
 use mathlib.Core.Path.{sym}
-use Rattle.format.specs.Bump.{bumpField}
+use Rattle.format.specs.Bump.{bumpUpTo}
 use Rattle.format.proofs.BumpLaws.{height-bounded, bump-no-height, bump-no-levels, bump-read}
 use Rattle.format.specs.FieldAnswer.{numberOf}
 use Rattle.format.specs.Parse.{each}
@@ -22,7 +22,7 @@ refusal-requires : tie.Need-refusal-requires
 refusal-requires c κs = search needs
 
 returns : tie.Need-returns
-unfolding each bumpField
+unfolding each bumpUpTo
 returns c =
     rw (c .refusal .ensures, c .before .enum-told .given .1)
     (simp (answered numberOf (c .before .before .before .read-block .ensures) (c .before .enum-told .given .1)))

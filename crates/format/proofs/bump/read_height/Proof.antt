@@ -2,7 +2,7 @@ use borrow.Author.Needs.{needs}
 use borrow.Author.Tests.{le-leb, lt-leb}
 use Rattle.format.specs.FieldAnswer.{numberOf}
 use Rattle.format.proofs.ParseLaws.{answered}
-use Rattle.format.specs.Bump.{heightField}
+use Rattle.format.specs.Bump.{heightUpTo}
 use Rattle.format.proofs.bump.read_height.Statement.{statement}
 use Rattle.format.proofs.bump.read_height.Tie as tie
 
@@ -16,19 +16,19 @@ enum-told : tie.Need-enum-told
 enum-told c = search needs
 
 returns : tie.Need-returns
-unfolding heightField
+unfolding heightUpTo
 returns c = rw (c .enum-told .given .1) (simp (answered numberOf (c .before .before .one-byte .ensures) (c .enum-told .given .1)))
 
 returns-2 : tie.Need-returns-2
-unfolding heightField
+unfolding heightUpTo
 returns-2 c = simp (answered numberOf (c .before .before .before .before .one-byte .ensures) (c .before .before .field .given .1), lt-leb _ _ (c .if1 .taken))
 
 returns-3 : tie.Need-returns-3
-unfolding heightField
+unfolding heightUpTo
 returns-3 c = simp (answered numberOf (c .before .before .before .before .before .one-byte .ensures) (c .before .before .before .field .given .1), le-leb _ _ (c .before .if1 .left), lt-leb _ _ (c .if2 .taken))
 
 returns-4 : tie.Need-returns-4
-unfolding heightField
+unfolding heightUpTo
 returns-4 c = simp (answered numberOf (c .before .before .before .before .before .one-byte .ensures) (c .before .before .before .field .given .1), le-leb _ _ (c .before .if1 .left), le-leb _ _ (c .if2 .left))
 
 pub read-height-spec : {M : Type 1} → statement M

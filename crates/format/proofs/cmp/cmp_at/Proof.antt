@@ -2,7 +2,7 @@ use borrow.Author.Needs.{needs}
 use native.Mathlib.Omega.{arith}
 use mathlib.Core.Path.{sym}
 use Rattle.format.proofs.BumpLaws.{top-bounded, cmp-no-levels, cmp-read}
-use Rattle.format.specs.Cmp.{cmpField}
+use Rattle.format.specs.Cmp.{cmpUpTo}
 use Rattle.format.specs.FieldAnswer.{numberOf}
 use Rattle.format.specs.Parse.{each}
 use Rattle.format.proofs.ParseLaws.{answered}
@@ -22,7 +22,7 @@ refusal-requires : tie.Need-refusal-requires
 refusal-requires c κs = search needs
 
 returns : tie.Need-returns
-unfolding each cmpField
+unfolding each cmpUpTo
 returns c =
     rw (c .refusal .ensures, c .before .enum-told .given .1)
     (simp (answered numberOf (c .before .before .before .read-top .ensures) (c .before .enum-told .given .1)))

@@ -2,7 +2,7 @@ use borrow.Author.Needs.{needs}
 use borrow.Author.Tests.{le-leb, lt-leb}
 use Rattle.format.specs.FieldAnswer.{numberOf}
 use Rattle.format.proofs.ParseLaws.{answered}
-use Rattle.format.specs.Tsc.{nodeCountField}
+use Rattle.format.specs.Tsc.{nodeCountUpTo}
 use Rattle.format.proofs.tsc.read_node_count.Statement.{statement}
 use Rattle.format.proofs.tsc.read_node_count.Tie as tie
 
@@ -16,15 +16,15 @@ enum-told : tie.Need-enum-told
 enum-told c = search needs
 
 returns : tie.Need-returns
-unfolding nodeCountField
+unfolding nodeCountUpTo
 returns c = rw (c .enum-told .given .1) (simp (answered numberOf (c .before .before .read-varint .ensures) (c .enum-told .given .1)))
 
 returns-2 : tie.Need-returns-2
-unfolding nodeCountField
+unfolding nodeCountUpTo
 returns-2 c = simp (answered numberOf (c .before .before .before .before .read-varint .ensures) (c .before .before .field .given .1), lt-leb _ _ (c .if1 .taken))
 
 returns-3 : tie.Need-returns-3
-unfolding nodeCountField
+unfolding nodeCountUpTo
 returns-3 c = simp (answered numberOf (c .before .before .before .before .read-varint .ensures) (c .before .before .field .given .1), le-leb _ _ (c .if1 .left))
 
 pub read-node-count-spec : {M : Type 1} → statement M

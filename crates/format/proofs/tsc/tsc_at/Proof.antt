@@ -5,7 +5,7 @@ use Rattle.format.specs.TransactionAnswer.{itemsAnswer}
 use Rattle.format.specs.TscAnswer.{subjectAnswer}
 use Rattle.format.proofs.ParseLaws.{go, stop, answered, each-got, each-bad}
 use Rattle.format.specs.Transaction.{itemsOf}
-use Rattle.format.specs.Tsc.{tscField}
+use Rattle.format.specs.Tsc.{tscUpTo}
 use Rattle.format.proofs.TscLaws.{tsc-head}
 use Rattle.format.proofs.tsc.tsc_at.Statement.{statement}
 use Rattle.format.proofs.tsc.tsc_at.Tie as tie
@@ -23,7 +23,7 @@ refusal-requires : tie.Need-refusal-requires
 refusal-requires c κs = search needs
 
 returns : tie.Need-returns
-unfolding tscField
+unfolding tscUpTo
 returns c =
     rw (c .refusal .ensures, c .before .enum-told .given .1)
     (sym (stop _ _ (answered numberOf (c .before .before .before .read-flags .ensures) (c .before .enum-told .given .1))))
@@ -41,7 +41,7 @@ refusal-requires-2 : tie.Need-refusal-requires-2
 refusal-requires-2 c κs = search needs
 
 returns-2 : tie.Need-returns-2
-unfolding tscField
+unfolding tscUpTo
 returns-2 c =
     rw (c .refusal2 .ensures, c .before .enum-told2 .given .1)
     (sym (go _ _ (answered numberOf (c .before .before .before .before .before .before .before .read-flags .ensures) (c .before .before .before .before .before .first .given .1))
@@ -60,7 +60,7 @@ refusal-requires-3 : tie.Need-refusal-requires-3
 refusal-requires-3 c κs = search needs
 
 returns-3 : tie.Need-returns-3
-unfolding tscField
+unfolding tscUpTo
 returns-3 c =
     rw (c .refusal3 .ensures, c .before .enum-told3 .given .1)
     (sym (go _ _ (answered numberOf (c .before .before .before .before .before .before .before .before .before .before .before .read-flags .ensures) (c .before .before .before .before .before .before .before .before .before .first .given .1))
@@ -80,7 +80,7 @@ refusal-requires-4 : tie.Need-refusal-requires-4
 refusal-requires-4 c κs = search needs
 
 returns-4 : tie.Need-returns-4
-unfolding tscField
+unfolding tscUpTo
 returns-4 c =
     rw (c .refusal4 .ensures, c .before .enum-told4 .given .1)
     (sym (go _ _ (answered numberOf (c .before .before .before .before .before .before .before .before .before .before .before .before .before .before .before .read-flags .ensures) (c .before .before .before .before .before .before .before .before .before .before .before .before .before .first .given .1))
@@ -101,7 +101,7 @@ refusal-requires-5 : tie.Need-refusal-requires-5
 refusal-requires-5 c κs = search needs
 
 returns-5 : tie.Need-returns-5
-unfolding tscField
+unfolding tscUpTo
 returns-5 c =
     rw (c .refusal5 .ensures, c .before .enum-told5 .given .1)
     (sym (go _ _ (answered numberOf (c .before .before .before .before .before .before .before .before .before .before .before .before .before .before .before .before .before .before .before .read-flags .ensures) (c .before .before .before .before .before .before .before .before .before .before .before .before .before .before .before .before .before .first .given .1))
@@ -111,7 +111,7 @@ returns-5 c =
     ∙ stop _ _ (each-bad itemsOf _ (answered itemsAnswer (c .before .before .before .all-nodes .ensures) (c .before .enum-told5 .given .1)))))
 
 returns-6 : tie.Need-returns-6
-unfolding tscField
+unfolding tscUpTo
 returns-6 c =
     sym (go _ _ (answered numberOf (c .before .before .before .before .before .before .before .before .before .before .before .before .before .before .before .before .before .before .before .before .read-flags .ensures) (c .before .before .before .before .before .before .before .before .before .before .before .before .before .before .before .before .before .before .first .given .1))
     ∙ go _ _ (answered numberOf (c .before .before .before .before .before .before .before .before .before .before .before .before .before .before .before .before .read-varint .ensures) (c .before .before .before .before .before .before .before .before .before .before .before .before .before .before .second .given .1))

@@ -2,7 +2,7 @@ use mathlib.Core.Path.{sym, _∙_, ap}
 use borrow.Author.Needs.{needs}
 use Rattle.path.specs.declared.path.Form.{Form}
 use Rattle.spv.specs.Compare.{prove}
-use Rattle.spv.specs.Readings.{reading}
+use Rattle.spv.specs.Readings.{reading, readingUpTo}
 use Rattle.spv.proofs.prove.claim_of.Statement.{statement}
 use Rattle.spv.proofs.prove.claim_of.Tie as tie
 
@@ -25,19 +25,19 @@ claim-tsc-requires : tie.Need-claim-tsc-requires
 claim-tsc-requires c κs = search needs
 
 returns : tie.Need-returns
-unfolding reading
+unfolding readingUpTo
 returns c =
     let a = c .before .before .before .before .args in
     c .claim-bump .ensures ∙ sym (ap (λ (f : Form). prove (reading f (a .s .now) (a .id))) (c .before .enum-told .given .1))
 
 returns-2 : tie.Need-returns-2
-unfolding reading
+unfolding readingUpTo
 returns-2 c =
     let a = c .before .before .before .before .args in
     c .claim-cmp .ensures ∙ sym (ap (λ (f : Form). prove (reading f (a .s .now) (a .id))) (c .before .enum-told2 .given .1))
 
 returns-3 : tie.Need-returns-3
-unfolding reading
+unfolding readingUpTo
 returns-3 c =
     let a = c .before .before .before .before .args in
     c .claim-tsc .ensures ∙ sym (ap (λ (f : Form). prove (reading f (a .s .now) (a .id))) (c .before .enum-told3 .given .1))
