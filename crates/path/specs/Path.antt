@@ -13,6 +13,7 @@ use Rattle.path.specs.declared.path.Found.the-variants.{Here, Missing}
 use Rattle.path.specs.declared.path.Start.{Start}
 use Rattle.path.specs.declared.path.Start.the-variants.{Nowhere}
 use Rattle.format.specs.Parse.{pick, otherwise}
+use Rattle.format.specs.Refusals.{MAX-HEIGHT}
 use Rattle.format.specs.Level.{levelOfTurn}
 use Rattle.format.specs.Bump.{Bump, headOf}
 use Rattle.format.specs.Cmp.{Cmp, cmpHeadOf}
@@ -22,7 +23,7 @@ use Rattle.path.specs.Loose.{looseLevel}
 
 -- layers that a path has room for
 abbrev pub LAYERS : ℕ
-LAYERS = 64
+LAYERS = MAX-HEIGHT
 
 -- the node at a place
 unfoldable pub nodeAt : List ℕ → ℕ → Found

@@ -4,6 +4,7 @@ use super::walk::Step;
 use super::walk::leaf_at;
 use super::walk::pass_leaf;
 use super::walk::skip_level;
+use format::Bump;
 use format::BumpHead;
 use format::CmpHead;
 use format::Cursor;
@@ -28,7 +29,7 @@ ghost use Rattle.path.specs.TscPath.{nodePlaceField, nodePlaces, tscPath
 ghost use Rattle.path.specs.Loose.{looseLeaf};
 
 // Layers that a path has room for.
-pub const LAYERS: usize = 64;
+pub const LAYERS: usize = Bump::MAX_HEIGHT as usize;
 
 pub enum Form {
     Bump,
