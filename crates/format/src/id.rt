@@ -1,5 +1,4 @@
 // Ids of transactions (01, "Raw transaction").
-use super::tx::TxHead;
 ghost use mathlib.Core.Path.{_≡_};
 ghost use Rattle.format.specs.Id.{spanHash};
 
@@ -15,11 +14,4 @@ pub fn span_hash(s: &[u8], start: usize, end: usize) -> [u8; 32]
     }
     let hashed = hash::sha256d(&s[start..end]);
     hashed.digest
-}
-
-// The id of a transaction that was read.
-pub fn tx_id(s: &[u8], tx: TxHead) -> [u8; 32]
-    ensures { λ r. ⌜ r ≡ spanHash (now (s .entry)) (tx .start) (tx .end) ⌝ }
-{
-    span_hash(s, tx.start, tx.end)
 }

@@ -41,7 +41,6 @@ pub use field::read_four;
 pub use field::read_run;
 pub use field::read_varint;
 pub use id::span_hash;
-pub use id::tx_id;
 pub use level::Kind;
 pub use level::KindAnswer;
 pub use level::Layout;
