@@ -1,4 +1,5 @@
 // CMP, the compound path (document 001).
+use super::bump::Bump;
 use super::field::Cursor;
 use super::field::Number;
 use super::field::one_byte;
@@ -19,7 +20,7 @@ pub struct Cmp;
 
 impl Cmp {
     // The byte m.
-    pub const MAX_TOP: u64 = 63;
+    pub const MAX_TOP: u64 = Bump::MAX_HEIGHT - 1;
 
     pub fn start() -> Cursor
         ensures { λ r. ⌜ r ≡ record { at = 0 } ⌝ }

@@ -1,4 +1,5 @@
 // TSC binary proofs (document 000).
+use super::bump::Bump;
 use super::field::Cursor;
 use super::field::Number;
 use super::field::Run;
@@ -32,7 +33,7 @@ ghost use Rattle.format.specs.TscAnswer.{subjectAnswer, refusalOfSubject
 pub struct Tsc;
 
 impl Tsc {
-    pub const MAX_NODES: u64 = 64;
+    pub const MAX_NODES: u64 = Bump::MAX_HEIGHT;
 
     pub fn start() -> Cursor
         ensures { λ r. ⌜ r ≡ record { at = 0 } ⌝ }
