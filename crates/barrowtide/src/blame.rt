@@ -1,4 +1,4 @@
-// What a refusal blames, for C.
+// What a refusal blames, for C (specs/Interface.antt).
 use spv::Rejection;
 ghost use mathlib.Core.Path.{_≡_};
 ghost use Rattle.barrowtide.specs.Interface.{blamed};

@@ -1,4 +1,4 @@
-// To and from TSC proofs.
+// To and from TSC proofs (conversion/specs/Convert.antt).
 use super::write::tell;
 ghost use mathlib.Core.Path.{_≡_};
 ghost use lib.ListN.{length};

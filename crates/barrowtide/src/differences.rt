@@ -1,4 +1,4 @@
-// Two BUMPs side by side.
+// Two BUMPs side by side (difference/specs/Listing.antt, Shorter.antt).
 use super::blame::blame_of;
 use difference::Listed;
 ghost use mathlib.Core.Path.{_≡_};

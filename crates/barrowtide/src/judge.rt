@@ -1,4 +1,4 @@
-// Judging a BEEF bundle.
+// Judging a BEEF bundle (bundle/specs/Bundle.antt).
 use super::blame::blame_of;
 use bundle::Judged;
 use bundle::Record;

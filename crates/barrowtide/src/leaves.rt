@@ -1,4 +1,4 @@
-// A list of a BUMP's leaves, and two BUMPs merged.
+// A list of a BUMP's leaves, and two BUMPs merged (leaflist/specs/LeafList.antt, merging/specs/Merging.antt).
 use super::blame::blame_of;
 use leaflist::Built;
 use levels::Place;

@@ -1,4 +1,4 @@
-// Putting transactions in order.
+// Putting transactions in order (order/specs/Order.antt).
 use super::blame::blame_of;
 use order::Ordered;
 ghost use mathlib.Core.Path.{_≡_};

@@ -1,4 +1,4 @@
-// Proving a page of ids by one BUMP.
+// Proving a page of ids by one BUMP (page/specs/Page.antt).
 use super::blame::blame_of;
 use page::Answer;
 use page::Paged;

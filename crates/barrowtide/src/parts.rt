@@ -1,4 +1,4 @@
-// A raw transaction that arrives in parts, with a state that the caller lends: it is loaded, changed by value and stored back. What a call does over a
+// A raw transaction that arrives in parts, with a state that the caller lends (stream/specs/Parts.antt): it is loaded, changed by value and stored back. What a call does over a
 // state that no start and calls made is left free.
 use stream::Answer;
 use stream::State;

@@ -1,4 +1,4 @@
-// Proving an id, the all-clients check, and comparing two proofs, of one number of layers or of two.
+// Proving an id, the all-clients check, and comparing two proofs, of one number of layers or of two (spv/specs/Compare.antt, Clients.antt, Depth.antt).
 use super::blame::blame_of;
 use climbs::Agreement;
 use path::Form;

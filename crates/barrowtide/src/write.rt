@@ -1,4 +1,4 @@
-// Writing the BUMP of chosen positions of a block.
+// Writing the BUMP of chosen positions of a block (block/specs/BlockBump.antt).
 use super::blame::blame_of;
 use block::Written;
 ghost use mathlib.Core.Path.{_≡_};

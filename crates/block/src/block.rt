@@ -1,4 +1,4 @@
-// BUMPs from a block's ids.
+// BUMPs from a block's ids (specs/BlockBump.antt).
 use super::ids::all_below;
 use super::ids::all_differ;
 use super::level::levels_size;

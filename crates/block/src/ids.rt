@@ -1,4 +1,4 @@
-// What is asked of a list of ids and of chosen positions before a tree is made of them.
+// What is asked of a list of ids and of chosen positions before a tree is made of them (specs/Ids.antt).
 ghost use mathlib.Core.Path.{_≡_};
 ghost use mathlib.Core.Bool.{false};
 ghost use Prim.Native.Nat.{_+_, _/_, _<_, _≤_};

@@ -1,4 +1,4 @@
-// The levels of a BUMP of chosen positions: what they ask for at each offset, how many bytes that takes, and the bytes.
+// The levels of a BUMP of chosen positions (specs/Leaves.antt): what they ask for at each offset, how many bytes that takes, and the bytes.
 use super::marks::is_marked;
 use super::tree::node_at;
 use encoding::buffer::put;

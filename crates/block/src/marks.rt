@@ -1,4 +1,4 @@
-// Which nodes the climbs of chosen positions pass. The node at position j of a level of `width` places has the index width + j.
+// Which nodes the climbs of chosen positions pass (specs/Marks.antt). The node at position j of a level of `width` places has the index width + j.
 ghost use mathlib.Core.Path.{_≡_};
 ghost use Prim.Native.Nat.{ℕ, _^_, _<_, _≤_};
 ghost use lib.ListN.{length, getD};

@@ -1,4 +1,4 @@
-// The tree of a block's ids. The node at position j of a level of `width` places stands at index width + j of the heap, 32 bytes an
+// The tree of a block's ids (specs/Heap.antt). The node at position j of a level of `width` places stands at index width + j of the heap, 32 bytes an
 // index; level 0 is the lent list itself.
 use super::marks::is_marked;
 use format::refusal::TWIN;

@@ -1,4 +1,4 @@
-// Lists the BUMP on standard input.
+// Lists the BUMP on standard input (listing/specs/Listing.antt).
 use libc::STDIN_FILENO;
 use libc::STDOUT_FILENO;
 ghost use mathlib.Core.Path.{_≡_};

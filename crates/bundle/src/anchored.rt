@@ -1,4 +1,4 @@
-// The transactions that name one BUMP climb in it together, before any is judged. What each comes to is kept in four numbers: the number of its
+// The transactions that name one BUMP climb in it together, before any is judged (specs/Anchored.antt). What each comes to is kept in four numbers: the number of its
 // refusal, the layer and the sibling, or 0, 0 and its position; then the joins of its climb.
 use super::judging::IDS_ROOM;
 use super::judging::Standing;

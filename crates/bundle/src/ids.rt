@@ -1,4 +1,4 @@
-// The ids of a bundle's transactions, four at a time, and the BUMPs that these name.
+// The ids of a bundle's transactions, four at a time, and the BUMPs that these name (specs/Ahead.antt).
 use super::work::id_work;
 use format::Anchor;
 use format::Beef;

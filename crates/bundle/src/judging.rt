@@ -1,4 +1,4 @@
-// Judging a BEEF against a list of trusted roots (paper 01, "The bundle rule").
+// Judging a BEEF against a list of trusted roots (paper 01, "The bundle rule"; specs/Bundle.antt).
 use super::anchored::ENDS_ROOM;
 use super::anchored::climb_bumps;
 use super::anchored::end_at;

@@ -1,4 +1,4 @@
-// Marks in a window of outputs: which transaction spends each.
+// Marks in a window of outputs (specs/Windows.antt): which transaction spends each.
 use super::parents::place_among;
 use format::Cursor;
 use format::InputAnswer;

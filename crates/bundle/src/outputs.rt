@@ -1,4 +1,4 @@
-// Whether the outputs that inputs name are there (26); then 27 and 28.
+// Whether the outputs that inputs name are there (26), then 27 and 28 (specs/Shown.antt).
 use super::marks::four_at;
 use super::marks::inputs_of;
 use super::parents::place_among;

@@ -1,4 +1,4 @@
-// 27 and 28 for the transactions of a bundle that passed everything before them, in passes over windows of the bundle's outputs.
+// 27 and 28 for the transactions of a bundle that passed everything before them, in passes over windows of the bundle's outputs (specs/Pass.antt).
 use super::marks::mark_entries;
 use super::sums::Walk;
 use super::sums::add_outputs;

@@ -1,4 +1,4 @@
-// What the inputs of each transaction come to, by the marks of windows: all outputs are passed once, and each is added to the sum of its spender.
+// What the inputs of each transaction come to, by the marks of windows (specs/Walks.antt): all outputs are passed once, and each is added to the sum of its spender.
 use format::Cursor;
 use format::Number;
 ghost use mathlib.Core.Path.{_≡_};

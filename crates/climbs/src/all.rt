@@ -1,4 +1,4 @@
-// All rows climbed by one path.
+// All rows climbed by one path (specs/Together.antt).
 use super::order::order_rows;
 use super::pass::split;
 use super::pass::visit;

@@ -1,4 +1,4 @@
-// A BUMP's all-clients check (01, "The climb"): the clients climb together, as many as there is room for.
+// A BUMP's all-clients check (01, "The climb"; specs/ClientsShapes.antt): the clients climb together, as many as there is room for.
 use super::all::climb_both;
 use super::prove::ROWS;
 use super::row::row_end;

@@ -1,4 +1,4 @@
-// Hash work, counted (02, Item 11): what a row pays for one layer, and what a node's join costs. A row without a cost pays nothing.
+// Hash work, counted (02, Item 11; specs/Spent.antt): what a row pays for one layer, and what a node's join costs. A row without a cost pays nothing.
 use spv::StepKind;
 use std::num::wrapping_add_u64;
 ghost use mathlib.Core.Path.{_≡_};

@@ -1,4 +1,4 @@
-// What is written at a layer and position of a path, or of two paths of one block between them.
+// What is written at a layer and position of a path, or of two paths of one block between them (specs/LookUp.antt).
 use format::Cursor;
 use format::Layout;
 use path::Found;

@@ -1,4 +1,4 @@
-// One pass over the tree: a node's children first, then each climb under them takes one step, then the node's own value.
+// One pass over the tree (specs/Pass.antt): a node's children first, then each climb under them takes one step, then the node's own value.
 use super::count::charge;
 use super::count::join_cost;
 use super::lookup::is_written;

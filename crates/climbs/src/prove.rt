@@ -1,4 +1,4 @@
-// Proofs of many ids by one path: each row of a list of hashes holds an id, and gets what the id's own proof comes to.
+// Proofs of many ids by one path (specs/Proofs.antt): each row of a list of hashes holds an id, and gets what the id's own proof comes to.
 use super::all::climb_rows;
 use super::count::clear_costs;
 use super::row::closed_state;

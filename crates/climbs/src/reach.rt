@@ -1,4 +1,4 @@
-// Whether all clients of a level climb to one root by what two paths have written between them.
+// Whether all clients of a level climb to one root by what two paths have written between them (specs/Reach.antt).
 use super::clients::check_many;
 use super::want::Agreement;
 use super::want::Checked;

@@ -1,4 +1,4 @@
-// Rows four at a time, as long as their siblings are written: most layers of most climbs, as four joins at once take as long as two.
+// Rows four at a time, as long as their siblings are written (specs/Rise.antt): most layers of most climbs, as four joins at once take as long as two.
 use super::count::charge;
 use super::pass::both;
 use super::pass::either;

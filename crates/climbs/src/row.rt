@@ -1,4 +1,4 @@
-// Climbs in rows: row i has a start, a state and a hash. The state is the number of layers made while the climb goes on; of one that was refused
+// Climbs in rows (specs/Row.antt): row i has a start, a state and a hash. The state is the number of layers made while the climb goes on; of one that was refused
 // it is 64 times the refusal's number, and its layer: 13 of one that was never begun, 14 or 15.
 use format::refusal::MISSING;
 use format::refusal::NOT_LISTED;

@@ -1,4 +1,4 @@
-// What is wanted of the next client, and what is answered once there is none left.
+// What is wanted of the next client, and what is answered once there is none left (specs/ClientsShapes.antt).
 use format::refusal::NOT_LISTED;
 use format::refusal::ROOTS_DIFFER;
 use spv::Climbed;

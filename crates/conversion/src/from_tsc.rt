@@ -1,4 +1,4 @@
-// A TSC proof as a BUMP with one client leaf.
+// A TSC proof as a BUMP with one client leaf (specs/Convert.antt).
 use block::Written;
 use block::refuse;
 use encoding::buffer::put;

@@ -1,4 +1,4 @@
-// One id's climb in a BUMP as a TSC proof with id and root target.
+// One id's climb in a BUMP as a TSC proof with id and root target (specs/Convert.antt).
 use block::Written;
 use block::refuse;
 use encoding::buffer::put;

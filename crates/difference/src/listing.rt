@@ -1,4 +1,4 @@
-// The list of the differences of two BUMPs, three words an entry.
+// The list of the differences of two BUMPs, three words an entry (specs/Listing.antt).
 use format::BumpAnswer;
 use format::BumpHead;
 use format::Cursor;

@@ -1,4 +1,4 @@
-// The shorter of two BUMPs that prove an id to one root.
+// The shorter of two BUMPs that prove an id to one root (specs/Shorter.antt).
 use format::refusal::UNLIKE;
 use spv::Outcome;
 use spv::Rejection;

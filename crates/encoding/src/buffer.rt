@@ -1,4 +1,4 @@
-// Bytes written into lent memory. Each function takes the place of the next byte and answers the place after its text; bytes
+// Bytes written into lent memory (specs/Buffer.antt). Each function takes the place of the next byte and answers the place after its text; bytes
 // that find no room are dropped.
 ghost use mathlib.Core.Path.{_≡_};
 ghost use lib.ListN.{length};

@@ -1,4 +1,4 @@
-// BEEF version 0100BEEF (document 004). A reading keeps counts, the heads of the BUMPs and the place of the first transaction: what was read once is
+// BEEF version 0100BEEF (document 004; specs/Beef.antt). A reading keeps counts, the heads of the BUMPs and the place of the first transaction: what was read once is
 // found again from there.
 use super::bump::BumpAnswer;
 use super::bump::BumpHead;

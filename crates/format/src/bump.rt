@@ -1,4 +1,4 @@
-// BUMP (document 003).
+// BUMP (document 003; specs/Bump.antt).
 use super::field::Cursor;
 use super::field::Number;
 use super::field::one_byte;

@@ -1,4 +1,4 @@
-// Hashes as 32 bytes.
+// Hashes as 32 bytes (specs/Bytes.antt).
 ghost use mathlib.Core.Path.{_≡_};
 ghost use Rattle.format.specs.Bytes.{same, setHash, hashAt};
 

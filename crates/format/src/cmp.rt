@@ -1,4 +1,4 @@
-// CMP, the compound path (document 001).
+// CMP, the compound path (document 001; specs/Cmp.antt).
 use super::bump::Bump;
 use super::field::Cursor;
 use super::field::Number;

@@ -1,4 +1,4 @@
-// Ids of transactions (01, "Raw transaction").
+// Ids of transactions (01, "Raw transaction"; specs/Id.antt).
 ghost use mathlib.Core.Path.{_≡_};
 ghost use Rattle.format.specs.Id.{spanHash};
 

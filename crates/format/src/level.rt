@@ -1,4 +1,4 @@
-// Leaves and levels as BUMP (document 003) and CMP (document 001) write them.
+// Leaves and levels as BUMP (document 003) and CMP (document 001) write them (specs/Level.antt).
 use super::field::Cursor;
 use super::field::Number;
 use super::field::Run;

@@ -1,4 +1,4 @@
-// A node of a TSC proof.
+// A node of a TSC proof (specs/Node.antt).
 use super::field::Cursor;
 use super::field::Number;
 use super::field::one_byte;

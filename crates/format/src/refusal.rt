@@ -1,4 +1,4 @@
-// Refusals by the numbers of 01, "Numbers of refusal".
+// Refusals by the numbers of 01, "Numbers of refusal" (specs/Refusals.antt).
 
 // A refusal: its number and what it carries, most often a place in the input.
 pub struct Refusal {

@@ -1,4 +1,4 @@
-// TSC binary proofs (document 000).
+// TSC binary proofs (document 000; specs/Tsc.antt).
 use super::bump::Bump;
 use super::field::Cursor;
 use super::field::Number;

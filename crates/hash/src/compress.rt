@@ -1,4 +1,4 @@
-// The compression function (FIPS 180-4, section 6.2.2): a hash value and a block of sixteen words give the next hash value.
+// The compression function (FIPS 180-4, section 6.2.2; specs/Sha256.antt): a hash value and a block of sixteen words give the next hash value.
 // The message schedule stays in this file.
 ghost use mathlib.Core.Path.{_≡_};
 ghost use Rattle.hash.specs.Sha256 as F;

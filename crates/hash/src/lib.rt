@@ -1,4 +1,4 @@
-// Double SHA-256 (FIPS 180-4) of a lent message, and of two Merkle nodes joined.
+// Double SHA-256 (FIPS 180-4) of a lent message, and of two Merkle nodes joined (specs/Sha256.antt).
 ghost use mathlib.Core.Path.{_≡_};
 ghost use mathlib.Core.List.{_++_};
 ghost use Prim.Native.Nat.{_+_, _*_, _/_, _%_, _^_, _≤_, _<_};

@@ -1,4 +1,4 @@
-// Four compressions at once (FIPS 180-4, section 6.2.2): each word is four, one for each lane, and each operation is done in each lane.
+// Four compressions at once (FIPS 180-4, section 6.2.2; specs/Lanes.antt): each word is four, one for each lane, and each operation is done in each lane.
 ghost use mathlib.Core.Path.{_≡_};
 ghost use Prim.Native.Nat.{ℕ};
 ghost use lib.ListN.{drop};

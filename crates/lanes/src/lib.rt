@@ -1,4 +1,4 @@
-// Four joins at once, each in a lane of its own; and four double hashes.
+// Four joins at once, each in a lane of its own (specs/Lanes.antt); and four double hashes.
 ghost use mathlib.Core.Path.{_≡_};
 ghost use mathlib.Core.List.{_++_};
 ghost use Prim.Native.Nat.{ℕ, _+_, _*_, _<_, _≤_};

@@ -1,4 +1,4 @@
-// The double hashes of four messages at once, each in a lane of its own.
+// The double hashes of four messages at once, each in a lane of its own (specs/Lanes.antt).
 use super::Nodes;
 use super::compress::Four;
 use super::compress::State4;

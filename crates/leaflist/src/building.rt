@@ -1,4 +1,4 @@
-// Building the list of a BUMP's leaves, three words a leaf.
+// Building the list of a BUMP's leaves, three words a leaf (specs/LeafList.antt).
 use format::BumpAnswer;
 use format::BumpHead;
 use format::Layout;

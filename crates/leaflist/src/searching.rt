@@ -1,4 +1,4 @@
-// The search over a list of leaves, which is lent alone.
+// The search over a list of leaves, which is lent alone (specs/LeafList.antt).
 use levels::Place;
 ghost use mathlib.Core.Path.{_≡_};
 ghost use mathlib.Core.List.{List};

@@ -1,4 +1,4 @@
-// Two levels in the order of their offsets, side by side: what stands at the front of each. Arrays hold the places of their leaves' first bytes.
+// Two levels in the order of their offsets, side by side (specs/Fronts.antt): what stands at the front of each. Arrays hold the places of their leaves' first bytes.
 use super::order::offset_at;
 use format::Cursor;
 use format::Kind;

@@ -1,4 +1,4 @@
-// The listing of a BUMP as text, over lent bytes.
+// The listing of a BUMP as text, over lent bytes (specs/Listing.antt).
 mod lines;
 mod text;
 

@@ -1,4 +1,4 @@
-// The lines of a listing.
+// The lines of a listing (specs/Walk.antt).
 use super::text::write_decimal;
 use super::text::write_hash;
 use encoding::buffer::write;

@@ -1,4 +1,4 @@
-// Text written into lent memory: bytes, numbers in decimal, hashes in hex. Each function takes the place of the next byte and
+// Text written into lent memory (specs/Text.antt): bytes, numbers in decimal, hashes in hex. Each function takes the place of the next byte and
 // answers the place after its text; bytes that find no room are dropped.
 use encoding::buffer::put;
 ghost use mathlib.Core.Path.{_≡_};

@@ -1,4 +1,4 @@
-// All levels of two paths side by side: the merged path's sizes before it is written, and its levels.
+// All levels of two paths side by side (specs/Levels.antt): the merged path's sizes before it is written, and its levels.
 use super::uniting::LevelTally;
 use super::uniting::put_leaves;
 use super::uniting::tally_level;

@@ -1,4 +1,4 @@
-// Merging two BUMPs of one block: the merged path's bytes and its list (paper 02, Item 14).
+// Merging two BUMPs of one block (specs/Merging.antt): the merged path's bytes and its list (paper 02, Item 14).
 use super::joining::Tally;
 use super::joining::put_levels;
 use super::joining::tally_levels;

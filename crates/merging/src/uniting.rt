@@ -1,4 +1,4 @@
-// Two levels side by side, both in order: which leaf is kept where either has one.
+// Two levels side by side, both in order (specs/Walk.antt): which leaf is kept where either has one.
 use format::Kind;
 use levels::Next;
 use levels::Spot;

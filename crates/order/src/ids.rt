@@ -1,4 +1,4 @@
-// Searching among the ids of a set, which stand end to end. The first eight bytes of each are kept as a number beside them: nearly every id that is not
+// Searching among the ids of a set, which stand end to end (specs/Ids.antt). The first eight bytes of each are kept as a number beside them: nearly every id that is not
 // the one looked for is told by one comparison.
 ghost use mathlib.Core.Path.{_≡_};
 ghost use mathlib.Core.List.{[]};

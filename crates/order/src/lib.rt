@@ -1,4 +1,4 @@
-// Putting transactions in order (02, Item 12): a set of raw transactions, handed in end to end in no order.
+// Putting transactions in order (02, Item 12; specs/Set.antt): a set of raw transactions, handed in end to end in no order.
 mod answer;
 mod bits;
 mod ids;

@@ -1,4 +1,4 @@
-// The checker, and our own order, over a matrix of parents.
+// The checker, and our own order, over a matrix of parents (specs/Order.antt).
 use super::ids::MOST;
 use super::parents::is_parent;
 ghost use mathlib.Core.Path.{_≡_};

@@ -1,4 +1,4 @@
-// A page of ids against one BUMP: the answers that asking for each id alone would give, from one reading (paper 02, Item 2).
+// A page of ids against one BUMP (specs/Page.antt): the answers that asking for each id alone would give, from one reading (paper 02, Item 2).
 use format::BumpAnswer;
 use format::refusal::NO_ROOM;
 use format::refusal::OVER_LIMIT;

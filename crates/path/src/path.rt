@@ -1,4 +1,4 @@
-// Searches in a path that was read: the leaf at a layer and position, and the least level-0 offset that carries an id.
+// Searches in a path that was read (specs/Path.antt): the leaf at a layer and position, and the least level-0 offset that carries an id.
 use super::walk::LeafAnswer;
 use super::walk::Step;
 use super::walk::leaf_at;

@@ -1,4 +1,4 @@
-// The transaction that a TSC proof is of, and the root that it tells.
+// The transaction that a TSC proof is of, and the root that it tells (specs/Subject.antt).
 use format::Subject;
 use format::TscHead;
 use format::hash_at;

@@ -1,4 +1,4 @@
-// Leaves and levels that were read before, without their tests.
+// Leaves and levels that were read before, without their tests (specs/Loose.antt).
 use format::Cursor;
 use format::KindAnswer;
 use format::Layout;

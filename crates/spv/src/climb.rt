@@ -1,4 +1,4 @@
-// The climb of 01, the same for every form.
+// The climb of 01, the same for every form (specs/Climb.antt).
 use super::node::Node;
 use super::node::NodeKind;
 use super::node::written_node;

@@ -1,4 +1,4 @@
-// Comparing two proofs of different numbers of layers, the shorter one with its raw transaction (02, Item 13).
+// Comparing two proofs of different numbers of layers, the shorter one with its raw transaction (02, Item 13; specs/Depth.antt).
 use super::climb::End;
 use super::climb::climb_layers;
 use super::climb::layer_of;

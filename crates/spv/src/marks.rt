@@ -1,4 +1,4 @@
-// Marks at every 64th leaf of the levels whose offsets rise, so that a search need not read a level from its start.
+// Marks at every 64th leaf of the levels whose offsets rise, so that a search need not read a level from its start (specs/Marks.antt).
 use format::Cursor;
 use format::Layout;
 use format::Number;

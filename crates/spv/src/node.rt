@@ -1,4 +1,4 @@
-// The node beside a climb's working hash.
+// The node beside a climb's working hash (specs/Shapes.antt).
 use format::Kind;
 ghost use mathlib.Core.Path.{_≡_};
 ghost use Rattle.spv.specs.Climb.{absent, value};

@@ -1,4 +1,4 @@
-// Proving an id by one proof (01, "The climb").
+// Proving an id by one proof (01, "The climb"; specs/Compare.antt).
 use super::climb::End;
 use super::climb::climb_from;
 use super::rejection::Rejection;

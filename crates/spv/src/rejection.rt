@@ -1,4 +1,4 @@
-// Refusals as calls answer them.
+// Refusals as calls answer them (specs/Result.antt).
 use format::Refusal;
 ghost use mathlib.Core.Path.{_≡_};
 ghost use Rattle.spv.specs.Result.{carrying, refusedReading};

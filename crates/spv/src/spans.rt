@@ -1,4 +1,4 @@
-// The hashes of parts of an input, four at a time.
+// The hashes of parts of an input, four at a time (specs/Spans.antt).
 use format::span_hash;
 use lanes::Nodes;
 ghost use mathlib.Core.Path.{_≡_};

@@ -1,4 +1,4 @@
-// A proof with the siblings that its climb took: what a writer needs to say it in another form.
+// A proof with the siblings that its climb took (specs/Trace.antt): what a writer needs to say it in another form.
 use super::climb::Climbed;
 use super::climb::End;
 use super::climb::StepKind;

@@ -1,4 +1,4 @@
-// Values that can be worked out: a node's value and the join of its two children call each other, one level lower at each turn.
+// Values that can be worked out (specs/Values.antt): a node's value and the join of its two children call each other, one level lower at each turn.
 use super::marks::find_marked;
 use super::marks::mark_at;
 use super::node::Node;

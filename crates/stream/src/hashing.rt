@@ -1,4 +1,4 @@
-// The hash of bytes as they come.
+// The hash of bytes as they come (specs/HashState.antt).
 ghost use mathlib.Core.Path.{_≡_};
 ghost use mathlib.Core.List.{[]};
 ghost use Prim.Native.Nat.{_+_, _-_, _*_, _/_, _%_, _≤_, _<_};

@@ -1,4 +1,4 @@
-// The fields of a raw transaction, byte by byte: which field the next byte belongs to, and what is known by then.
+// The fields of a raw transaction, byte by byte (specs/Progress.antt): which field the next byte belongs to, and what is known by then.
 use format::refusal::BAD_TX;
 use format::refusal::EXTRA;
 use format::refusal::LONG_VARINT;

@@ -1,4 +1,4 @@
-// The state that the caller lends.
+// The state that the caller lends (specs/Lent.antt).
 use super::hashing::Hashing;
 use super::hashing::absorb;
 use super::hashing::finish;
