@@ -11,8 +11,8 @@ use Rattle.format.specs.Tsc.{tscUpTo}
 use Rattle.format.specs.Id.{subjectId}
 use Rattle.format.proofs.MoreLayers.{bump-stays, cmp-stays, tsc-stays}
 use Rattle.path.specs.declared.path.Form.{Form}
-use Rattle.spv.specs.Result.{Result, accepted, refused, afterReading}
-use Rattle.spv.specs.Compare.{any, Reading, read, unread, Proof, Strings, prove, proveBy, compare}
+use Rattle.spv.specs.Result.{Result, accepted, afterReading}
+use Rattle.spv.specs.Compare.{any, Reading, read, Proof, prove, proveBy, compare}
 use Rattle.spv.specs.Siblings.{levelSiblings, nodeSiblings}
 use Rattle.spv.specs.Readings.{readAs, levelsReading, bumpReadingUpTo, cmpReadingUpTo, tscTarget, tscReadingUpTo, readingUpTo}
 use Rattle.spv.specs.Clients.{clients, clientsUpTo}

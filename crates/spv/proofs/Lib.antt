@@ -34,4 +34,5 @@ pub mod HashesLaws
 pub mod SpansLaws
 pub mod TestLaws
 pub mod RowsLaws
+pub mod NeverMissing
 pub mod KeptAnswers
