@@ -9,9 +9,9 @@ use Rattle.hash.specs.declared.Hashed.{Hashed}
 use Rattle.spv.specs.declared.rejection.Rejection.{Rejection}
 use Rattle.climbs.specs.declared.want.Agreement.{Agreement}
 use Rattle.climbs.specs.declared.want.Checked.{Checked}
-use Rattle.spv.specs.declared.comparing.Comparison.{Comparison}
-use Rattle.spv.specs.declared.comparing.Compared.{Compared}
-use Rattle.bundle.specs.declared.judging.Verdict.{Verdict}
+use Rattle.spv.specs.declared.compare.Comparison.{Comparison}
+use Rattle.spv.specs.declared.compare.Compared.{Compared}
+use Rattle.bundle.specs.declared.judge.Verdict.{Verdict}
 use Rattle.block.specs.declared.block.Written.{Written}
 use Rattle.page.specs.declared.Answer.{Answer}
 use Rattle.page.specs.declared.Paged.{Paged}

@@ -4,8 +4,8 @@ use Prim.Native.Nat.{ℕ, _≤_, _<_}
 use mathlib.Core.List.{List}
 use lib.ListN.{length}
 use borrow.Author.Tests.{le-leb, lt-leb}
-use Rattle.format.specs.Parse.{Parse, got, bad, each}
-use Rattle.format.proofs.ParseLaws.{each-got}
+use Rattle.format.specs.Parse.{Parse, ok, fault, each}
+use Rattle.format.proofs.ParseLaws.{each-ok}
 use Rattle.format.specs.Field.{varint}
 use Rattle.format.specs.Refusals.{TOO-LONG, MAX-INPUT}
 use Rattle.spv.specs.declared.rejection.Rejection.{Rejection}
@@ -38,26 +38,26 @@ module _ {A : Type 0} (v : Result A) where
   given-taken f old e = rw e
 
 module _ {A : Type 0} (p : Parse A) where
-  pub reading-got : {a : A} {q : ℕ} → p ≡ got a q → ofReading p ≡ accepted a
+  pub reading-ok : {a : A} {q : ℕ} → p ≡ ok a q → ofReading p ≡ accepted a
   unfolding ofReading
-  reading-got e = rw e
+  reading-ok e = rw e
 
-  pub reading-bad : {n q : ℕ} → p ≡ bad n q → ofReading p ≡ refused (carrying n q)
+  pub reading-fault : {n q : ℕ} → p ≡ fault n q → ofReading p ≡ refused (carrying n q)
   unfolding ofReading
-  reading-bad e = rw e
+  reading-fault e = rw e
 
 -- what is taken of what an answer holds is taken of what was read
-pub given-view : {A B C : Type 0} (f : A → B) (g : B → C) (p : Parse A) {b : B} {q : ℕ} (old : C) → each f p ≡ got b q → g b ≡ taken (λ a. g (f a)) (ofReading p) old
-given-view f g p old e = let x = each-got f p e in rw (← x .2) (given-taken (ofReading p) (λ a. g (f a)) old (reading-got p (x .1)))
+pub given-view : {A B C : Type 0} (f : A → B) (g : B → C) (p : Parse A) {b : B} {q : ℕ} (old : C) → each f p ≡ ok b q → g b ≡ taken (λ a. g (f a)) (ofReading p) old
+given-view f g p old e = let x = each-ok f p e in rw (← x .2) (given-taken (ofReading p) (λ a. g (f a)) old (reading-ok p (x .1)))
 
 module _ (s : List ℕ) where
-  pub first-got : {v q : ℕ} → length s ≤ MAX-INPUT → varint s 0 ≡ got v q → firstVarint s ≡ accepted (v, q)
+  pub first-ok : {v q : ℕ} → length s ≤ MAX-INPUT → varint s 0 ≡ ok v q → firstVarint s ≡ accepted (v, q)
   unfolding firstVarint ofReadingTo
-  first-got h e = rw (le-leb (length s) MAX-INPUT h, e)
+  first-ok h e = rw (le-leb (length s) MAX-INPUT h, e)
 
-  pub first-bad : {n q : ℕ} → length s ≤ MAX-INPUT → varint s 0 ≡ bad n q → firstVarint s ≡ refused (carrying n q)
+  pub first-fault : {n q : ℕ} → length s ≤ MAX-INPUT → varint s 0 ≡ fault n q → firstVarint s ≡ refused (carrying n q)
   unfolding firstVarint ofReadingTo
-  first-bad h e = rw (le-leb (length s) MAX-INPUT h, e)
+  first-fault h e = rw (le-leb (length s) MAX-INPUT h, e)
 
   pub first-too-long : MAX-INPUT < length s → firstVarint s ≡ refused (carrying TOO-LONG 0)
   unfolding firstVarint

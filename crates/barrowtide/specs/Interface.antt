@@ -3,7 +3,7 @@ use Prim.Native.Nat.{ℕ, _+_, _*_}
 use mathlib.Core.List.{List, [], _∷_}
 use lib.Dec.{leb}
 use lib.ListN.{length}
-use Rattle.format.specs.Parse.{Parse, got, bad, pick}
+use Rattle.format.specs.Parse.{Parse, ok, fault, pick}
 use Rattle.format.specs.Field.{varint}
 use Rattle.format.specs.Refusals.{TOO-LONG, MAX-INPUT}
 use Rattle.spv.specs.declared.rejection.Rejection.{Rejection}
@@ -33,12 +33,12 @@ taken f (refused why) old = old
 
 -- What was read, and what was read with the place after it.
 unfoldable pub ofReading : {A : Type 0} → Parse A → Result A
-ofReading (got a next) = accepted a
-ofReading (bad number place) = refused (carrying number place)
+ofReading (ok a next) = accepted a
+ofReading (fault number place) = refused (carrying number place)
 
 unfoldable pub ofReadingTo : {A : Type 0} → Parse A → Result (A × ℕ)
-ofReadingTo (got a next) = accepted (a, next)
-ofReadingTo (bad number place) = refused (carrying number place)
+ofReadingTo (ok a next) = accepted (a, next)
+ofReadingTo (fault number place) = refused (carrying number place)
 
 -- A VarInt at the start of an input of at most the input size, and how many bytes it takes.
 unfoldable pub firstVarint : List ℕ → Result (ℕ × ℕ)

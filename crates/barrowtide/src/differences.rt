@@ -6,8 +6,8 @@ ghost use mathlib.Core.List.{List};
 ghost use lib.ListN.{length};
 ghost use Rattle.spv.specs.Result.{Result};
 ghost use Rattle.difference.specs.Differences.{Difference};
-ghost use Rattle.difference.specs.Listing.{listing, listedOf, wordsIn, roomIn};
-ghost use Rattle.difference.specs.Shorter.{weighing, handed};
+ghost use Rattle.difference.specs.Listing.{listDifferences, listedOf, wordsIn, roomIn};
+ghost use Rattle.difference.specs.Shorter.{shorter, handed};
 ghost use Rattle.barrowtide.specs.Interface as I;
 ghost use Rattle.barrowtide.specs.Choices.{whichOf, whichBy};
 
@@ -38,7 +38,7 @@ pub extern "C" fn barrowtide_differences(
     blame: &mut [u64; 3],
     entries: &mut u64,
 ) -> u32
-    ensures { λ r. ⌜ (let v = listing (now (first .entry)) (now (second .entry)) (roomIn (now (list .entry))) in
+    ensures { λ r. ⌜ (let v = listDifferences (now (first .entry)) (now (second .entry)) (roomIn (now (list .entry))) in
         (r ≡ I.refusal v)
         × (now (list .exit) ≡ wordsIn v (now (list .entry)))
         × (now (blame .exit) ≡ I.blame v (now (blame .entry)))
@@ -70,14 +70,14 @@ pub extern "C" fn barrowtide_shorter<'a>(
     chosen: &mut u64,
     part: &mut u64,
 ) -> u32
-    ensures { λ r. ⌜ (let v = weighing (now (first .entry)) (now (second .entry)) (now (id .entry)) in
+    ensures { λ r. ⌜ (let v = shorter (now (first .entry)) (now (second .entry)) (now (id .entry)) in
         (r ≡ I.refusal v)
         × (now (blame .exit) ≡ I.blame v (now (blame .entry)))
         × (now (chosen .exit) ≡ whichOf v)
         × (now (part .exit) ≡ length (handed v (first .entry) (second .entry) .1))) ⌝ }
 {
     let mut why = [0u64; 4];
-    let handed = difference::shorter(first, second, *id, &mut why);
+    let handed = difference::shorter_proof(first, second, *id, &mut why);
     let size = handed.len();
     *chosen = which(size, first.len());
     *part = size as u64;

@@ -7,7 +7,7 @@ ghost use mathlib.Core.Path.{_≡_};
 ghost use mathlib.Core.List.{List};
 ghost use Prim.Native.Nat.{ℕ};
 ghost use lib.ListN.{length};
-ghost use Rattle.format.specs.Parse.{got};
+ghost use Rattle.format.specs.Parse.{ok};
 ghost use Rattle.format.specs.Bump.{Bump, bumpWhole};
 ghost use Rattle.encoding.specs.BumpBytes.{Content};
 ghost use Rattle.spv.specs.Result.{Result};
@@ -71,7 +71,7 @@ pub extern "C" fn barrowtide_search_leaves(
     offset: u64,
     place: &mut u64,
 ) -> u32
-    ensures { λ r. ⌜ ((s : List ℕ) (b : Bump) (q : ℕ) → bumpWhole s ≡ got b q → now (list .entry) ≡ wordsOf (leafList s b) →
+    ensures { λ r. ⌜ ((s : List ℕ) (b : Bump) (q : ℕ) → bumpWhole s ≡ ok b q → now (list .entry) ≡ wordsOf (leafList s b) →
         (r ≡ foundOf (placeIn s b level offset)) × (now (place .exit) ≡ placeAfter (placeIn s b level offset) (now (place .entry)))) ⌝ }
 {
     let found = leaflist::search(list, level, offset);

@@ -1,4 +1,4 @@
-// Proving an id, the all-clients check, and comparing two proofs, of one number of layers or of two (spv/specs/Compare.antt, Clients.antt, Depth.antt).
+// Proving an id, the all-clients check, and comparing two proofs, of one number of layers or of two (spv/specs/Prove.antt, Compare.antt, Clients.antt, Depth.antt).
 use super::blame::blame_of;
 use climbs::Agreement;
 use path::Form;
@@ -8,7 +8,7 @@ use spv::Outcome;
 use spv::Proved;
 ghost use mathlib.Core.Path.{_≡_};
 ghost use Rattle.spv.specs.Result.{Result};
-ghost use Rattle.spv.specs.Compare.{Proof, prove, compare};
+ghost use Rattle.spv.specs.Compare.{compare};
 ghost use Rattle.spv.specs.Depth.{depth, secondOf};
 ghost use Rattle.spv.specs.Readings.{bumpReading, cmpReading, tscReading, reading};
 ghost use Rattle.spv.specs.Clients.{bumpClients};
@@ -16,6 +16,7 @@ ghost use Rattle.spv.specs.Shapes.{provedOf};
 ghost use Rattle.barrowtide.specs.Interface as I;
 ghost use Rattle.barrowtide.specs.Depths.{isTransaction, firstString};
 ghost use Rattle.barrowtide.specs.Forms.{formOf};
+ghost use Rattle.spv.specs.Prove.{Proof, prove};
 
 // Gives what a proof proves to the memory lent for it.
 fn give(
@@ -185,7 +186,7 @@ pub extern "C" fn barrowtide_compare(
         × (now («first_string» .exit) ≡ I.taken (λ x. x .first) v (now («first_string» .entry)))
         × (now («second_string» .exit) ≡ I.taken (λ x. x .second) v (now («second_string» .entry)))) ⌝ }
 {
-    let compared = spv::compare(
+    let compared = spv::compare_proofs(
         first,
         form_of(first_form),
         *first_id,

@@ -9,17 +9,17 @@ use lib.ListN.{length, getD, take}
 use mir.Syntax.{w8}
 use mir.Val.{Fits}
 use Rattle.path.specs.declared.path.Found.the-variants.{Missing}
-use Rattle.format.specs.Parse.{got}
+use Rattle.format.specs.Parse.{ok}
 use Rattle.format.specs.Level.{holds}
 use Rattle.format.specs.Bump.{Bump, bumpWhole}
 use Rattle.path.specs.Search.{lookup}
 use Rattle.spv.specs.declared.prove.Proved.{Proved}
 use Rattle.spv.specs.Hashes.{hashesOf}
 use Rattle.spv.specs.Result.{accepted}
-use Rattle.spv.specs.Compare.{prove}
+use Rattle.spv.specs.Prove.{prove}
 use Rattle.spv.specs.Readings.{bumpReading}
 use Rattle.spv.specs.Shapes.{acceptedOf, provedOf}
-use Rattle.encoding.specs.Spells.{AllBytes}
+use Rattle.encoding.specs.Encode.{AllBytes}
 use Rattle.block.specs.declared.block.Written.{Written}
 use Rattle.block.specs.declared.block.Written.the-variants.{Bytes}
 use Rattle.block.specs.Tree.{node, height, root}
@@ -58,6 +58,6 @@ module _ {block : ℕ} {ids chosen out left : List ℕ} {n : ℕ} (c : Call bloc
   answered-proves i m x e = e ∙ ap provedOf (written-proves block ids chosen (length out) (take n left) wrote bytes i m)
 
   -- a sibling needed is left out exactly when it lies above level 0 and over a chosen position
-  pub answered-left-out : (b : Bump) (end : ℕ) → bumpWhole (take n left) ≡ got b end → (k o : ℕ) → k < b .height → Needed chosen k o
+  pub answered-left-out : (b : Bump) (end : ℕ) → bumpWhole (take n left) ≡ ok b end → (k o : ℕ) → k < b .height → Needed chosen k o
       → (lookup o (getD (b .levels) k []) ≡ Missing) ↔ ((0 < k) × OverChosen chosen k o)
   answered-left-out = left-out-exactly block ids chosen (length out) (take n left) wrote bytes

@@ -16,7 +16,7 @@ use Rattle.format.proofs.LevelLaws.{holds-snoc}
 use Rattle.format.specs.Refusals.{MAX-BLOCK}
 use Rattle.spv.specs.Climb.{siblingPosition}
 use Rattle.spv.proofs.ClimbLaws.{sibling-even}
-use Rattle.encoding.specs.Spells.{Fits}
+use Rattle.encoding.specs.Encode.{Fits}
 use Rattle.encoding.specs.BumpBytes.{Carried, plain, copy, client, CarriedFit, EntryFit, andEntry, LevelFit, nextLevel, ContentFit}
 use Rattle.block.specs.Tree.{size, node, height}
 use Rattle.block.proofs.TreeLaws.{height-holds, height-least, stays, Hashes, layer-hashes}

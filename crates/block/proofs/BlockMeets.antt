@@ -10,7 +10,7 @@ use native.Mathlib.Omega.{arith}
 use native.Mathlib.Nat.{zero-add, add-zero}
 use borrow.Author.Tests.{eqb-true, eqb-false}
 use Rattle.format.specs.declared.level.Leaf.{Leaf}
-use Rattle.format.specs.Parse.{got}
+use Rattle.format.specs.Parse.{ok}
 use Rattle.path.specs.Search.{lookup}
 use Rattle.format.specs.Bump.{Bump, bumpWhole}
 use Rattle.encoding.specs.BumpBytes.{Carried, Content, bumpBytes, entryOf, contentOf}
@@ -64,7 +64,7 @@ level-of ids chosen h (suc n) k (suc j) b = level-of ids chosen h n (k + 1) j (o
 pub record ReadBack (block : ℕ) (ids : List (List ℕ)) (chosen s : List ℕ) : Type 0 where
   pub bump : Bump
   pub end : ℕ
-  pub read : bumpWhole s ≡ got bump end
+  pub read : bumpWhole s ≡ ok bump end
   pub says : contentOf s bump ≡ blockBump block ids chosen
 
 pub read-back : {block : ℕ} {ids : List (List ℕ)} {chosen : List ℕ} → Sizes block ids chosen → ReadBack block ids chosen (bumpBytes (blockBump block ids chosen))

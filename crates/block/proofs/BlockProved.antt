@@ -25,7 +25,6 @@ use Rattle.spv.specs.Hashes.{among}
 use Rattle.spv.specs.Climb.{Siblings, siblingPosition, siblingPositions}
 use Rattle.spv.proofs.ClimbLaws.{ascend-agree}
 use Rattle.spv.specs.Result.{accepted}
-use Rattle.spv.specs.Compare.{any, read, hits, proofOf, prove}
 use Rattle.spv.proofs.CompareLaws.{prove-climb, prove-root}
 use Rattle.spv.specs.Siblings.{levelSiblings}
 use Rattle.spv.specs.Readings.{starting, levelsReading, bumpReading}
@@ -40,6 +39,7 @@ use Rattle.block.proofs.RisingLaws.{rising-none, rising-some}
 use Rattle.block.proofs.BlockFit.{Sizes, high, under-chosen, under-size, Asking, as-client, as-sibling, asked-told}
 use Rattle.block.proofs.BlockMeets.{ReadBack, height-back, level-back}
 use Rattle.block.proofs.BlockValues.{sibling-twice, needed-value}
+use Rattle.spv.specs.Prove.{hits, proofOf, prove, any, read}
 
 -- ---- siblings
 

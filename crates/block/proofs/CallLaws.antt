@@ -10,7 +10,7 @@ use borrow.Author.Tests.{le-leb, lt-leb, leb-true, eq-eqb, ne-eqb}
 use Rattle.format.proofs.Basics.{and-true}
 use Rattle.encoding.specs.Buffer.{Buffer, buffer, putOn, writeOn}
 use Rattle.encoding.specs.Digits.{varintBytes}
-use Rattle.encoding.specs.Spells.{spells}
+use Rattle.encoding.specs.Encode.{encodeAll}
 use Rattle.encoding.specs.BumpBytes.{levelBytes, bumpBytes}
 use Rattle.format.specs.Refusals.{OVER-LIMIT, NOT-LISTED, BAD-OFFSET, SAME-TX, NO-ROOM, MAX-BLOCK}
 use Rattle.spv.specs.declared.rejection.Rejection.{Rejection}
@@ -97,20 +97,20 @@ module _ (block : ℕ) (list chosen : List ℕ) (room : ℕ) where
 
 -- the bytes of the BUMP, as the code counts and writes them
 module _ (block : ℕ) (list chosen : List ℕ) (h : ℕ) (least : h ≡ heightFor (length list / 32)) where
-  text-is : bumpBytes (blockBump block (hashesOf list) chosen) ≡ varintBytes block ++ (h ∷ spells levelBytes (levelsFor (hashesOf list) chosen h 0 h))
+  text-is : bumpBytes (blockBump block (hashesOf list) chosen) ≡ varintBytes block ++ (h ∷ encodeAll levelBytes (levelsFor (hashesOf list) chosen h 0 h))
   unfolding bumpBytes blockBump hashesOf
   text-is =
       let e : heightFor (length (hashesOf list)) ≡ h = ap heightFor (hashes-length (length list / 32) list) ∙ sym least in
-      ap (λ (x : ℕ). varintBytes block ++ (x ∷ spells levelBytes (levelsFor (hashesOf list) chosen x 0 x))) e
+      ap (λ (x : ℕ). varintBytes block ++ (x ∷ encodeAll levelBytes (levelsFor (hashesOf list) chosen x 0 x))) e
 
-  pub size-is : (a b : ℕ) → a ≡ length (varintBytes block) → b ≡ length (spells levelBytes (levelsFor (hashesOf list) chosen h 0 h)) → a + 1 + b ≡ length (bumpBytes (blockBump block (hashesOf list) chosen))
+  pub size-is : (a b : ℕ) → a ≡ length (varintBytes block) → b ≡ length (encodeAll levelBytes (levelsFor (hashesOf list) chosen h 0 h)) → a + 1 + b ≡ length (bumpBytes (blockBump block (hashesOf list) chosen))
   size-is a b e f =
-      let g = length-append (varintBytes block) (h ∷ spells levelBytes (levelsFor (hashesOf list) chosen h 0 h)) in
+      let g = length-append (varintBytes block) (h ∷ encodeAll levelBytes (levelsFor (hashesOf list) chosen h 0 h)) in
       let i = ap length text-is in
       omega arith
 
   pub wrote-all : (out : List ℕ) {p q : Buffer} {out′ : List ℕ} {next : ℕ} → p ≡ writeOn (buffer out 0) (varintBytes block) → q ≡ putOn p h
-      → buffer out′ next ≡ writeOn q (spells levelBytes (levelsFor (hashesOf list) chosen h 0 h)) → buffer out′ next ≡ writeOn (buffer out 0) (bumpBytes (blockBump block (hashesOf list) chosen))
+      → buffer out′ next ≡ writeOn q (encodeAll levelBytes (levelsFor (hashesOf list) chosen h 0 h)) → buffer out′ next ≡ writeOn (buffer out 0) (bumpBytes (blockBump block (hashesOf list) chosen))
   wrote-all out e f g = wrote-hashed (buffer out 0) block h refl e f g ∙ ap (writeOn (buffer out 0)) (sym text-is)
 
 -- ---- what the code knows on its way

@@ -9,7 +9,7 @@ use Rattle.format.proofs.BytesLaws.{same-refl}
 use Rattle.spv.specs.Result.{accepted, refused, carrying, atSibling}
 use Rattle.spv.specs.Climb.{siblingPosition, joined, step, ascendBy, endBy}
 use Rattle.spv.specs.Hashes.{hashes, hashesOf, among}
-use Rattle.encoding.specs.Spells.{spells}
+use Rattle.encoding.specs.Encode.{encodeAll}
 use Rattle.encoding.specs.Digits.{little, varintBytes}
 use Rattle.encoding.specs.BumpBytes.{Carried, plain, copy, client, Entry, carriedBytes, entryBytes, levelBytes, bumpBytes}
 use Rattle.block.specs.Tree.{above, layer, leastFrom, heightFor, treeSiblings, treeClimb}
@@ -50,11 +50,11 @@ unfolding writing sized noneChosen allBelow distinct hashesOf hashes among same
 ex6 = refl
 
 ex7 : writing 1 (aa ++ bb) (1 ∷ []) 70 ≡ refused (carrying 22 0)
-unfolding writing sized noneChosen allBelow distinct hashesOf hashes among same climbsFrom treeClimb treeSiblings layer heightFor leastFrom ascendBy endBy step joined siblingPosition blockBump levelsFor rising asked under leftOut siblingAt bumpBytes levelBytes entryBytes carriedBytes spells varintBytes little roomFor
+unfolding writing sized noneChosen allBelow distinct hashesOf hashes among same climbsFrom treeClimb treeSiblings layer heightFor leastFrom ascendBy endBy step joined siblingPosition blockBump levelsFor rising asked under leftOut siblingAt bumpBytes levelBytes entryBytes carriedBytes encodeAll varintBytes little roomFor
 ex7 = refl
 
 ex8 : writing 1 (aa ++ bb) (1 ∷ 1 ∷ []) 71 ≡ accepted (0x01 ∷ 0x01 ∷ 0x02 ∷ 0x00 ∷ 0x00 ∷ aa ++ (0x01 ∷ 0x02 ∷ bb))
-unfolding writing sized noneChosen allBelow distinct hashesOf hashes among same climbsFrom treeClimb treeSiblings layer heightFor leastFrom ascendBy endBy step joined siblingPosition blockBump levelsFor rising asked under leftOut siblingAt bumpBytes levelBytes entryBytes carriedBytes spells varintBytes little roomFor
+unfolding writing sized noneChosen allBelow distinct hashesOf hashes among same climbsFrom treeClimb treeSiblings layer heightFor leastFrom ascendBy endBy step joined siblingPosition blockBump levelsFor rising asked under leftOut siblingAt bumpBytes levelBytes entryBytes carriedBytes encodeAll varintBytes little roomFor
 ex8 = refl
 
 -- sha256d stays shut below: a node is what it is made of
@@ -62,11 +62,11 @@ abbrev three : List (List ℕ)
 three = aa ∷ bb ∷ cd ∷ []
 
 ex9 : bumpBytes (blockBump 0 three (2 ∷ [])) ≡ 0x00 ∷ 0x02 ∷ 0x02 ∷ 0x02 ∷ 0x02 ∷ cd ++ (0x03 ∷ 0x01 ∷ 0x01 ∷ 0x00 ∷ 0x00 ∷ sha256d (aa ++ bb))
-unfolding above layer heightFor leastFrom siblingPosition blockBump levelsFor rising asked under leftOut siblingAt bumpBytes levelBytes entryBytes carriedBytes spells varintBytes little
+unfolding above layer heightFor leastFrom siblingPosition blockBump levelsFor rising asked under leftOut siblingAt bumpBytes levelBytes entryBytes carriedBytes encodeAll varintBytes little
 ex9 = simp append-nil
 
 ex10 : bumpBytes (blockBump 0 three (0 ∷ [])) ≡ 0x00 ∷ 0x02 ∷ 0x02 ∷ 0x00 ∷ 0x02 ∷ aa ++ (0x01 ∷ 0x00 ∷ bb) ++ (0x01 ∷ 0x01 ∷ 0x00 ∷ sha256d (cd ++ cd))
-unfolding above layer heightFor leastFrom siblingPosition blockBump levelsFor rising asked under leftOut siblingAt bumpBytes levelBytes entryBytes carriedBytes spells varintBytes little
+unfolding above layer heightFor leastFrom siblingPosition blockBump levelsFor rising asked under leftOut siblingAt bumpBytes levelBytes entryBytes carriedBytes encodeAll varintBytes little
 ex10 = simp append-nil
 
 abbrev leaf : ℕ → Carried → Entry

@@ -13,13 +13,13 @@ use borrow.Author.Tests.{lt-ltb, le-ltb, ltb-true, eqb-true, eqb-false}
 use Rattle.format.proofs.Basics.{and-false, one-less}
 use Rattle.format.specs.Bytes.{same, hashAt}
 use Rattle.format.proofs.BytesLaws.{ne-same, hash-there}
-use Rattle.encoding.proofs.Spelling.{part-bytes}
+use Rattle.encoding.proofs.Encoding.{part-bytes}
 use Rattle.spv.specs.Hashes.{hashes, hashesOf, searching}
 use Rattle.spv.proofs.HashesLaws.{hashes-length, hashes-at, search-here, search-on, search-end}
 use Rattle.block.proofs.TreeLaws.{Hashes}
 use Rattle.block.specs.BlockBump.{allBelow, distinct}
 use Rattle.block.specs.Ids.{idAt, slotAt}
-use Rattle.encoding.specs.Spells.{AllBytes}
+use Rattle.encoding.specs.Encode.{AllBytes}
 
 pub ids-hashes : (l : List ℕ) → AllBytes l → Hashes (hashesOf l)
 unfolding hashesOf Hashes

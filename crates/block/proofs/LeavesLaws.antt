@@ -14,7 +14,7 @@ use Rattle.block.specs.declared.level.Asked.{Asked}
 use Rattle.block.specs.declared.level.Asked.the-variants.{Nothing, Plain, Copy, Client}
 use Rattle.format.proofs.Basics.{one-less}
 use Rattle.encoding.specs.Digits.{varintBytes}
-use Rattle.encoding.proofs.VarintSpelling.{varint-length}
+use Rattle.encoding.proofs.VarintEncoding.{varint-length}
 use Rattle.encoding.specs.Buffer.{Buffer, putOn, writeOn}
 use Rattle.encoding.proofs.BufferLaws.{write-then, write-none, write-one, write-cons, wrote-then}
 use Rattle.block.specs.Heap.{nodeIn}

@@ -14,14 +14,14 @@ use native.Mathlib.Numerals.{add-one}
 use borrow.Author.Tests.{eqb-true, eqb-false}
 use Rattle.path.specs.declared.path.Found.{Found}
 use Rattle.path.specs.declared.path.Found.the-variants.{Here, Missing}
-use Rattle.format.specs.Parse.{got}
+use Rattle.format.specs.Parse.{ok}
 use Rattle.format.specs.Level.{holds}
 use Rattle.format.specs.Bump.{Bump, bumpWhole}
 use Rattle.path.specs.Search.{lookup}
 use Rattle.spv.specs.Climb.{siblingPosition}
 use Rattle.spv.specs.Hashes.{hashesOf}
 use Rattle.spv.specs.Result.{accepted}
-use Rattle.encoding.specs.Spells.{AllBytes}
+use Rattle.encoding.specs.Encode.{AllBytes}
 use Rattle.encoding.specs.BumpBytes.{Carried, client}
 use Rattle.block.specs.Tree.{node, height}
 use Rattle.block.specs.BlockBump.{under, siblingAt, asked, foundAs, writing, Meets}
@@ -108,7 +108,7 @@ asked-none ids chosen k o v = (out k v (under chosen k o) refl, λ x. over k (x 
 
 module _ (block : ℕ) (list chosen : List ℕ) (room : ℕ) (bytes : List ℕ) (call : writing block list chosen room ≡ accepted bytes) (all : AllBytes list) where
   -- the BUMP that was written has no leaf at a needed sibling's place exactly when that lies above level 0 and over a chosen position
-  pub left-out-exactly : (b : Bump) (end : ℕ) → bumpWhole bytes ≡ got b end → (k o : ℕ) → k < b .height → Needed chosen k o
+  pub left-out-exactly : (b : Bump) (end : ℕ) → bumpWhole bytes ≡ ok b end → (k o : ℕ) → k < b .height → Needed chosen k o
       → (lookup o (getD (b .levels) k []) ≡ Missing) ↔ ((0 < k) × OverChosen chosen k o)
   left-out-exactly b end e k o low n = (
     (λ h. let x = asked-none ids chosen k o needed .0 (sym leaf ∙ found-none bytes _ h) in (x .0, over-exactly chosen k o .0 (x .1))),

@@ -13,7 +13,7 @@ use Rattle.spv.specs.Climb.{siblingPosition}
 use Rattle.spv.specs.Hashes.{hashesOf}
 use Rattle.block.specs.declared.level.Asked.{Asked}
 use Rattle.block.specs.declared.level.Asked.the-variants.{Nothing, Plain, Copy, Client}
-use Rattle.encoding.specs.Spells.{spells}
+use Rattle.encoding.specs.Encode.{encodeAll}
 use Rattle.encoding.specs.Digits.{varintBytes}
 use Rattle.encoding.specs.BumpBytes.{Carried, plain, copy, client, carriedBytes, entryBytes, levelBytes}
 use Rattle.block.specs.Tree.{layer, size, node}
@@ -36,13 +36,13 @@ unfoldable pub askedText : ℕ → Option Carried → List ℕ
 askedText o none = []
 askedText o (some c) = varintBytes o ++ carriedBytes c
 
-pub level-text : (f : ℕ → Option Carried) (g : ℕ → List ℕ) (n o : ℕ) → ((x : ℕ) → o ≤ x → x < o + n → g x ≡ askedText x (f x)) → textFrom g o n ≡ spells entryBytes (rising f o n)
-unfolding textFrom rising spells askedText entryBytes
+pub level-text : (f : ℕ → Option Carried) (g : ℕ → List ℕ) (n o : ℕ) → ((x : ℕ) → o ≤ x → x < o + n → g x ≡ askedText x (f x)) → textFrom g o n ≡ encodeAll entryBytes (rising f o n)
+unfolding textFrom rising encodeAll askedText entryBytes
 level-text f g zero o e = refl
 level-text f g (suc n) o e = go (f o) refl (e o (omega arith) (omega arith)) (level-text f g n (o + 1) (λ x a b. e x (omega arith) (omega arith)))
   where
-    go : (v : Option Carried) → f o ≡ v → g o ≡ askedText o (f o) → textFrom g (o + 1) n ≡ spells entryBytes (rising f (o + 1) n)
-        → g o ++ textFrom g (o + 1) n ≡ spells entryBytes (rising f o (suc n))
+    go : (v : Option Carried) → f o ≡ v → g o ≡ askedText o (f o) → textFrom g (o + 1) n ≡ encodeAll entryBytes (rising f (o + 1) n)
+        → g o ++ textFrom g (o + 1) n ≡ encodeAll entryBytes (rising f o (suc n))
     go none q h r = rw (rising-none f o n q) (ap₂ (λ (x y : List ℕ). x ++ y) (h ∙ ap (askedText o) q) r)
     go (some c) q h r = rw (rising-some f o n c q) (ap₂ (λ (x y : List ℕ). x ++ y) (h ∙ ap (askedText o) q) r)
 
@@ -134,13 +134,13 @@ ready list heap marks chosen h b n m = record { below = below-ids list chosen b;
 
 -- the bytes of the levels from k on
 abbrev pub rest : List ℕ → List ℕ → ℕ → ℕ → List ℕ
-rest list chosen h k = spells levelBytes (levelsFor (hashesOf list) chosen h k (h - k))
+rest list chosen h k = encodeAll levelBytes (levelsFor (hashesOf list) chosen h k (h - k))
 
-pub rest-all : (list chosen : List ℕ) (h : ℕ) → spells levelBytes (levelsFor (hashesOf list) chosen h 0 h) ≡ rest list chosen h 0
-rest-all list chosen h = ap (λ (n : ℕ). spells levelBytes (levelsFor (hashesOf list) chosen h 0 n)) (sym (sub-zero h))
+pub rest-all : (list chosen : List ℕ) (h : ℕ) → encodeAll levelBytes (levelsFor (hashesOf list) chosen h 0 h) ≡ rest list chosen h 0
+rest-all list chosen h = ap (λ (n : ℕ). encodeAll levelBytes (levelsFor (hashesOf list) chosen h 0 n)) (sym (sub-zero h))
 
 pub rest-none : (list chosen : List ℕ) (h k : ℕ) → h ≤ k → rest list chosen h k ≡ []
-unfolding levelsFor spells
+unfolding levelsFor encodeAll
 rest-none list chosen h k l = let z : h - k ≡ 0 = omega arith in rw z
 
 pub count-start : (list : List ℕ) (n : ℕ) → n ≡ length list / 32 → n ≡ size (hashesOf list) 0
@@ -152,7 +152,7 @@ count-on list k count e = let s = size-suc (hashesOf list) k in rw (add-one k) (
 
 pub rest-on : {list heap marks chosen : List ℕ} {h n : ℕ} → Ready list heap marks chosen h n → (k width count : ℕ) → Level h k width → k < h → count ≡ size (hashesOf list) k
     → rest list chosen h k ≡ levelText list heap marks (eqb k 0) width count ++ rest list chosen h (k + 1)
-unfolding levelsFor spells
+unfolding levelsFor encodeAll
 rest-on {list} {heap} {marks} {chosen} {h} r k width count b more e =
     let one : h - k ≡ suc (h - (k + 1)) = omega (arith, add-one (h - (k + 1))) in
     rw (one, b .wide, e) (ap (λ (x : List ℕ). x ++ rest list chosen h (k + 1)) (sym (level-is list chosen (r .below) heap marks h k more (r .nodes k (omega arith)) (r .climbs))))
@@ -173,10 +173,10 @@ module _ {list heap marks chosen : List ℕ} {h n : ℕ} (r : Ready list heap ma
       omega arith
 
 module _ (list chosen : List ℕ) (h k : ℕ) (end : h ≤ k) where
-  pub written-end : (p : Buffer) {q : Buffer} → writeOn p (rest list chosen h 0) ≡ writeOn q (rest list chosen h k) → q ≡ writeOn p (spells levelBytes (levelsFor (hashesOf list) chosen h 0 h))
+  pub written-end : (p : Buffer) {q : Buffer} → writeOn p (rest list chosen h 0) ≡ writeOn q (rest list chosen h k) → q ≡ writeOn p (encodeAll levelBytes (levelsFor (hashesOf list) chosen h 0 h))
   written-end p {q} e = sym (ap (writeOn p) (rest-all list chosen h) ∙ e ∙ ap (writeOn q) (rest-none list chosen h k end) ∙ write-none q)
 
-  pub sized-end : (total : ℕ) → total + length (rest list chosen h k) ≡ length (rest list chosen h 0) → total ≡ length (spells levelBytes (levelsFor (hashesOf list) chosen h 0 h))
+  pub sized-end : (total : ℕ) → total + length (rest list chosen h k) ≡ length (rest list chosen h 0) → total ≡ length (encodeAll levelBytes (levelsFor (hashesOf list) chosen h 0 h))
   sized-end total e =
       let z = ap length (rest-none list chosen h k end) in
       let a = ap length (rest-all list chosen h) in

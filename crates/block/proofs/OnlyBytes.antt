@@ -5,7 +5,7 @@ use Prim.Native.Nat.{ℕ, zero, suc, _+_, _-_, _^_, _<_}
 use lib.ListN.{length, getD, List·getD-map}
 use native.Mathlib.Omega.{arith}
 use native.Mathlib.Nat.{zero-add, add-zero}
-use Rattle.encoding.specs.Spells.{AllBytes, Fits}
+use Rattle.encoding.specs.Encode.{AllBytes, Fits}
 use Rattle.encoding.specs.BumpBytes.{Entry, bumpBytes, entryOf, levelsOf, contentOf, LevelFit, nextLevel, ContentFit}
 use Rattle.encoding.proofs.BumpRoundTrip.{bump-written}
 use Rattle.block.specs.Tree.{height}

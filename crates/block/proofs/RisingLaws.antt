@@ -10,7 +10,7 @@ use borrow.Author.Tests.{eqb-true, eqb-false, eq-eqb, ne-eqb}
 use Rattle.format.specs.declared.level.Leaf.{Leaf}
 use Rattle.format.specs.Parse.{pick}
 use Rattle.path.specs.Search.{lookup}
-use Rattle.encoding.specs.Spells.{Fits}
+use Rattle.encoding.specs.Encode.{Fits}
 use Rattle.encoding.specs.BumpBytes.{Carried, Entry, entryOf, EntryFit, andEntry}
 use Rattle.block.specs.BlockBump.{rising, foundAs, Rising}
 

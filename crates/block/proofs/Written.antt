@@ -15,9 +15,9 @@ use Rattle.format.specs.Refusals.{NOT-LISTED, MAX-BLOCK}
 use Rattle.spv.specs.declared.rejection.Rejection.{Rejection}
 use Rattle.spv.specs.Result.{Result, accepted, refused, carrying, follow}
 use Rattle.spv.specs.Hashes.{hashes, hashesOf}
-use Rattle.spv.specs.Compare.{proofOf, prove}
+use Rattle.spv.specs.Prove.{proofOf, prove}
 use Rattle.spv.specs.Readings.{bumpReading}
-use Rattle.encoding.specs.Spells.{AllBytes}
+use Rattle.encoding.specs.Encode.{AllBytes}
 use Rattle.encoding.specs.BumpBytes.{bumpBytes}
 use Rattle.block.specs.Tree.{node, height, root, treeSiblings, treeClimb, reaches}
 use Rattle.block.specs.BlockBump.{blockBump, sized, noneChosen, allBelow, distinct, climbsFrom, writing, Meets}

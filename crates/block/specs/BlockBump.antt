@@ -9,7 +9,7 @@ use lib.Dec.{ltb, leb, eqb}
 use Rattle.format.specs.declared.level.Leaf.{Leaf}
 use Rattle.path.specs.declared.path.Found.{Found}
 use Rattle.path.specs.declared.path.Found.the-variants.{Here, Missing}
-use Rattle.format.specs.Parse.{pick, got}
+use Rattle.format.specs.Parse.{pick, ok}
 use Rattle.format.specs.Level.{holds}
 use Rattle.path.specs.Search.{lookup}
 use Rattle.format.specs.Bump.{Bump, bumpWhole}
@@ -121,7 +121,7 @@ Rising (a ∷ (b ∷ l)) = (a .offset < b .offset) × Rising (b ∷ l)
 pub record Meets (block : ℕ) (ids : List (List ℕ)) (chosen : List ℕ) (s : List ℕ) : Type 0 where
   pub bump : Bump
   pub end : ℕ
-  pub read : bumpWhole s ≡ got bump end
+  pub read : bumpWhole s ≡ ok bump end
   pub of-block : bump .block ≡ block
   pub holds-list : length ids ≤ 2 ^ bump .height
   pub least : (h : ℕ) → length ids ≤ 2 ^ h → bump .height ≤ h

@@ -11,7 +11,7 @@ ghost use Prim.Native.Nat.{ℕ, _+_, _%_, _^_, _<_, _≤_};
 ghost use lib.ListN.{length};
 ghost use Rattle.encoding.specs.Buffer.{buffer, writeOn};
 ghost use Rattle.encoding.specs.Digits.{varintBytes};
-ghost use Rattle.encoding.specs.Spells.{spells};
+ghost use Rattle.encoding.specs.Encode.{encodeAll};
 ghost use Rattle.encoding.specs.BumpBytes.{levelBytes};
 ghost use Rattle.spv.specs.Hashes.{hashesOf};
 ghost use Rattle.block.specs.BlockBump.{levelsFor};
@@ -200,7 +200,7 @@ pub(crate) fn write_levels(
 ) -> usize
     requires { ⌜ (height ≤ 10) × (top ≡ 2 ^ height) × (n ≤ 1024) × (length (now marks) ≡ 2048) ⌝ }
     ensures { λ r. ⌜ ((chosen : List ℕ) → Ready (now (ids .entry)) (now (heap .entry)) (now (marks .entry)) chosen height n
-        → buffer (now (out .exit)) r ≡ writeOn (buffer (now (out .entry)) at) (spells levelBytes (levelsFor (hashesOf (now (ids .entry))) chosen height 0 height))) ⌝ }
+        → buffer (now (out .exit)) r ≡ writeOn (buffer (now (out .entry)) at) (encodeAll levelBytes (levelsFor (hashesOf (now (ids .entry))) chosen height 0 height))) ⌝ }
 {
     let mut next = at;
     let mut width = top;
@@ -219,7 +219,7 @@ pub(crate) fn write_levels(
 pub(crate) fn levels_size(marks: &[u8], height: usize, n: usize, top: usize) -> usize
     requires { ⌜ (height ≤ 10) × (top ≡ 2 ^ height) × (n ≤ 1024) × (length (now marks) ≡ 2048) ⌝ }
     ensures { λ r. ⌜ (r ≤ 430170) × ((list heap chosen : List ℕ) → Ready list heap (now (marks .entry)) chosen height n
-        → r ≡ length (spells levelBytes (levelsFor (hashesOf list) chosen height 0 height))) ⌝ }
+        → r ≡ length (encodeAll levelBytes (levelsFor (hashesOf list) chosen height 0 height))) ⌝ }
 {
     let mut size: usize = 0;
     let mut width = top;

@@ -10,7 +10,7 @@ use lib.Dec.{leb, eqb}
 use lib.ListN.{length, getD, length-map}
 use lib.Seq.{ext-getD}
 use borrow.Author.Tests.{leb-true, eqb-true, le-leb, eq-eqb}
-use Rattle.format.specs.Parse.{Parse, got, bad, pick, whole}
+use Rattle.format.specs.Parse.{Parse, ok, fault, pick, whole}
 use Rattle.format.specs.Field.{bytes}
 use Rattle.format.specs.Beef.{Beef, versionField, beefUpTo, beefWhole}
 use Rattle.format.proofs.BeefLaws.{beef-told}
@@ -18,14 +18,14 @@ use Rattle.format.proofs.TransactionLaws.{tx-told}
 use Rattle.format.specs.Refusals.{TOO-LONG, BAD-ROOTS, MAX-INPUT}
 use Rattle.bundle.specs.declared.table.Record.{Record}
 use Rattle.spv.specs.Result.{accepted, refused, carrying}
-use Rattle.spv.specs.Compare.{Proof}
+use Rattle.spv.specs.Prove.{Proof}
 use Rattle.bundle.specs.Table.{blankRecord}
 use Rattle.bundle.specs.Amounts.{Payment, paymentOf, isAnchored, spends, anchoredTotal, unspentTotal, lefts}
 use Rattle.bundle.proofs.AmountLaws.{noOutpoint}
 use Rattle.bundle.proofs.AmountTheorems.{Paid, Leaves, balance, difference, differences-leave, difference-more, spent-once, spent-earlier}
 use Rattle.bundle.proofs.AmountsExactly.{Pays, paid-exactly}
 use Rattle.spv.proofs.RowsLaws.{map-at}
-use Rattle.bundle.specs.Bundle.{proving, nthBump, standing, entryRow, judgeEntries, judgeRead, judgeBeef, judgeUpTo}
+use Rattle.bundle.specs.Bundle.{proving, nthBump, ruling, entryRow, judgeEntries, judgeRead, judgeBeef, judgeUpTo}
 use Rattle.bundle.proofs.BundleLaws.{accepted-length}
 use Rattle.bundle.proofs.BundleTheorems.{emptyEntry, nth, idAt, inputsAt, New, Mined, Child, Stands, payments, Recorded, accepted-recorded, stands-accepted, accepted-different}
 use Rattle.bundle.specs.Payments.{noPayment, Different}
@@ -39,7 +39,7 @@ pub record AcceptableWith (s roots : List ℕ) (fee room : ℕ) (records : List 
   pub whole-roots : length roots % 32 ≡ 0
   pub bundle : Beef
   pub next : ℕ
-  pub read : beefWhole room s ≡ got bundle next
+  pub read : beefWhole room s ≡ ok bundle next
   pub count : length records ≡ length (bundle .entries)
   pub each : (k : ℕ) → k < length (bundle .entries) → New s roots fee bundle k × ((w : Mined s roots fee bundle k ⊎ Child s roots fee bundle k) × Recorded s roots fee bundle records k w)
 
@@ -61,7 +61,7 @@ module _ (s roots : List ℕ) (fee : ℕ) (b : Beef) where
   -- one record for each transaction
   counted : (records : List Record) → judgeEntries s roots fee b ≡ accepted records → length records ≡ length (b .entries)
   unfolding judgeEntries
-  counted records e = accepted-length (paymentOf s) (standing s roots fee (b .bumps)) (entryRow s) emptyEntry blankRecord [] (b .entries) records e
+  counted records e = accepted-length (paymentOf s) (ruling s roots fee (b .bumps)) (entryRow s) emptyEntry blankRecord [] (b .entries) records e
 
 module _ (s roots : List ℕ) (fee room : ℕ) (records : List Record) where
   accepted-acceptable : judgeBeef s roots fee room ≡ accepted records → AcceptableWith s roots fee room records
@@ -72,8 +72,8 @@ module _ (s roots : List ℕ) (fee room : ℕ) (records : List Record) where
           → pick t (pick u (judgeRead s roots fee p) (refused (carrying BAD-ROOTS 0))) (refused (carrying TOO-LONG 0)) ≡ accepted records → AcceptableWith s roots fee room records
       go false ht u hu p h m = absurd (let z : _≡_ {A = ℕ} 0 1 = cc in omega arith)
       go true ht false hu p h m = absurd (let z : _≡_ {A = ℕ} 0 1 = cc in omega arith)
-      go true ht true hu (bad number place) h m = absurd (let z : _≡_ {A = ℕ} 0 1 = cc in omega arith)
-      go true ht true hu (got b q) h m = record {
+      go true ht true hu (fault number place) h m = absurd (let z : _≡_ {A = ℕ} 0 1 = cc in omega arith)
+      go true ht true hu (ok b q) h m = record {
         size = leb-true _ _ ht;
         whole-roots = eqb-true _ _ hu;
         bundle = b;
@@ -108,7 +108,7 @@ pub record Acceptable (s roots : List ℕ) (fee room : ℕ) : Type 0 where
   pub whole-roots : length roots % 32 ≡ 0
   pub bundle : Beef
   pub next : ℕ
-  pub read : beefWhole room s ≡ got bundle next
+  pub read : beefWhole room s ≡ ok bundle next
   pub stands : (k : ℕ) → k < length (bundle .entries) → Stands s roots fee bundle k
 
 -- an input is accepted exactly when it has its size, the list is whole roots, "the whole BEEF is read", and every transaction is new and is mined under a
@@ -132,7 +132,7 @@ module _ (s roots : List ℕ) (fee : ℕ) (b : Beef) where
 
 -- every chain of parents inside an accepted bundle ends at transactions mined under listed roots
 pub accepted-supported : (s roots : List ℕ) (fee room : ℕ) (records : List Record) → judgeBeef s roots fee room ≡ accepted records
-    → (b : Beef) (q : ℕ) → beefWhole room s ≡ got b q → (k : ℕ) → k < length (b .entries) → Supported s roots fee b k
+    → (b : Beef) (q : ℕ) → beefWhole room s ≡ ok b q → (k : ℕ) → k < length (b .entries) → Supported s roots fee b k
 accepted-supported s roots fee room records e b q g k low = below (suc k) k (omega arith) low
   where
     stands : (k : ℕ) → k < length (b .entries) → Mined s roots fee b k ⊎ Child s roots fee b k
@@ -158,7 +158,7 @@ accepted-supported s roots fee room records e b q g k low = below (suc k) k (ome
 
 -- ---- the amounts of an accepted bundle (02, Item 9)
 
-module _ (s roots : List ℕ) (fee room : ℕ) (records : List Record) (accept : judgeBeef s roots fee room ≡ accepted records) (b : Beef) (q : ℕ) (read : beefWhole room s ≡ got b q) where
+module _ (s roots : List ℕ) (fee room : ℕ) (records : List Record) (accept : judgeBeef s roots fee room ≡ accepted records) (b : Beef) (q : ℕ) (read : beefWhole room s ≡ ok b q) where
   entries-accepted : judgeEntries s roots fee b ≡ accepted records
   unfolding judgeUpTo judgeRead
   entries-accepted = go (leb (length s) MAX-INPUT) (eqb (length roots % 32) 0) accept

@@ -13,12 +13,12 @@ use borrow.Author.Tests.{ltb-true, ltb-false}
 use Rattle.format.specs.declared.beef.EntryHead.{EntryHead}
 use Rattle.format.specs.declared.beef.Anchor.{Anchor}
 use Rattle.format.specs.declared.beef.Anchor.the-variants.{Unanchored, Bump as InBump}
-use Rattle.format.specs.Beef.{Entry, entryField}
+use Rattle.format.specs.Beef.{BeefEntry, entryField}
 use Rattle.format.specs.BeefAnswer.{entryHeadOf}
 use Rattle.format.proofs.BeefLaws.{entry-told}
-use Rattle.format.proofs.ParseLaws.{each-got}
+use Rattle.format.proofs.ParseLaws.{each-ok}
 use Rattle.format.specs.Refusals.{MAX-BUMPS}
-use Rattle.format.specs.Parse.{Parse, got, bad}
+use Rattle.format.specs.Parse.{Parse, ok, fault}
 use Rattle.format.specs.Bytes.{setHash, hashAt}
 use Rattle.format.proofs.BytesLaws.{set-inside, set-outside}
 use Rattle.format.proofs.IdLaws.{span-length}
@@ -37,12 +37,12 @@ module _ (count : ℕ) (s : List ℕ) (at : ℕ) where
   from-more m = refl
 
   -- where none can be read there is none ahead
-  pub none-at : {k q : ℕ} → entryAt count s at ≡ bad k q → (m : ℕ) → spanAt count s at m ≡ noSpan
+  pub none-at : {k q : ℕ} → entryAt count s at ≡ fault k q → (m : ℕ) → spanAt count s at m ≡ noSpan
   unfolding spanAt
   none-at e zero = rw e
   none-at e (suc m) = rw e
 
-  module _ {e : EntryHead} {next : ℕ} (read : entryAt count s at ≡ got e next) where
+  module _ {e : EntryHead} {next : ℕ} (read : entryAt count s at ≡ ok e next) where
     pub first-at : spanAt count s at 0 ≡ spanOf e
     unfolding spanAt
     first-at = rw read
@@ -60,13 +60,13 @@ module _ (count : ℕ) (s : List ℕ) (at : ℕ) where
   pub reached-more : (more : Bool) (x : NamedSpan) (next : ℕ) (onward : Bool) → more ≡ true → Reaches count s at true x next onward → Reaches count s at more x next onward
   reached-more more x next onward e r = rw e r
 
-  pub reached-bad : (x : NamedSpan) (next : ℕ) (onward : Bool) {k q : ℕ} → entryAt count s at ≡ bad k q → x ≡ noSpan → onward ≡ false → Reaches count s at true x next onward
+  pub reached-fault : (x : NamedSpan) (next : ℕ) (onward : Bool) {k q : ℕ} → entryAt count s at ≡ fault k q → x ≡ noSpan → onward ≡ false → Reaches count s at true x next onward
   unfolding spanFrom
-  reached-bad x next onward e f g = rw (f, g) (sym (none-at count s at e 0), λ m. sym (none-at count s at e (suc m)))
+  reached-fault x next onward e f g = rw (f, g) (sym (none-at count s at e 0), λ m. sym (none-at count s at e (suc m)))
 
-  pub reached-got : {e : EntryHead} {next : ℕ} → entryAt count s at ≡ got e next → Reaches count s at true (spanOf e) next true
+  pub reached-ok : {e : EntryHead} {next : ℕ} → entryAt count s at ≡ ok e next → Reaches count s at true (spanOf e) next true
   unfolding spanFrom
-  reached-got g = (sym (first-at count s at g), λ m. sym (later-at count s at g m))
+  reached-ok g = (sym (first-at count s at g), λ m. sym (later-at count s at g m))
 
 -- four places, each from where the one before was read
 pub spans-made : (count : ℕ) (s : List ℕ) (at : ℕ) (more : Bool) (a b c d : NamedSpan) → a ≡ spanFrom count s at more 0 → b ≡ spanFrom count s at more 1 → c ≡ spanFrom count s at more 2 → d ≡ spanFrom count s at more 3
@@ -99,7 +99,7 @@ module _ (count : ℕ) (s : List ℕ) (at : ℕ) where
   onward-four i p q more onward x o r m = let n : i + suc (suc (suc (suc m))) ≡ i + 4 + m = omega arith in r .1 m ∙ o (suc (suc (suc (suc m)))) ∙ ap (spanAt count s at) n
 
   -- the one that is read next is the i-th, and the others come after it
-  module _ (i p : ℕ) {q : ℕ} {e : EntryHead} (o : Onward count s at i p true) (read : entryAt count s p ≡ got e q) where
+  module _ (i p : ℕ) {q : ℕ} {e : EntryHead} (o : Onward count s at i p true) (read : entryAt count s p ≡ ok e q) where
     pub onward-here : spanAt count s at i ≡ spanOf e
     unfolding Onward
     onward-here = let n : i + 0 ≡ i = omega arith in ap (spanAt count s at) (sym n) ∙ sym (o 0) ∙ from-more count s p 0 ∙ first-at count s p read
@@ -197,15 +197,15 @@ module _ (count : ℕ) (s : List ℕ) (at : ℕ) where
       rw n4 at fourth
 
 -- a BUMP that a transaction names is one of the bundle's
-anchor-low : (count : ℕ) (s : List ℕ) (at : ℕ) {e : EntryHead} {next : ℕ} → entryAt count s at ≡ got e next → anchorOf (e .anchor) < MAX-BUMPS → anchorOf (e .anchor) < count
+anchor-low : (count : ℕ) (s : List ℕ) (at : ℕ) {e : EntryHead} {next : ℕ} → entryAt count s at ≡ ok e next → anchorOf (e .anchor) < MAX-BUMPS → anchorOf (e .anchor) < count
 unfolding anchorOf
-anchor-low count s at {e} {next} read = told (each-got entryHeadOf (entryField count s at) read)
+anchor-low count s at {e} {next} read = told (each-ok entryHeadOf (entryField count s at) read)
   where
     by : (x : Anchor) → ((n : ℕ) → x ≡ InBump n → n < count) → anchorOf x < MAX-BUMPS → anchorOf x < count
     by (InBump n) low h = low n refl
     by Unanchored low h = absurd (omega arith)
 
-    told : (x : Entry) × (entryField count s at ≡ got x next) × (entryHeadOf x ≡ e) → anchorOf (e .anchor) < MAX-BUMPS → anchorOf (e .anchor) < count
+    told : (x : BeefEntry) × (entryField count s at ≡ ok x next) × (entryHeadOf x ≡ e) → anchorOf (e .anchor) < MAX-BUMPS → anchorOf (e .anchor) < count
     told x = rw (← x .2) (by (x .0 .anchor) (entry-told count s at (x .1) .anchored))
 
 pub span-low : (count : ℕ) (s : List ℕ) (at m : ℕ) → spanAt count s at m .anchor < MAX-BUMPS → spanAt count s at m .anchor < count
@@ -213,11 +213,11 @@ unfolding noSpan spanOf
 span-low count s at zero = go (entryAt count s at) refl
   where
     go : (r : Parse EntryHead) → entryAt count s at ≡ r → spanAt count s at 0 .anchor < MAX-BUMPS → spanAt count s at 0 .anchor < count
-    go (got e next) q = rw (first-at count s at q) (anchor-low count s at q)
-    go (bad k p) q = rw (none-at count s at q 0) (λ h. absurd (omega arith))
+    go (ok e next) q = rw (first-at count s at q) (anchor-low count s at q)
+    go (fault k p) q = rw (none-at count s at q 0) (λ h. absurd (omega arith))
 span-low count s at (suc m) = go (entryAt count s at) refl (λ next. span-low count s next m)
   where
     go : (r : Parse EntryHead) → entryAt count s at ≡ r → ((next : ℕ) → spanAt count s next m .anchor < MAX-BUMPS → spanAt count s next m .anchor < count)
         → spanAt count s at (suc m) .anchor < MAX-BUMPS → spanAt count s at (suc m) .anchor < count
-    go (got e next) q on = rw (later-at count s at q m) (on next)
-    go (bad k p) q on = rw (none-at count s at q (suc m)) (λ h. absurd (omega arith))
+    go (ok e next) q on = rw (later-at count s at q m) (on next)
+    go (fault k p) q on = rw (none-at count s at q (suc m)) (λ h. absurd (omega arith))

@@ -8,7 +8,7 @@ use lib.ListN.{length, getD, take, length-take}
 use lib.Seq.{getD-take}
 use Rattle.format.specs.Parse.{pick}
 use Rattle.spv.proofs.TestLaws.{clash, and-both}
-use Rattle.bundle.specs.Amounts.{Standing}
+use Rattle.bundle.specs.Amounts.{AmountRuling}
 use Rattle.bundle.specs.Amounts.{Outpoint, Payment, total, outputsOf, spent, fresh, spends, worths, passes, amounts, anchoredTotal, unspentTotal, lefts}
 use Rattle.bundle.proofs.AmountLaws.{noOutpoint, spends-anchored, spends-unanchored, fresh-told, exist-told, outputs-at, told-spent, fresh-append, worths-append, worths-found, amounts-told}
 use Rattle.bundle.proofs.Balance.{unanchoredTotal, grand-parts, unspent-all, unspent-many}
@@ -16,7 +16,7 @@ use Rattle.bundle.specs.Payments.{noPayment, Different}
 
 -- ---- place by place: whatever the rule
 
-module _ (stands : List Payment → Payment → Standing) where
+module _ (stands : List Payment → Payment → AmountRuling) where
   abbrev pub AllPass : List Payment → List Payment → Type 0
   AllPass earlier l = (k : ℕ) → k < length l → stands (earlier ++ take k l) (getD l k noPayment) ≡ passes
 

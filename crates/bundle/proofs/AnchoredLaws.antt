@@ -12,7 +12,7 @@ use borrow.Author.Tests.{eqb-true, eqb-false, eq-eqb, ne-eqb, le-leb}
 use Rattle.hash.specs.Sha256.{sha256d}
 use Rattle.format.specs.declared.bump.BumpHead.{BumpHead}
 use Rattle.format.specs.declared.beef.EntryHead.{EntryHead}
-use Rattle.format.specs.Parse.{got, pick}
+use Rattle.format.specs.Parse.{ok, pick}
 use Rattle.format.specs.Bytes.{setHash, hashAt}
 use Rattle.format.proofs.BytesLaws.{set-inside}
 use Rattle.format.specs.BeefAnswer.{noBump}
@@ -25,7 +25,6 @@ use Rattle.spv.specs.declared.rejection.Rejection.{Rejection}
 use Rattle.spv.specs.Result.{Result, accepted, refused, carrying, atSibling}
 use Rattle.spv.specs.Climb.{Sibling, Siblings, siblingPosition, odd, Step, joins, fails, step, ascendBy, ascend, endBy, endOf}
 use Rattle.spv.proofs.ClimbLaws.{ascend-joins, ascend-fails}
-use Rattle.spv.specs.Compare.{any, hits, settle, Proof, proofOf, proveBy, prove}
 use Rattle.spv.specs.Siblings.{pathSiblings}
 use Rattle.spv.specs.Readings.{starting, pathReading}
 use Rattle.spv.specs.Hashes.{hashesOf, among}
@@ -37,14 +36,15 @@ use Rattle.climbs.specs.Proofs.{hasRoom, fits, idAt, joinsIn, startsOf, statesO
 use Rattle.climbs.proofs.RowLaws.{fails-number}
 use Rattle.climbs.proofs.ProofsLaws.{rows-proved}
 use Rattle.spv.proofs.Stored.{stored-here, stored-other}
-use Rattle.bundle.specs.declared.judging.Standing.{Standing}
-use Rattle.bundle.specs.declared.judging.Standing.the-variants.{Refuses, Passes}
+use Rattle.bundle.specs.declared.judge.Ruling.{Ruling}
+use Rattle.bundle.specs.declared.judge.Ruling.the-variants.{Refuses, Passes}
 use Rattle.bundle.specs.Bundle.{trusted}
 use Rattle.bundle.specs.BundleHeads.{headId, headProving}
 use Rattle.bundle.proofs.BundleHeadLaws.{head-proving}
 use Rattle.bundle.specs.Ahead.{anchorOf, entryAt, spanId, spanOf, Onward, IdsFrom, AnchorsFrom}
 use Rattle.bundle.proofs.AheadLaws.{onward-here, span-low}
-use Rattle.bundle.specs.Anchored.{endNumber, endLayer, endPlace, putFour, putEnd, standingBy, standingAt, joinsAt, minedBy, minedJoins, Right, Unnamed, HoldIds, Gathered, Settled, SettlesRows, Risen, EndsFrom, JoinsFrom, Mined}
+use Rattle.bundle.specs.Anchored.{endNumber, endLayer, endPlace, putFour, putEnd, rulingBy, rulingAt, joinsAt, minedBy, minedJoins, Right, Unnamed, HoldIds, Gathered, Settled, SettlesRows, Risen, EndsFrom, JoinsFrom, Mined}
+use Rattle.spv.specs.Prove.{hits, settle, Proof, proofOf, proveBy, prove, any}
 
 -- ---- what is kept
 
@@ -78,8 +78,8 @@ module _ (ends : List ℕ) (i number layer place joins : ℕ) where
         getD-set-other three (4 * i + 3) (4 * i + 2) joins 0 (λ z. omega arith)
         ∙ getD-set-same two (4 * i + 2) place 0 (let l = length-set ends (4 * i) number in let m = length-set one (4 * i + 1) layer in omega arith)
 
-    pub put-here : (bump : ℕ) → standingAt (putFour ends i number layer place joins) bump i ≡ standingBy bump number layer place
-    unfolding standingAt
+    pub put-here : (bump : ℕ) → rulingAt (putFour ends i number layer place joins) bump i ≡ rulingBy bump number layer place
+    unfolding rulingAt
     put-here bump = rw (first-is, second-is, third-is)
 
     pub joins-here : joinsAt (putFour ends i number layer place joins) i ≡ joins
@@ -94,8 +94,8 @@ module _ (ends : List ℕ) (i number layer place joins : ℕ) where
       getD-set-other three (4 * i + 3) j joins 0 e ∙ getD-set-other two (4 * i + 2) j place 0 d ∙ getD-set-other one (4 * i + 1) j layer 0 b ∙ getD-set-other ends (4 * i) j number 0 a
 
   module _ (k : ℕ) (other : k ≡ i → ⊥) where
-    pub put-other : (bump : ℕ) → standingAt (putFour ends i number layer place joins) bump k ≡ standingAt ends bump k
-    unfolding standingAt
+    pub put-other : (bump : ℕ) → rulingAt (putFour ends i number layer place joins) bump k ≡ rulingAt ends bump k
+    unfolding rulingAt
     put-other bump =
         rw (
           past (4 * k) (λ z. other (omega arith)) (λ z. omega arith) (λ z. omega arith) (λ z. omega arith),
@@ -107,32 +107,32 @@ module _ (ends : List ℕ) (i number layer place joins : ℕ) where
     unfolding joinsAt
     joins-other = past (4 * k + 3) (λ z. omega arith) (λ z. omega arith) (λ z. omega arith) (λ z. other (omega arith))
 
--- a standing that is put, and one that is read again
+-- a ruling that is put, and one that is read again
 module _ (ends : List ℕ) (i : ℕ) where
-  pub put-refuses : {t : Standing} {why : Rejection} (m : ℕ) → t ≡ Refuses why → putFour ends i (why .number) (why .layer) (why .sibling) m ≡ putEnd ends i t m
+  pub put-refuses : {t : Ruling} {why : Rejection} (m : ℕ) → t ≡ Refuses why → putFour ends i (why .number) (why .layer) (why .sibling) m ≡ putEnd ends i t m
   unfolding endNumber endLayer endPlace
   put-refuses m e = rw e
 
-  pub put-passes : {t : Standing} {a n p : ℕ} (m : ℕ) → t ≡ Passes a n p → putFour ends i 0 0 p m ≡ putEnd ends i t m
+  pub put-passes : {t : Ruling} {a n p : ℕ} (m : ℕ) → t ≡ Passes a n p → putFour ends i 0 0 p m ≡ putEnd ends i t m
   unfolding endNumber endLayer endPlace
   put-passes m e = rw e
 
-  pub at-passes : (bump : ℕ) → getD ends (4 * i) 0 % 256 ≡ 0 → Passes 1 bump (getD ends (4 * i + 2) 0) ≡ standingAt ends bump i
-  unfolding standingAt standingBy
+  pub at-passes : (bump : ℕ) → getD ends (4 * i) 0 % 256 ≡ 0 → Passes 1 bump (getD ends (4 * i + 2) 0) ≡ rulingAt ends bump i
+  unfolding rulingAt rulingBy
   at-passes bump e = rw (eq-eqb (getD ends (4 * i) 0 % 256) 0 e)
 
   pub at-refuses : (bump : ℕ) → (getD ends (4 * i) 0 % 256 ≡ 0 → ⊥)
-      → Refuses (record { number = getD ends (4 * i) 0 % 256; carried = 0; layer = getD ends (4 * i + 1) 0; sibling = getD ends (4 * i + 2) 0 }) ≡ standingAt ends bump i
-  unfolding standingAt standingBy
+      → Refuses (record { number = getD ends (4 * i) 0 % 256; carried = 0; layer = getD ends (4 * i + 1) 0; sibling = getD ends (4 * i + 2) 0 }) ≡ rulingAt ends bump i
+  unfolding rulingAt rulingBy
   at-refuses bump e = rw (ne-eqb (getD ends (4 * i) 0 % 256) 0 e)
 
 -- what proving by a path comes to is told by the three
-abbrev pub Told : ℕ → Standing → Type 0
-Told bump t = standingBy bump (endNumber t) (endLayer t) (endPlace t) ≡ t
+abbrev pub Told : ℕ → Ruling → Type 0
+Told bump t = rulingBy bump (endNumber t) (endLayer t) (endPlace t) ≡ t
 
 -- a layer fails by 14 or 15
 step-told : (bump layer place : ℕ) (x : Sibling) (o : Bool) (c : List ℕ) (number : ℕ) → step x o c ≡ fails number → Told bump (Refuses (atSibling number layer place))
-unfolding standingBy endNumber endLayer endPlace
+unfolding rulingBy endNumber endLayer endPlace
 step-told bump layer place x o c number e =
     let m = fails-number x o c number e in
     let same : number % 256 ≡ number = omega arith in
@@ -152,7 +152,7 @@ end-told bump σ k (suc n) j c why e = go (step (σ k (siblingPosition j)) (odd 
 
 -- 13, 14, 15 or 17, or a position
 start-told : (roots : List ℕ) (bump : ℕ) (σ : Siblings) (h : ℕ) (id : List ℕ) (start : Start) → Told bump (trusted roots bump (prove (starting σ h id start)))
-unfolding starting proveBy settle hits trusted standingBy endNumber endLayer endPlace
+unfolding starting proveBy settle hits trusted rulingBy endNumber endLayer endPlace
 start-told roots bump σ h id Nowhere = refl
 start-told roots bump σ h id (At i) = go (endOf id (ascend σ 0 h i id)) refl
   where
@@ -178,13 +178,13 @@ unfolding Right
 right-other s roots bumps anchors ids ends j number layer place m i d r =
     (put-other ends j number layer place m i d (getD anchors i 0) ∙ r .0, joins-other ends j number layer place m i d ∙ r .1)
 
-module _ (s roots : List ℕ) (bumps : List BumpHead) (anchors ids ends : List ℕ) (bump j : ℕ) (t : Standing) (m : ℕ) (named : getD anchors j 0 ≡ bump) (is : t ≡ minedBy s roots bumps bump (hashAt ids (32 * j)))
+module _ (s roots : List ℕ) (bumps : List BumpHead) (anchors ids ends : List ℕ) (bump j : ℕ) (t : Ruling) (m : ℕ) (named : getD anchors j 0 ≡ bump) (is : t ≡ minedBy s roots bumps bump (hashAt ids (32 * j)))
     (made : m ≡ minedJoins s bumps bump (hashAt ids (32 * j))) (room : 4 * j + 3 < length ends) where
   pub right-here : Right s roots bumps anchors ids (putEnd ends j t m) j
   unfolding Right
   right-here =
       rw named
-      (put-here ends j (endNumber t) (endLayer t) (endPlace t) m room bump ∙ ap (λ (x : Standing). standingBy bump (endNumber x) (endLayer x) (endPlace x)) is ∙ mined-told s roots bumps bump (hashAt ids (32 * j)), joins-here ends j (endNumber t) (endLayer t) (endPlace t) m room ∙ made)
+      (put-here ends j (endNumber t) (endLayer t) (endPlace t) m room bump ∙ ap (λ (x : Ruling). rulingBy bump (endNumber x) (endLayer x) (endPlace x)) is ∙ mined-told s roots bumps bump (hashAt ids (32 * j)), joins-here ends j (endNumber t) (endLayer t) (endPlace t) m room ∙ made)
 
   -- what is right stays right
   pub right-kept : (i : ℕ) → Right s roots bumps anchors ids ends i → Right s roots bumps anchors ids (putEnd ends j t m) i
@@ -202,7 +202,7 @@ module _ (s roots : List ℕ) (path : Path) (bump : ℕ) (ids slots ends : List 
   unfolding Settled
   settled-none bumps anchors is named = ((λ i r. r), λ r l. absurd (omega arith))
 
-  pub settled-more : (now : List ℕ) (r : ℕ) (t : Standing) (m : ℕ) → Settled s roots path bump ids slots ends now r → t ≡ trusted roots bump (prove (pathReading s path (hashAt ids (32 * getD slots r 0))))
+  pub settled-more : (now : List ℕ) (r : ℕ) (t : Ruling) (m : ℕ) → Settled s roots path bump ids slots ends now r → t ≡ trusted roots bump (prove (pathReading s path (hashAt ids (32 * getD slots r 0))))
       → m ≡ joinsIn s path (hashAt ids (32 * getD slots r 0)) → 4 * getD slots r 0 + 3 < length now → Settled s roots path bump ids slots ends (putEnd now (getD slots r 0) t m) (r + 1)
   unfolding Settled minedBy minedJoins
   settled-more now r t m before e f room bumps anchors is named =
@@ -222,7 +222,7 @@ module _ (roots : List ℕ) (layers bump : ℕ) (ids slots starts states hashes 
   unfolding SettlesRows
   rows-none s path say cost = settled-none s roots path bump ids slots ends
 
-  pub rows-more : (now : List ℕ) (r : ℕ) (id : List ℕ) (p : Proved) (t : Standing) → SettlesRows roots layers bump ids slots starts states hashes costs ends now r → id ≡ hashAt ids (32 * getD slots r 0)
+  pub rows-more : (now : List ℕ) (r : ℕ) (id : List ℕ) (p : Proved) (t : Ruling) → SettlesRows roots layers bump ids slots starts states hashes costs ends now r → id ≡ hashAt ids (32 * getD slots r 0)
       → p ≡ provedAt layers id starts states hashes r → ((v : Result Proof) → p ≡ provedOf v → t ≡ trusted roots bump v) → 4 * getD slots r 0 + 3 < length now
       → SettlesRows roots layers bump ids slots starts states hashes costs ends (putEnd now (getD slots r 0) t (getD costs r 0)) (r + 1)
   unfolding SettlesRows
@@ -349,12 +349,12 @@ joins-from count s roots bumps at n anchors ids ends made named wide room right 
     let x = right k low (omega arith) .1 in
     rw (is, made k low (omega arith)) at x
 
-module _ (count : ℕ) (s : List ℕ) (at i p : ℕ) {q : ℕ} {e : EntryHead} (o : Onward count s at i p true) (read : entryAt count s p ≡ got e q) where
-  pub mined-here : (roots : List ℕ) (bumps : List BumpHead) (n : ℕ) (ends id : List ℕ) (m : ℕ) (t : Standing) → EndsFrom count s roots bumps at n ends → i < n → id ≡ headId s e → m ≡ anchorOf (e .anchor) → t ≡ standingAt ends m i
+module _ (count : ℕ) (s : List ℕ) (at i p : ℕ) {q : ℕ} {e : EntryHead} (o : Onward count s at i p true) (read : entryAt count s p ≡ ok e q) where
+  pub mined-here : (roots : List ℕ) (bumps : List BumpHead) (n : ℕ) (ends id : List ℕ) (m : ℕ) (t : Ruling) → EndsFrom count s roots bumps at n ends → i < n → id ≡ headId s e → m ≡ anchorOf (e .anchor) → t ≡ rulingAt ends m i
       → Mined s roots bumps id (e .anchor) t
   unfolding EndsFrom spanId spanOf anchorOf
   mined-here roots bumps n ends id m t right low is number here k named few =
       let sp = onward-here count s at i p o read in
       let an : anchorOf (e .anchor) ≡ k = ap anchorOf named in
       let x = right i low (rw (sp, an) few) in
-      here ∙ ap (λ (j : ℕ). standingAt ends j i) number ∙ (rw sp at x) ∙ rw (an, ← is)
+      here ∙ ap (λ (j : ℕ). rulingAt ends j i) number ∙ (rw sp at x) ∙ rw (an, ← is)

@@ -7,21 +7,21 @@ use native.Mathlib.Omega.{arith}
 use lib.Dec.{leb, eqb}
 use native.Mathlib.Nat.{sub-zero}
 use lib.ListN.{length, replicate, getD}
-use Rattle.bundle.specs.declared.judging.Verdict.{Verdict}
-use Rattle.bundle.specs.declared.judging.Verdict.the-variants.{Accepted, Refused}
+use Rattle.bundle.specs.declared.judge.Verdict.{Verdict}
+use Rattle.bundle.specs.declared.judge.Verdict.the-variants.{Accepted, Refused}
 use Rattle.bundle.specs.declared.table.Record.{Record}
 use Rattle.spv.specs.Result.{accepted, refused, carrying}
 use Rattle.spv.specs.Rows.{rows}
 use Rattle.bundle.specs.Table.{blankRecord, flat, flatRecord, IDS-ROOM, NUMBERS-ROOM}
 use Rattle.spv.proofs.RowsLaws.{getD-padded, rows-list}
 use Rattle.bundle.proofs.TableLaws.{flat-length, flat-row}
-use Rattle.format.specs.Parse.{Parse, got, bad, pick}
+use Rattle.format.specs.Parse.{Parse, ok, fault, pick}
 use Rattle.format.specs.Padded.{padded}
 use Rattle.format.specs.Beef.{Beef, beefWhole}
 use Rattle.format.proofs.BeefLaws.{BeefRead, beef-told}
 use Rattle.format.specs.Refusals.{TOO-LONG, BAD-ROOTS, MAX-INPUT, MAX-TXS}
 use Rattle.bundle.specs.Amounts.{paymentOf}
-use Rattle.bundle.specs.Bundle.{standing, entryRow, Judgement, judgeEntries, judgeRead, judgeBeef, judgeUpTo, verdictOf, tableOf}
+use Rattle.bundle.specs.Bundle.{ruling, entryRow, Judgement, judgeEntries, judgeRead, judgeBeef, judgeUpTo, verdictOf, tableOf}
 use Rattle.bundle.proofs.BundleLaws.{accepted-length}
 use Rattle.bundle.proofs.BundleTheorems.{emptyEntry}
 use Rattle.bundle.specs.BundleAnswer.{judgementOf, countOf, rowIn}
@@ -38,7 +38,7 @@ entries-fit s roots fee n b read = go (judgeEntries s roots fee b) refl
     go : (j : Judgement) → judgeEntries s roots fee b ≡ j → Fits j n
     go (refused why) e = tt
     go (accepted records) e =
-        let same = accepted-length (paymentOf s) (standing s roots fee (b .bumps)) (entryRow s) emptyEntry blankRecord [] (b .entries) records e in
+        let same = accepted-length (paymentOf s) (ruling s roots fee (b .bumps)) (entryRow s) emptyEntry blankRecord [] (b .entries) records e in
         let few = read .entries-low in
         let room = read .fits in
         (omega arith, omega arith)
@@ -50,8 +50,8 @@ judge-fits s roots fee n = go (leb (length s) MAX-INPUT) (eqb (length roots % 32
     go : (t u : Bool) (p : Parse Beef) → beefWhole n s ≡ p → Fits (pick t (pick u (judgeRead s roots fee p) (refused (carrying BAD-ROOTS 0))) (refused (carrying TOO-LONG 0))) n
     go false u p e = tt
     go true false p e = tt
-    go true true (bad number place) e = tt
-    go true true (got b q) e = entries-fit s roots fee n b (beef-told n s e)
+    go true true (fault number place) e = tt
+    go true true (ok b q) e = entries-fit s roots fee n b (beef-told n s e)
 
 -- the verdict, and the table of n rows
 module _ (ids numbers : List ℕ) (wide : IDS-ROOM ≤ length ids) (long : NUMBERS-ROOM ≤ length numbers) (n : ℕ) where

@@ -11,13 +11,13 @@ use lib.Dec.{eqb}
 use borrow.Author.Tests.{le-leb, lt-ltb, le-ltb}
 use Rattle.format.specs.declared.beef.Anchor.{Anchor}
 use Rattle.format.specs.declared.beef.Anchor.the-variants.{Unanchored, Bump as InBump}
-use Rattle.format.specs.Parse.{Parse, Reader, got, each, many, times, whole}
+use Rattle.format.specs.Parse.{Parse, Reader, ok, each, many, times, whole}
 use Rattle.format.proofs.ParseLaws.{onward-told}
 use Rattle.format.specs.Field.{bytes, byte, le4, number, varint}
 use Rattle.format.specs.Bump.{Bump, bumpField}
 use Rattle.format.specs.Transaction.{Transaction, beefTxField}
 use Rattle.format.proofs.TransactionLaws.{tx-told}
-use Rattle.format.specs.Beef.{VERSION, Entry, Beef, versionField, bumpCountField, bumpsUpTo, txCountField, bumpNumberField, anchorField, entryField, entriesField, beefUpTo, beefWhole}
+use Rattle.format.specs.Beef.{VERSION, BeefEntry, Beef, versionField, bumpCountField, bumpsUpTo, txCountField, bumpNumberField, anchorField, entryField, entriesField, beefUpTo, beefWhole}
 use Rattle.format.specs.Refusals.{BAD-VERSION, MAX-INPUT, MAX-BUMPS}
 use Rattle.bundle.specs.Bundle.{nthBump, emptyBump}
 use Rattle.spv.proofs.RowsLaws.{map-at}
@@ -46,11 +46,11 @@ module _ (u v : List ℕ) {t : List ℕ} {base : ℕ} (stands : StandsIn (u ++ v
   }
 
 -- what u spells, read where it stands
-pub placed : {A C : Type 0} {u t : List ℕ} {base : ℕ} {r : Reader A} {c d : A → C} {a : A} → Again u t base r r c d → Spells r u a → (b : A) × (r t base ≡ got b (base + length u)) × (c a ≡ d b)
+pub placed : {A C : Type 0} {u t : List ℕ} {base : ℕ} {r : Reader A} {c d : A → C} {a : A} → Again u t base r r c d → Spells r u a → (b : A) × (r t base ≡ ok b (base + length u)) × (c a ≡ d b)
 placed {u = u} {t = t} {base = base} {r = r} {a = a} f e = let x = f .again 0 (length u) a e in (x .0, rw (add-zero base) at (x .1), x .2)
 
 -- what is read as it was spelled
-pub placed-same : {A : Type 0} {u t : List ℕ} {base : ℕ} {r : Reader A} {a : A} → Again u t base r r (λ x. x) (λ x. x) → Spells r u a → r t base ≡ got a (base + length u)
+pub placed-same : {A : Type 0} {u t : List ℕ} {base : ℕ} {r : Reader A} {a : A} → Again u t base r r (λ x. x) (λ x. x) → Spells r u a → r t base ≡ ok a (base + length u)
 placed-same f e = let x = placed f e in rw (← x .2) at (x .1)
 
 -- ---- items, each spelled by its string
@@ -62,22 +62,22 @@ module _ {A C : Type 0} (item : Reader A) (said : List ℕ → A → C) (d : A) 
   -- the k-th of them, where its string stands
   pub record ItemAt (ws : List (List ℕ)) (base k : ℕ) (b : A) : Type 0 where
     pub next : ℕ
-    pub read : item t (base + placeOf ws k) ≡ got b next
+    pub read : item t (base + placeOf ws k) ≡ ok b next
     pub says : (a : A) → Spells item (getD ws k []) a → said (getD ws k []) a ≡ said t b
 
   abbrev pub Items : List (List ℕ) → ℕ → List A → Type 0
-  Items ws base l = (times item (length ws) t base ≡ got l (base + length (chained ws))) × (length l ≡ length ws) × ((k : ℕ) → k < length ws → ItemAt ws base k (getD l k d))
+  Items ws base l = (times item (length ws) t base ≡ ok l (base + length (chained ws))) × (length l ≡ length ws) × ((k : ℕ) → k < length ws → ItemAt ws base k (getD l k d))
 
   pub items-read : (ws : List (List ℕ)) (base : ℕ) → StandsIn (chained ws) t base → ((k : ℕ) → k < length ws → (a : A) × Spells item (getD ws k []) a) → (l : List A) × Items ws base l
   unfolding chained many each
-  items-read [] base st f = ([], (ap (got []) (sym (add-zero base)), refl, λ k h. absurd (omega arith)))
+  items-read [] base st f = ([], (ap (ok []) (sym (add-zero base)), refl, λ k h. absurd (omega arith)))
   items-read (w ∷ ws) base st f =
       let x = f 0 (omega arith) in
       let y = placed (moves w base (stands-left w (chained ws) st)) (x .1) in
       let z = items-read ws (base + length w) (stands-right w (chained ws) st) (λ k h. f (suc k) (omega arith)) in
-      (y .0 ∷ z .0, (rw (y .1, z .1 .0) (ap (got (y .0 ∷ z .0)) (omega (arith, length-append w (chained ws)))), ap suc (z .1 .1), at-each (y .0) (y .1) (z .0) (z .1 .2)))
+      (y .0 ∷ z .0, (rw (y .1, z .1 .0) (ap (ok (y .0 ∷ z .0)) (omega (arith, length-append w (chained ws)))), ap suc (z .1 .1), at-each (y .0) (y .1) (z .0) (z .1 .2)))
     where
-      at-each : (b : A) → item t base ≡ got b (base + length w) → (l : List A) → ((k : ℕ) → k < length ws → ItemAt ws (base + length w) k (getD l k d))
+      at-each : (b : A) → item t base ≡ ok b (base + length w) → (l : List A) → ((k : ℕ) → k < length ws → ItemAt ws (base + length w) k (getD l k d))
           → (k : ℕ) → k < suc (length ws) → ItemAt (w ∷ ws) base k (getD (b ∷ l) k d)
       at-each b e l g zero h = record {
         next = base + length w;
@@ -91,48 +91,48 @@ module _ {A C : Type 0} (item : Reader A) (said : List ℕ → A → C) (d : A) 
 
 -- ---- a transaction with its anchor
 
-small-spells : (n : ℕ) → n < 253 → Spells varint (n ∷ []) n
+small-encodes : (n : ℕ) → n < 253 → Spells varint (n ∷ []) n
 unfolding varint byte
-small-spells n h = rw (lt-ltb n 253 h)
+small-encodes n h = rw (lt-ltb n 253 h)
 
-anchor-spells : (bumps : ℕ) (a : Anchor) → ((n : ℕ) → a ≡ InBump n → n < bumps) → bumps ≤ MAX-BUMPS → Spells (anchorField bumps) (anchorBytes a) a
+anchor-encodes : (bumps : ℕ) (a : Anchor) → ((n : ℕ) → a ≡ InBump n → n < bumps) → bumps ≤ MAX-BUMPS → Spells (anchorField bumps) (anchorBytes a) a
 unfolding anchorField bumpNumberField anchorBytes varint byte each
-anchor-spells bumps (InBump n) f low =
+anchor-encodes bumps (InBump n) f low =
     let less = f n refl in
     let small : n < 253 = omega arith in
     rw (lt-ltb n 253 small, lt-ltb n bumps less)
-anchor-spells bumps Unanchored f low = refl
+anchor-encodes bumps Unanchored f low = refl
 
-part-spells : (bumps : ℕ) (p : Part) (x : Transaction) → Spells beefTxField (p .raw) x → ((n : ℕ) → p .anchor ≡ InBump n → n < bumps) → bumps ≤ MAX-BUMPS
-    → (e : Entry) × Spells (entryField bumps) (partBytes p) e × (entrySaid (partBytes p) e ≡ (txSaid (p .raw) x, p .anchor))
+part-encodes : (bumps : ℕ) (p : Part) (x : Transaction) → Spells beefTxField (p .raw) x → ((n : ℕ) → p .anchor ≡ InBump n → n < bumps) → bumps ≤ MAX-BUMPS
+    → (e : BeefEntry) × Spells (entryField bumps) (partBytes p) e × (entrySaid (partBytes p) e ≡ (txSaid (p .raw) x, p .anchor))
 unfolding entryField
-part-spells bumps p x s f low =
+part-encodes bumps p x s f low =
     let w = stands-self (partBytes p) in
     let y = placed (tx-again (stands-left (p .raw) (anchorBytes (p .anchor)) w) true) s in
-    let z = placed-same (anchor-again (stands-right (p .raw) (anchorBytes (p .anchor)) w) bumps) (anchor-spells bumps (p .anchor) f low) in
+    let z = placed-same (anchor-again (stands-right (p .raw) (anchorBytes (p .anchor)) w) bumps) (anchor-encodes bumps (p .anchor) f low) in
     let end : 0 + length (p .raw) + length (anchorBytes (p .anchor)) ≡ length (partBytes p) = omega (arith, length-append (p .raw) (anchorBytes (p .anchor))) in
-    (record { transaction = y .0; anchor = p .anchor }, rw (y .1, z) (ap (got (record { transaction = y .0; anchor = p .anchor })) end), ap (λ (v : TxSaid). (v, p .anchor)) (sym (y .2)))
+    (record { transaction = y .0; anchor = p .anchor }, rw (y .1, z) (ap (ok (record { transaction = y .0; anchor = p .anchor })) end), ap (λ (v : TxSaid). (v, p .anchor)) (sym (y .2)))
 
 -- a transaction starts where its entry does
-entry-start : (bumps : ℕ) (s : List ℕ) (at : ℕ) {e : Entry} {q : ℕ} → entryField bumps s at ≡ got e q → e .transaction .start ≡ at
+entry-start : (bumps : ℕ) (s : List ℕ) (at : ℕ) {e : BeefEntry} {q : ℕ} → entryField bumps s at ≡ ok e q → e .transaction .start ≡ at
 unfolding entryField
 entry-start bumps s at {e} {q} h =
     let x = onward-told (beefTxField s at) _ h in
     let y = onward-told (anchorField bumps s (x .1)) _ (x .3) in
-    let is : _≡_ {A = Parse Entry} (got (record { transaction = x .0; anchor = y .0 }) (y .1)) (got e q) = y .3 in
+    let is : _≡_ {A = Parse BeefEntry} (ok (record { transaction = x .0; anchor = y .0 }) (y .1)) (ok e q) = y .3 in
     let same : record { transaction = x .0; anchor = y .0 } ≡ e = cc in
-    ap (λ (z : Entry). z .transaction .start) (sym same) ∙ tx-told s at (x .2) .start-is
+    ap (λ (z : BeefEntry). z .transaction .start) (sym same) ∙ tx-told s at (x .2) .start-is
 
 -- ---- a bundle
 
-version-spells : Spells versionField versionBytes VERSION
+version-encodes : Spells versionField versionBytes VERSION
 unfolding versionField bytes
-version-spells = refl
+version-encodes = refl
 
 -- a bundle by its fields
-assembled : (room : ℕ) (s : List ℕ) {v n m from to q : ℕ} {l : List Bump} {es : List Entry} → length s ≤ MAX-INPUT → versionField s 0 ≡ got v 4 → bumpCountField s 4 ≡ got n 5
-    → times bumpField n s 5 ≡ got l from → length l ≡ n → txCountField room s from ≡ got m to → times (entryField n) m s to ≡ got es q → q ≡ length s
-    → beefWhole room s ≡ got (record { bumps = l; entries = es }) (length s)
+assembled : (room : ℕ) (s : List ℕ) {v n m from to q : ℕ} {l : List Bump} {es : List BeefEntry} → length s ≤ MAX-INPUT → versionField s 0 ≡ ok v 4 → bumpCountField s 4 ≡ ok n 5
+    → times bumpField n s 5 ≡ ok l from → length l ≡ n → txCountField room s from ≡ ok m to → times (entryField n) m s to ≡ ok es q → q ≡ length s
+    → beefWhole room s ≡ ok (record { bumps = l; entries = es }) (length s)
 unfolding beefUpTo bumpsUpTo entriesField whole
 assembled room s size v c b n t e q =
     let last : length s ≤ length s = omega arith in
@@ -141,7 +141,7 @@ assembled room s size v c b n t e q =
 -- what is read of a bundle put together: what its parts say
 pub record PartsRead (room : ℕ) (bumps : List (List ℕ)) (count : List ℕ) (parts : List Part) : Type 0 where
   pub bundle : Beef
-  pub read : beefWhole room (bundleBytes bumps count parts) ≡ got bundle (length (bundleBytes bumps count parts))
+  pub read : beefWhole room (bundleBytes bumps count parts) ≡ ok bundle (length (bundleBytes bumps count parts))
   pub bump-count : length (bundle .bumps) ≡ length bumps
   pub bump : (n : ℕ) (x : Bump) → n < length bumps → Spells bumpField (getD bumps n []) x → bumpSaid (getD bumps n []) x ≡ bumpSaid (bundleBytes bumps count parts) (nthBump (bundle .bumps) n)
   pub part-count : length (bundle .entries) ≡ length parts
@@ -171,21 +171,21 @@ module _ (room : ℕ) (bumps : List (List ℕ)) (count : List ℕ) (parts : List
   after-all : StandsIn (chained entries) s (5 + length (chained bumps) + length count)
   after-all = stands-right count (chained entries) after-bumps
 
-  version-read : versionField s 0 ≡ got VERSION 4
+  version-read : versionField s 0 ≡ ok VERSION 4
   unfolding versionField
-  version-read = placed-same (passing-again (number le4 4) (number le4 4) (λ v. eqb v VERSION) (λ v. eqb v VERSION) BAD-VERSION BAD-VERSION (number-again (stands-left versionBytes _ in-s) le4 4 (λ q h. le4-again (stands-left versionBytes _ in-s) q (0 + q) h refl)) (λ x. refl)) version-spells
+  version-read = placed-same (passing-again (number le4 4) (number le4 4) (λ v. eqb v VERSION) (λ v. eqb v VERSION) BAD-VERSION BAD-VERSION (number-again (stands-left versionBytes _ in-s) le4 4 (λ q h. le4-again (stands-left versionBytes _ in-s) q (0 + q) h refl)) (λ x. refl)) version-encodes
 
-  count-read : bumpCountField s 4 ≡ got (length bumps) 5
+  count-read : bumpCountField s 4 ≡ ok (length bumps) 5
   unfolding bumpCountField
   count-read =
       let low = p .bumps-low in
-      let read = placed-same (varint-again (stands-left (length bumps ∷ []) (chained bumps ++ (count ++ chained entries)) after-version)) (small-spells (length bumps) (omega arith)) in
+      let read = placed-same (varint-again (stands-left (length bumps ∷ []) (chained bumps ++ (count ++ chained entries)) after-version)) (small-encodes (length bumps) (omega arith)) in
       rw (read, le-leb _ _ low)
 
   read-bumps : (l : List Bump) × Items bumpField bumpSaid emptyBump s (λ u base st. bump-again st) bumps 5 l
   read-bumps = items-read bumpField bumpSaid emptyBump s (λ u base st. bump-again st) bumps 5 (stands-left (chained bumps) (count ++ chained entries) after-count) (p .bump)
 
-  tx-count-read : txCountField room s (5 + length (chained bumps)) ≡ got (length parts) (5 + length (chained bumps) + length count)
+  tx-count-read : txCountField room s (5 + length (chained bumps)) ≡ ok (length parts) (5 + length (chained bumps) + length count)
   unfolding txCountField
   tx-count-read =
       let low = p .parts-low in
@@ -196,20 +196,20 @@ module _ (room : ℕ) (bumps : List (List ℕ)) (count : List ℕ) (parts : List
   entry-at : (k : ℕ) → k < length parts → getD entries k [] ≡ partBytes (getD parts k noPart)
   entry-at k h = map-at partBytes parts k noPart [] h
 
-  entry-spelled : (k : ℕ) → k < length entries → (e : Entry) × Spells (entryField (length bumps)) (getD entries k []) e
-  entry-spelled k h =
+  entry-encoded : (k : ℕ) → k < length entries → (e : BeefEntry) × Spells (entryField (length bumps)) (getD entries k []) e
+  entry-encoded k h =
       let low : k < length parts = omega (arith, length-map parts partBytes) in
       let x = p .transaction k low in
-      let e = part-spells (length bumps) (getD parts k noPart) (x .0) (x .1) (λ n is. p .anchored k n low is) (p .bumps-low) in
+      let e = part-encodes (length bumps) (getD parts k noPart) (x .0) (x .1) (λ n is. p .anchored k n low is) (p .bumps-low) in
       rw (entry-at k low) (e .0, e .1)
 
-  read-entries : (l : List Entry) × Items (entryField (length bumps)) entrySaid emptyEntry s (λ u base st. entry-again st (length bumps)) entries (5 + length (chained bumps) + length count) l
-  read-entries = items-read (entryField (length bumps)) entrySaid emptyEntry s (λ u base st. entry-again st (length bumps)) entries (5 + length (chained bumps) + length count) after-all entry-spelled
+  read-entries : (l : List BeefEntry) × Items (entryField (length bumps)) entrySaid emptyEntry s (λ u base st. entry-again st (length bumps)) entries (5 + length (chained bumps) + length count) l
+  read-entries = items-read (entryField (length bumps)) entrySaid emptyEntry s (λ u base st. entry-again st (length bumps)) entries (5 + length (chained bumps) + length count) after-all entry-encoded
 
   whole-length : length s ≡ 5 + length (chained bumps) + length count + length (chained entries)
   whole-length = omega (arith, length-append (chained bumps) (count ++ chained entries), length-append count (chained entries))
 
-  beef-read : beefWhole room s ≡ got (record { bumps = read-bumps .0; entries = read-entries .0 }) (length s)
+  beef-read : beefWhole room s ≡ ok (record { bumps = read-bumps .0; entries = read-entries .0 }) (length s)
   beef-read =
       assembled room s (p .size) version-read count-read (read-bumps .1 .0) (read-bumps .1 .1) tx-count-read
       (ap (λ (n : ℕ). times (entryField (length bumps)) n s (5 + length (chained bumps) + length count)) (sym (length-map parts partBytes)) ∙ read-entries .1 .0) (sym whole-length)
@@ -217,7 +217,7 @@ module _ (room : ℕ) (bumps : List (List ℕ)) (count : List ℕ) (parts : List
   part-said : (k : ℕ) (x : Transaction) → k < length parts → Spells beefTxField (getD parts k noPart .raw) x
       → (txSaid (getD parts k noPart .raw) x, getD parts k noPart .anchor) ≡ entrySaid s (getD (read-entries .0) k emptyEntry)
   part-said k x h sp =
-      let e = part-spells (length bumps) (getD parts k noPart) x sp (λ n is. p .anchored k n h is) (p .bumps-low) in
+      let e = part-encodes (length bumps) (getD parts k noPart) x sp (λ n is. p .anchored k n h is) (p .bumps-low) in
       let says = read-entries .1 .2 k (omega (arith, length-map parts partBytes)) .says (e .0) in
       sym (e .2) ∙ (rw (entry-at k h) at says) (e .1)
 

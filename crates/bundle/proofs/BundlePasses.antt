@@ -8,17 +8,17 @@ use lib.ListN.{length, getD, take, length-map, length-take}
 use lib.Seq.{getD-take}
 use Rattle.format.specs.declared.beef.Anchor.{Anchor}
 use Rattle.format.specs.declared.beef.Anchor.the-variants.{Unanchored, Bump as InBump}
-use Rattle.format.specs.Parse.{got, pick, many, _passing_else_}
+use Rattle.format.specs.Parse.{ok, pick, many, _passing_else_}
 use Rattle.format.proofs.ParseLaws.{many-told, onward-told, passing-told}
 use Rattle.format.specs.Field.{bytes, le8, number, varint}
 use Rattle.format.proofs.Span.{bytes-told, varint-told, many-within}
 use Rattle.format.specs.Transaction.{scriptField, takes, outputField, outputsField}
 use Rattle.format.proofs.TransactionLaws.{TxRead, tx-told, output-told, taken-total}
-use Rattle.format.specs.Beef.{Entry, Beef}
+use Rattle.format.specs.Beef.{BeefEntry, Beef}
 use Rattle.format.proofs.BeefLaws.{BeefRead}
 use Rattle.format.specs.Refusals.{MAX-INPUT, MAX-TOTAL, BAD-AMOUNT, SAME-TX, NO-PARENT, NO-OUTPUT}
-use Rattle.bundle.specs.declared.judging.Standing.{Standing}
-use Rattle.bundle.specs.declared.judging.Standing.the-variants.{Refuses, Passes}
+use Rattle.bundle.specs.declared.judge.Ruling.{Ruling}
+use Rattle.bundle.specs.declared.judge.Ruling.the-variants.{Refuses, Passes}
 use Rattle.spv.specs.Result.{Result, accepted, refused, carrying, blaming}
 use Rattle.spv.specs.Hashes.{hashesOf, among}
 use Rattle.spv.proofs.RowsLaws.{map-at}
@@ -32,28 +32,28 @@ use Rattle.bundle.specs.Second.{faultIn}
 use Rattle.bundle.specs.Pass.{faultOf, settled}
 use Rattle.bundle.specs.Shown.{Shown, Answers}
 use Rattle.bundle.proofs.ShownLaws.{fault-taken}
-use Rattle.bundle.specs.Bundle.{rests, entryId, entryRow, standing, Judgement, judgeFrom, judgeEntries}
+use Rattle.bundle.specs.Bundle.{rests, entryId, entryRow, ruling, Judgement, judgeFrom, judgeEntries}
 use Rattle.bundle.proofs.BundleLaws.{from-same}
 use Rattle.bundle.specs.BundleHeads.{flagOf}
 use Rattle.bundle.proofs.BundleTheorems.{emptyEntry, take-map, ids-are, told-earlier}
-use Rattle.bundle.proofs.Phases.{also, passCount, two-passes, reachedFrom, count-reached, count-passes, from-less, firstAnchoring, firstStanding, standing-is}
+use Rattle.bundle.proofs.Phases.{also, passCount, two-passes, reachedFrom, count-reached, count-passes, from-less, firstAnchoring, firstRuling, ruling-is}
 
 -- ---- judged in two passes
 
 module _ (s roots : List ℕ) (b : Beef) where
   abbrev pub firstPass : Judgement
-  firstPass = judgeFrom (entryId s) (firstStanding s roots (b .bumps)) (entryRow s) [] (b .entries)
+  firstPass = judgeFrom (entryId s) (firstRuling s roots (b .bumps)) (entryRow s) [] (b .entries)
 
   -- how many pass the first
   abbrev pub passed : ℕ
   passed = reachedFrom 0 firstPass
 
-  abbrev byIds : List Payment → Entry → Standing
-  byIds earlier e = firstStanding s roots (b .bumps) (idsOf earlier) e
+  abbrev byIds : List Payment → BeefEntry → Ruling
+  byIds earlier e = firstRuling s roots (b .bumps) (idsOf earlier) e
 
   by-ids : judgeFrom (paymentOf s) byIds (entryRow s) [] (b .entries) ≡ firstPass
   unfolding paymentOf
-  by-ids = from-less (paymentOf s) (λ (t : Payment). t .id) (firstStanding s roots (b .bumps)) (entryRow s) [] (b .entries)
+  by-ids = from-less (paymentOf s) (λ (t : Payment). t .id) (firstRuling s roots (b .bumps)) (entryRow s) [] (b .entries)
 
   count-is : passCount (paymentOf s) byIds [] (b .entries) ≡ passed
   count-is = let z : passCount (paymentOf s) byIds [] (b .entries) ≡ 0 + passCount (paymentOf s) byIds [] (b .entries) = omega arith in z ∙ count-reached (paymentOf s) byIds (entryRow s) [] (b .entries) ∙ ap (reachedFrom 0) by-ids
@@ -61,13 +61,13 @@ module _ (s roots : List ℕ) (b : Beef) where
   pub in-two-passes : (fee : ℕ) → judgeEntries s roots fee b ≡ settled (faultIn (amounts fee) passed [] (map (paymentOf s) (b .entries))) firstPass
   unfolding judgeEntries
   in-two-passes fee =
-      from-same (paymentOf s) (paymentOf s) (standing s roots fee (b .bumps)) (λ earlier e. also (byIds earlier e) (amounts fee earlier (paymentOf s e))) (entryRow s) (entryRow s) emptyEntry [] (b .entries)
-      (λ k low. record { ids = refl; standings = λ earlier. standing-is s roots (b .bumps) fee earlier (getD (b .entries) k emptyEntry); rows = λ earlier a n i e. refl })
+      from-same (paymentOf s) (paymentOf s) (ruling s roots fee (b .bumps)) (λ earlier e. also (byIds earlier e) (amounts fee earlier (paymentOf s e))) (entryRow s) (entryRow s) emptyEntry [] (b .entries)
+      (λ k low. record { ids = refl; rulings = λ earlier. ruling-is s roots (b .bumps) fee earlier (getD (b .entries) k emptyEntry); rows = λ earlier a n i e. refl })
       ∙ two-passes (paymentOf s) byIds (amounts fee) (entryRow s) [] (b .entries)
       ∙ ap₂ (λ (k : ℕ) (j : Judgement). settled (faultIn (amounts fee) k [] (map (paymentOf s) (b .entries))) j) count-is by-ids
 
-  first-new : (ids : List (List ℕ)) (e : Entry) (a n i : ℕ) → firstStanding s roots (b .bumps) ids e ≡ Passes a n i → among (entryId s e) ids ≡ false
-  unfolding firstStanding
+  first-new : (ids : List (List ℕ)) (e : BeefEntry) (a n i : ℕ) → firstRuling s roots (b .bumps) ids e ≡ Passes a n i → among (entryId s e) ids ≡ false
+  unfolding firstRuling
   first-new ids e a n i h = go (among (entryId s e) ids) h
     where
       go : (t : Bool) → pick t (Refuses (carrying SAME-TX 0)) (firstAnchoring s roots (b .bumps) ids e (e .anchor)) ≡ Passes a n i → t ≡ false
@@ -83,7 +83,7 @@ module _ (s roots : List ℕ) (b : Beef) where
 
 -- ---- what is known of outputs that were read
 
-outputs-modest : (s : List ℕ) (n t at : ℕ) {l : List ℕ} {q : ℕ} → many (λ t. outputField (takes true t)) _+_ n t s at ≡ got l q → t ≤ MAX-TOTAL → t + total l ≤ MAX-TOTAL
+outputs-modest : (s : List ℕ) (n t at : ℕ) {l : List ℕ} {q : ℕ} → many (λ t. outputField (takes true t)) _+_ n t s at ≡ ok l q → t ≤ MAX-TOTAL → t + total l ≤ MAX-TOTAL
 unfolding many total
 outputs-modest s zero t at {l} e h = let none : [] ≡ l = cc in rw (← none) (omega arith)
 outputs-modest s (suc n) t at {l} e h =
@@ -93,7 +93,7 @@ outputs-modest s (suc n) t at {l} e h =
     let rest = outputs-modest s n (t + x .0) (x .1) (x .4) fits in
     rw (← x .5) (omega arith)
 
-output-long : (s : List ℕ) (t at : ℕ) {a q : ℕ} → outputField (takes true t) s at ≡ got a q → at + 9 ≤ q
+output-long : (s : List ℕ) (t at : ℕ) {a q : ℕ} → outputField (takes true t) s at ≡ ok a q → at + 9 ≤ q
 unfolding outputField scriptField
 output-long s t at {a} {q} e =
     let x = onward-told ((number le8 8 passing (takes true t) else BAD-AMOUNT) s at) _ e in
@@ -108,7 +108,7 @@ output-long s t at {a} {q} e =
     let end : y .1 ≡ q = cc in
     omega (arith, b8 .next-is, run .next-is, w .0)
 
-outputs-long : (s : List ℕ) (n t at : ℕ) {l : List ℕ} {q : ℕ} → many (λ t. outputField (takes true t)) _+_ n t s at ≡ got l q → at + 9 * n ≤ q
+outputs-long : (s : List ℕ) (n t at : ℕ) {l : List ℕ} {q : ℕ} → many (λ t. outputField (takes true t)) _+_ n t s at ≡ ok l q → at + 9 * n ≤ q
 unfolding many
 outputs-long s zero t at {l} {q} e = let z : at ≡ q = cc in omega arith
 outputs-long s (suc n) t at e =
@@ -117,7 +117,7 @@ outputs-long s (suc n) t at e =
     let rest = outputs-long s n (t + x .0) (x .1) (x .4) in
     omega arith
 
-output-inside : (s : List ℕ) (t at : ℕ) {a q : ℕ} → outputField (takes true t) s at ≡ got a q → q ≤ length s
+output-inside : (s : List ℕ) (t at : ℕ) {a q : ℕ} → outputField (takes true t) s at ≡ ok a q → q ≤ length s
 unfolding outputField scriptField
 output-inside s t at {a} {q} e =
     let x = onward-told ((number le8 8 passing (takes true t) else BAD-AMOUNT) s at) _ e in
@@ -127,7 +127,7 @@ output-inside s t at {a} {q} e =
     let end : y .1 ≡ q = cc in
     omega (arith, run .next-is, run .inside)
 
-outputs-inside : (s : List ℕ) (n t at : ℕ) {l : List ℕ} {q : ℕ} → 1 ≤ n → many (λ t. outputField (takes true t)) _+_ n t s at ≡ got l q → q ≤ length s
+outputs-inside : (s : List ℕ) (n t at : ℕ) {l : List ℕ} {q : ℕ} → 1 ≤ n → many (λ t. outputField (takes true t)) _+_ n t s at ≡ ok l q → q ≤ length s
 unfolding many
 outputs-inside s zero t at h e = absurd (omega arith)
 outputs-inside s (suc n) t at {q = q} h e =
@@ -135,10 +135,10 @@ outputs-inside s (suc n) t at {q = q} h e =
     let first = output-told (takes true t) s at (x .3) in
     go n (x .1) (inside (x .3)) (t + x .0) (x .4)
   where
-    inside : {a r : ℕ} → outputField (takes true t) s at ≡ got a r → r ≤ length s
+    inside : {a r : ℕ} → outputField (takes true t) s at ≡ ok a r → r ≤ length s
     inside f = output-inside s t at f
 
-    go : (n r : ℕ) → r ≤ length s → (st : ℕ) {m : List ℕ} → many (λ t. outputField (takes true t)) _+_ n st s r ≡ got m q → q ≤ length s
+    go : (n r : ℕ) → r ≤ length s → (st : ℕ) {m : List ℕ} → many (λ t. outputField (takes true t)) _+_ n st s r ≡ ok m q → q ≤ length s
     go n r low st f = many-within (λ t. outputField (takes true t)) _+_ s (λ st at′ a r′ g. output-told (takes true st) s at′ g .1) n st r f .inside low
 
 count-bound : (l : List Payment) → ((k : ℕ) → k < length l → 9 * length (getD l k noPayment .outputs) ≤ MAX-INPUT) → 9 * outputCount l ≤ length l * MAX-INPUT
@@ -149,7 +149,7 @@ count-bound (t ∷ l) f = let a : 9 * length (t .outputs) ≤ MAX-INPUT = f 0 (o
 -- ---- what the first pass leaves in the flat form is what the second goes by
 
 module _ (s roots : List ℕ) (room : ℕ) (b : Beef) (read : BeefRead room s b) where
-  abbrev nth : ℕ → Entry
+  abbrev nth : ℕ → BeefEntry
   nth k = getD (b .entries) k emptyEntry
 
   -- the first n are in the flat form

@@ -8,15 +8,15 @@ use native.Mathlib.Nat.{mod-eq-of-lt}
 use lib.ListN.{length, getD, take, length-map, length-take}
 use lib.Seq.{take-all, ext-getD, getD-take}
 use borrow.Author.Tests.{lt-ltb, lt-leb, le-leb, eq-eqb, ne-eqb}
-use Rattle.format.specs.Parse.{many, times, each, got, bad, pick}
-use Rattle.format.proofs.ParseLaws.{many-told, each-got, each-bad}
+use Rattle.format.specs.Parse.{many, times, each, ok, fault, pick}
+use Rattle.format.proofs.ParseLaws.{many-told, each-ok, each-fault}
 use Rattle.format.specs.Bytes.{hashAt}
 use Rattle.path.specs.Path.{bumpPathOf}
 use Rattle.format.specs.Bump.{headOf}
 use Rattle.format.proofs.BumpLaws.{BumpRead, bump-told}
 use Rattle.format.specs.Padded.{padded}
 use Rattle.format.proofs.Gather.{padded-at}
-use Rattle.format.specs.Beef.{Entry, Beef, entryField, beefWhole}
+use Rattle.format.specs.Beef.{BeefEntry, Beef, entryField, beefWhole}
 use Rattle.format.specs.BeefAnswer.{noBump, entryHeadOf, firstAt, beefHeadOf, headsOf}
 use Rattle.format.proofs.BeefLaws.{BeefRead, EntryRead, beef-told, heads-read}
 use Rattle.format.proofs.TransactionLaws.{TxRead, tx-told}
@@ -26,10 +26,10 @@ use Rattle.format.specs.declared.beef.BeefHead.{BeefHead}
 use Rattle.format.specs.declared.beef.Anchor.{Anchor}
 use Rattle.format.specs.declared.beef.Anchor.the-variants.{Unanchored, Bump as InBump}
 use Rattle.format.specs.Refusals.{MAX-BUMPS, MAX-INPUT, NO-PARENT, SAME-TX, BAD-INDEX, TOO-LONG, BAD-ROOTS, MAX-TXS, U32}
-use Rattle.format.specs.declared.tx.Input.{Input}
+use Rattle.format.specs.declared.transaction.Input.{Input}
 use Rattle.format.specs.declared.beef.EntryHead.{EntryHead}
 use Rattle.format.specs.Transaction.{inputField, outputsField, txHeadOf}
-use Rattle.bundle.specs.declared.judging.Standing.the-variants.{Refuses, Passes}
+use Rattle.bundle.specs.declared.judge.Ruling.the-variants.{Refuses, Passes}
 use Rattle.bundle.specs.declared.table.Record.{Record}
 use Rattle.format.proofs.IdLaws.{tx-hash, span-length}
 use Rattle.spv.specs.declared.rejection.Rejection.{Rejection}
@@ -42,22 +42,22 @@ use Rattle.bundle.specs.declared.pass.Fault.{Fault}
 use Rattle.bundle.specs.Amounts.{total}
 use Rattle.bundle.specs.Pass.{faultOf, settled}
 use Rattle.bundle.specs.Shown.{Answers}
-use Rattle.bundle.specs.declared.judging.Verdict.{Verdict}
-use Rattle.bundle.specs.declared.judging.Verdict.the-variants.{Accepted, Refused}
+use Rattle.bundle.specs.declared.judge.Verdict.{Verdict}
+use Rattle.bundle.specs.declared.judge.Verdict.the-variants.{Accepted, Refused}
 use Rattle.bundle.proofs.TableLaws.{flat-length}
 use Rattle.bundle.specs.Bundle.{rests, trusted, proving, nthBump, emptyBump, entryId, entryRow, judgeFrom, judgeEntries, judgeRead, judgeBeef, judgeUpTo}
 use Rattle.bundle.proofs.BundleTheorems.{emptyEntry, take-map, trusted-told}
 use Rattle.bundle.proofs.BundleLaws.{from-map, from-same}
-use Rattle.bundle.specs.BundleHeads.{restsFrom, headTotal, headProving, headAnchoring, headStanding, headId, headStands, headRow, headsFrom, numbersOf, noHead, RowIs, Written}
+use Rattle.bundle.specs.BundleHeads.{restsFrom, headTotal, headProving, headAnchoring, headRuling, headId, headStands, headRow, headsFrom, numbersOf, noHead, RowIs, Written}
 use Rattle.bundle.proofs.BundleHeadLaws.{total-again}
 use Rattle.bundle.specs.BundleAnswer.{judgementOf, reachedBy}
-use Rattle.bundle.proofs.Phases.{reachedFrom, firstAnchoring, firstStanding}
+use Rattle.bundle.proofs.Phases.{reachedFrom, firstAnchoring, firstRuling}
 use Rattle.bundle.proofs.BundlePasses.{firstPass, passed, Filled, judged-in-two}
 
 -- ---- one transaction
 
 -- inputs that were read are the same when they are read again
-rests-again : (s : List ℕ) (ids : List (List ℕ)) (n at : ℕ) {l : List Input} {q : ℕ} → times inputField n s at ≡ got l q → restsFrom s ids n at ≡ rests s ids l
+rests-again : (s : List ℕ) (ids : List (List ℕ)) (n at : ℕ) {l : List Input} {q : ℕ} → times inputField n s at ≡ ok l q → restsFrom s ids n at ≡ rests s ids l
 unfolding many restsFrom rests
 rests-again s ids zero at {l} e = let none : [] ≡ l = cc in rw (← none)
 rests-again s ids (suc n) at {l} e =
@@ -69,7 +69,7 @@ rests-again s ids (suc n) at {l} e =
     both true a b e = e
     both false a b e = refl
 
-    again : (a : Input) (r : ℕ) (m : List Input) → inputField s at ≡ got a r → restsFrom s ids n r ≡ rests s ids m → a ∷ m ≡ l → restsFrom s ids (suc n) at ≡ rests s ids l
+    again : (a : Input) (r : ℕ) (m : List Input) → inputField s at ≡ ok a r → restsFrom s ids n r ≡ rests s ids m → a ∷ m ≡ l → restsFrom s ids (suc n) at ≡ rests s ids l
     again a r m h f is = rw (h, ← is) (both (among (hashAt s (a .parent)) ids) (restsFrom s ids n r) (rests s ids m) f)
 
 module _ (s roots : List ℕ) (room : ℕ) (b : Beef) (read : BeefRead room s b) where
@@ -77,7 +77,7 @@ module _ (s roots : List ℕ) (room : ℕ) (b : Beef) (read : BeefRead room s b)
   abbrev heads : List BumpHead
   heads = padded MAX-BUMPS noBump (map headOf (b .bumps))
 
-  abbrev nth : ℕ → Entry
+  abbrev nth : ℕ → BeefEntry
   nth k = getD (b .entries) k emptyEntry
 
   bump-read : (n : ℕ) → n < length (b .bumps) → (q : ℕ) × BumpRead s q (nthBump (b .bumps) n)
@@ -109,15 +109,15 @@ module _ (s roots : List ℕ) (room : ℕ) (b : Beef) (read : BeefRead room s b)
         ∙ ap (trusted roots n) (bump-path-proves s id (nthBump (b .bumps) n) (bump-read n few .1))
     anchors-agree earlier Unanchored h = ap (λ (t : Bool). pick t (Passes 0 0 0) (Refuses (carrying NO-PARENT 0))) (rests-again s earlier (length (nth k .transaction .inputs)) (nth k .transaction .inputsAt) (tx .inputs-read))
 
-    same-standing : (earlier : List (List ℕ)) → headStands s roots heads earlier (entryHeadOf (nth k)) ≡ firstStanding s roots (b .bumps) earlier (nth k)
-    unfolding headStanding firstStanding
-    same-standing earlier =
-        ap (λ (x : List ℕ). headStanding s roots heads earlier x (entryHeadOf (nth k))) same-id
+    same-ruling : (earlier : List (List ℕ)) → headStands s roots heads earlier (entryHeadOf (nth k)) ≡ firstRuling s roots (b .bumps) earlier (nth k)
+    unfolding headRuling firstRuling
+    same-ruling earlier =
+        ap (λ (x : List ℕ). headRuling s roots heads earlier x (entryHeadOf (nth k))) same-id
         ∙ ap (pick (among (entryId s (nth k)) earlier) (Refuses (carrying SAME-TX 0))) (anchors-agree earlier (nth k .anchor) refl)
 
     -- the mark and the BUMP's number fit the record's fields
-    fits : (earlier : List (List ℕ)) (a n i : ℕ) → firstStanding s roots (b .bumps) earlier (nth k) ≡ Passes a n i → (a < U32) × (n < U32)
-    unfolding firstStanding firstAnchoring
+    fits : (earlier : List (List ℕ)) (a n i : ℕ) → firstRuling s roots (b .bumps) earlier (nth k) ≡ Passes a n i → (a < U32) × (n < U32)
+    unfolding firstRuling firstAnchoring
     fits earlier a n i e = go (among (entryId s (nth k)) earlier) e
       where
         anchored : (x : Anchor) → nth k .anchor ≡ x → firstAnchoring s roots (b .bumps) earlier (nth k) x ≡ Passes a n i → (a < U32) × (n < U32)
@@ -141,7 +141,7 @@ module _ (s roots : List ℕ) (room : ℕ) (b : Beef) (read : BeefRead room s b)
         go true m = absurd (let z : _≡_ {A = ℕ} 0 1 = cc in omega arith)
         go false m = anchored (nth k .anchor) refl m
 
-    same-row : (earlier : List (List ℕ)) (a n i : ℕ) → firstStanding s roots (b .bumps) earlier (nth k) ≡ Passes a n i → headRow s (entryHeadOf (nth k)) a n i ≡ entryRow s (nth k) a n i
+    same-row : (earlier : List (List ℕ)) (a n i : ℕ) → firstRuling s roots (b .bumps) earlier (nth k) ≡ Passes a n i → headRow s (entryHeadOf (nth k)) a n i ≡ entryRow s (nth k) a n i
     unfolding entryRow flatHead
     same-row earlier a n i e =
         let f = fits earlier a n i e in
@@ -168,8 +168,8 @@ module _ (s roots : List ℕ) (room : ℕ) (b : Beef) (read : BeefRead room s b)
   pub heads-judged : judgeFrom (headId s) (headStands s roots heads) (headRow s) [] (map entryHeadOf (b .entries)) ≡ firstPass s roots b
   heads-judged =
       from-map entryHeadOf (headId s) (headStands s roots heads) (headRow s) [] (b .entries)
-      ∙ from-same (λ x. headId s (entryHeadOf x)) (entryId s) (λ ids x. headStands s roots heads ids (entryHeadOf x)) (firstStanding s roots (b .bumps)) (λ x. headRow s (entryHeadOf x)) (entryRow s) emptyEntry [] (b .entries)
-      (λ k low. record { ids = same-id k low; standings = same-standing k low; rows = same-row k low })
+      ∙ from-same (λ x. headId s (entryHeadOf x)) (entryId s) (λ ids x. headStands s roots heads ids (entryHeadOf x)) (firstRuling s roots (b .bumps)) (λ x. headRow s (entryHeadOf x)) (entryRow s) emptyEntry [] (b .entries)
+      (λ k low. record { ids = same-id k low; rulings = same-ruling k low; rows = same-row k low })
 
   -- what is written of heads is written of entries
   written-filled : {ids numbers : List ℕ} {n : ℕ} → Written s ids numbers (map entryHeadOf (b .entries)) n → Filled s roots room b read ids numbers n
@@ -206,14 +206,14 @@ module _ (s roots : List ℕ) (room : ℕ) (b : Beef) (read : BeefRead room s b)
 -- ---- a whole input
 
 -- transactions that were read are the same when they are read again
-pub heads-again : (bumps : ℕ) (s : List ℕ) (n at : ℕ) {l : List Entry} {q : ℕ} → times (entryField bumps) n s at ≡ got l q → headsFrom bumps s n at ≡ map entryHeadOf l
+pub heads-again : (bumps : ℕ) (s : List ℕ) (n at : ℕ) {l : List BeefEntry} {q : ℕ} → times (entryField bumps) n s at ≡ ok l q → headsFrom bumps s n at ≡ map entryHeadOf l
 unfolding many each headsFrom
 heads-again bumps s zero at {l} e = let none : [] ≡ l = cc in rw (← none)
 heads-again bumps s (suc n) at {l} e =
     let x = many-told {S = Unit {0}} (λ _. entryField bumps) (λ u _. u) n tt s at e in
     more (x .0) (x .1) (x .2) (x .3) (heads-again bumps s n (x .1) (x .4)) (x .5)
   where
-    more : (a : Entry) (r : ℕ) (m : List Entry) → entryField bumps s at ≡ got a r → headsFrom bumps s n r ≡ map entryHeadOf m → a ∷ m ≡ l → headsFrom bumps s (suc n) at ≡ map entryHeadOf l
+    more : (a : BeefEntry) (r : ℕ) (m : List BeefEntry) → entryField bumps s at ≡ ok a r → headsFrom bumps s n r ≡ map entryHeadOf m → a ∷ m ≡ l → headsFrom bumps s (suc n) at ≡ map entryHeadOf l
     more a r m h f is = rw (h, f, ← is)
 
 -- how many passed, by the verdict
@@ -233,21 +233,21 @@ module _ (s roots : List ℕ) (fee room : ℕ) where
     judge-roots h = simp (le-leb _ _ fits, ne-eqb _ _ h)
 
     module _ (even : length roots % 32 ≡ 0) where
-      pub judge-refused : (x : Refusal) → each beefHeadOf (beefWhole room s) ≡ bad (x .number) (x .place) → refused (refusedReading x) ≡ judgeBeef s roots fee room
+      pub judge-refused : (x : Refusal) → each beefHeadOf (beefWhole room s) ≡ fault (x .number) (x .place) → refused (refusedReading x) ≡ judgeBeef s roots fee room
       unfolding judgeUpTo judgeRead
-      judge-refused x e = simp (le-leb _ _ fits, eq-eqb _ _ even, each-bad beefHeadOf (beefWhole room s) e)
+      judge-refused x e = simp (le-leb _ _ fits, eq-eqb _ _ even, each-fault beefHeadOf (beefWhole room s) e)
 
-      pub judge-read : (h : BeefHead) (q : ℕ) {bumps : List BumpHead} → each beefHeadOf (beefWhole room s) ≡ got h q → bumps ≡ headsOf (beefWhole room s)
+      pub judge-read : (h : BeefHead) (q : ℕ) {bumps : List BumpHead} → each beefHeadOf (beefWhole room s) ≡ ok h q → bumps ≡ headsOf (beefWhole room s)
           → (v : Verdict) (ids numbers : List ℕ) (f : Fault)
           → judgementOf v ids numbers ≡ judgeFrom (headId s) (headStands s roots bumps) (headRow s) [] (headsFrom (h .bumps) s (h .transactions) (h .entries .at))
           → Written s ids numbers (headsFrom (h .bumps) s (h .transactions) (h .entries .at)) (reachedBy v) → Answers s ids numbers fee (reachedBy v) f
           → settled (faultOf f) (judgementOf v ids numbers) ≡ judgeBeef s roots fee room
       unfolding judgeUpTo judgeRead
       judge-read h q {bumps} e found v ids numbers f judged written answers =
-          let w = each-got beefHeadOf (beefWhole room s) e in
+          let w = each-ok beefHeadOf (beefWhole room s) e in
           outcome (w .0) (w .1) (w .2) (beef-told room s (w .1))
         where
-          outcome : (b : Beef) → beefWhole room s ≡ got b q → beefHeadOf b ≡ h → BeefRead room s b → settled (faultOf f) (judgementOf v ids numbers) ≡ judgeBeef s roots fee room
+          outcome : (b : Beef) → beefWhole room s ≡ ok b q → beefHeadOf b ≡ h → BeefRead room s b → settled (faultOf f) (judgementOf v ids numbers) ≡ judgeBeef s roots fee room
           outcome b g is read =
               let again : headsFrom (h .bumps) s (h .transactions) (h .entries .at) ≡ map entryHeadOf (b .entries) =
               ap (λ (k : BeefHead). headsFrom (k .bumps) s (k .transactions) (k .entries .at)) (sym is) ∙ heads-again (length (b .bumps)) s (length (b .entries)) (firstAt (b .entries)) (read .entries) in
@@ -262,27 +262,27 @@ module _ (s roots : List ℕ) (fee room : ℕ) where
               ∙ sym (simp (le-leb _ _ fits, eq-eqb _ _ even, g))
 
 -- a bundle that was read has no more transactions than the flat form
-pub read-few : (s : List ℕ) (room : ℕ) (h : BeefHead) (q : ℕ) → each beefHeadOf (beefWhole room s) ≡ got h q → h .transactions ≤ MAX-TXS
+pub read-few : (s : List ℕ) (room : ℕ) (h : BeefHead) (q : ℕ) → each beefHeadOf (beefWhole room s) ≡ ok h q → h .transactions ≤ MAX-TXS
 read-few s room h q e =
-    let w = each-got beefHeadOf (beefWhole room s) e in
+    let w = each-ok beefHeadOf (beefWhole room s) e in
     few (w .0) (w .2) (beef-told room s (w .1))
   where
     few : (b : Beef) → beefHeadOf b ≡ h → BeefRead room s b → h .transactions ≤ MAX-TXS
     few b is read = let low = read .entries-low in let same = ap (λ (k : BeefHead). k .transactions) is in omega arith
 
 -- nor more BUMPs than their heads have room
-pub read-low : (s : List ℕ) (room : ℕ) (h : BeefHead) (q : ℕ) → each beefHeadOf (beefWhole room s) ≡ got h q → h .bumps ≤ MAX-BUMPS
+pub read-low : (s : List ℕ) (room : ℕ) (h : BeefHead) (q : ℕ) → each beefHeadOf (beefWhole room s) ≡ ok h q → h .bumps ≤ MAX-BUMPS
 read-low s room h q e =
-    let w = each-got beefHeadOf (beefWhole room s) e in
+    let w = each-ok beefHeadOf (beefWhole room s) e in
     low (w .0) (w .2) (beef-told room s (w .1))
   where
     low : (b : Beef) → beefHeadOf b ≡ h → BeefRead room s b → h .bumps ≤ MAX-BUMPS
     low b is read = let few = read .bumps-low in let same = ap (λ (k : BeefHead). k .bumps) is in omega arith
 
 -- and all of them can be read again
-pub read-every : (s : List ℕ) (room : ℕ) (h : BeefHead) (q : ℕ) → each beefHeadOf (beefWhole room s) ≡ got h q → length (headsFrom (h .bumps) s (h .transactions) (h .entries .at)) ≡ h .transactions
+pub read-every : (s : List ℕ) (room : ℕ) (h : BeefHead) (q : ℕ) → each beefHeadOf (beefWhole room s) ≡ ok h q → length (headsFrom (h .bumps) s (h .transactions) (h .entries .at)) ≡ h .transactions
 read-every s room h q e =
-    let w = each-got beefHeadOf (beefWhole room s) e in
+    let w = each-ok beefHeadOf (beefWhole room s) e in
     every (w .0) (w .2) (beef-told room s (w .1))
   where
     every : (b : Beef) → beefHeadOf b ≡ h → BeefRead room s b → length (headsFrom (h .bumps) s (h .transactions) (h .entries .at)) ≡ h .transactions

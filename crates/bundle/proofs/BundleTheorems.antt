@@ -10,25 +10,25 @@ use native.Mathlib.Omega.{arith}
 use lib.ListN.{length, getD, take, length-take, length-map}
 use lib.Seq.{getD-take}
 use Rattle.format.proofs.Basics.{or-true}
-use Rattle.format.specs.declared.tx.Input.{Input}
+use Rattle.format.specs.declared.transaction.Input.{Input}
 use Rattle.format.specs.declared.beef.Anchor.{Anchor}
 use Rattle.format.specs.declared.beef.Anchor.the-variants.{Unanchored, Bump as InBump}
 use Rattle.format.specs.Parse.{pick}
 use Rattle.format.specs.Bytes.{same, hashAt}
 use Rattle.format.proofs.BytesLaws.{same-eq, eq-same}
-use Rattle.format.specs.Beef.{Entry, Beef}
+use Rattle.format.specs.Beef.{BeefEntry, Beef}
 use Rattle.format.specs.Refusals.{UNTRUSTED, SAME-TX, NO-PARENT}
-use Rattle.bundle.specs.declared.judging.Standing.the-variants.{Refuses, Passes}
+use Rattle.bundle.specs.declared.judge.Ruling.the-variants.{Refuses, Passes}
 use Rattle.bundle.specs.declared.table.Record.{Record}
 use Rattle.spv.specs.Result.{Result, accepted, refused, carrying}
-use Rattle.spv.specs.Compare.{Proof}
+use Rattle.spv.specs.Prove.{Proof}
 use Rattle.bundle.specs.Table.{blankRecord}
 use Rattle.spv.specs.Hashes.{hashesOf, among, Among}
 use Rattle.spv.proofs.HashesLaws.{among-told, told-among}
 use Rattle.bundle.specs.Amounts.{Payment, paymentOf, idsOf, isAnchored, exist, fresh, spends, enough, funded, passes, refuses}
 use Rattle.bundle.proofs.AmountLaws.{Funded, funded-told, told-funded}
 use Rattle.bundle.proofs.AmountsExactly.{Pays, funded-pays, pays-funded}
-use Rattle.bundle.specs.Bundle.{rests, trusted, proving, nthBump, entryId, standingOf, anchoring, standing, entryRow, judgeEntries}
+use Rattle.bundle.specs.Bundle.{rests, trusted, proving, nthBump, entryId, rulingOf, anchoring, ruling, entryRow, judgeEntries}
 use Rattle.bundle.proofs.BundleLaws.{accepted-passed, all-accepted}
 use Rattle.spv.proofs.RowsLaws.{map-at}
 use Rattle.bundle.specs.Payments.{noPayment, Different}
@@ -86,11 +86,11 @@ trusted-told roots m (accepted p) a n i e = go (among (p .root) (hashesOf roots)
     go false h e = absurd (let z : _≡_ {A = ℕ} 0 1 = cc in omega arith)
 
 -- a transaction that is not anchored passes in one way
-pub funded-only : (fee : ℕ) (earlier : List Payment) (t : Payment) (a n i : ℕ) → standingOf (funded fee earlier t) ≡ Passes a n i → (funded fee earlier t ≡ passes) × (a ≡ 0) × (n ≡ 0) × (i ≡ 0)
+pub funded-only : (fee : ℕ) (earlier : List Payment) (t : Payment) (a n i : ℕ) → rulingOf (funded fee earlier t) ≡ Passes a n i → (funded fee earlier t ≡ passes) × (a ≡ 0) × (n ≡ 0) × (i ≡ 0)
 unfolding funded
 funded-only fee earlier t a n i e = go (exist earlier (t .inputs)) (fresh (spends earlier) (t .inputs)) (enough fee earlier t) e
   where
-    go : (x y z : Bool) → standingOf (pick x (pick y (pick z passes (refuses 28)) (refuses 27)) (refuses 26)) ≡ Passes a n i → (pick x (pick y (pick z passes (refuses 28)) (refuses 27)) (refuses 26) ≡ passes) × (a ≡ 0) × (n ≡ 0) × (i ≡ 0)
+    go : (x y z : Bool) → rulingOf (pick x (pick y (pick z passes (refuses 28)) (refuses 27)) (refuses 26)) ≡ Passes a n i → (pick x (pick y (pick z passes (refuses 28)) (refuses 27)) (refuses 26) ≡ passes) × (a ≡ 0) × (n ≡ 0) × (i ≡ 0)
     go true true true e = (refl, cc, cc, cc)
     go true true false e = absurd (let z : _≡_ {A = ℕ} 0 1 = cc in omega arith)
     go true false z e = absurd (let z : _≡_ {A = ℕ} 0 1 = cc in omega arith)
@@ -102,7 +102,7 @@ told-trusted roots m v p e h = rw e (rw h)
 
 -- ---- a bundle
 
-abbrev pub emptyEntry : Entry
+abbrev pub emptyEntry : BeefEntry
 emptyEntry = record { transaction = record { start = 0; end = 0; inputsAt = 0; inputs = []; outputsAt = 0; outputs = [] }; anchor = Unanchored }
 
 pub take-map : {A B : Type 0} (f : A → B) (k : ℕ) (l : List A) → take k (map f l) ≡ map f (take k l)
@@ -111,13 +111,13 @@ take-map f (suc k) [] = refl
 take-map f (suc k) (x ∷ l) = ap (f x ∷_) (take-map f k l)
 
 -- what counts of transactions has their ids
-pub ids-are : (s : List ℕ) (l : List Entry) → idsOf (map (paymentOf s) l) ≡ map (entryId s) l
+pub ids-are : (s : List ℕ) (l : List BeefEntry) → idsOf (map (paymentOf s) l) ≡ map (entryId s) l
 unfolding paymentOf
 ids-are s [] = refl
 ids-are s (e ∷ l) = ap (entryId s e ∷_) (ids-are s l)
 
 module _ (s roots : List ℕ) (fee : ℕ) (b : Beef) where
-  abbrev pub nth : ℕ → Entry
+  abbrev pub nth : ℕ → BeefEntry
   nth k = getD (b .entries) k emptyEntry
 
   abbrev pub idAt : ℕ → List ℕ
@@ -168,7 +168,7 @@ module _ (s roots : List ℕ) (fee : ℕ) (b : Beef) where
 
   -- it passes after those before it
   abbrev PassesAt : ℕ → Type 0
-  PassesAt k = (a : ℕ) × (n : ℕ) × (i : ℕ) × (standing s roots fee (b .bumps) (before k) (nth k) ≡ Passes a n i)
+  PassesAt k = (a : ℕ) × (n : ℕ) × (i : ℕ) × (ruling s roots fee (b .bumps) (before k) (nth k) ≡ Passes a n i)
 
   child-of : (k : ℕ) → k < length (b .entries) → nth k .anchor ≡ Unanchored → rests s (ids k) (inputsAt k) ≡ true → funded fee (before k) (paymentOf s (nth k)) ≡ passes → Child k
   child-of k low u e f = record {
@@ -200,8 +200,8 @@ module _ (s roots : List ℕ) (fee : ℕ) (b : Beef) where
   As k a n i (inl m) = (a ≡ 1) × (n ≡ m .bump) × (i ≡ m .proof .position)
   As k a n i (inr c) = (a ≡ 0) × (n ≡ 0) × (i ≡ 0)
 
-  passed-stands : (k a n i : ℕ) → k < length (b .entries) → standing s roots fee (b .bumps) (before k) (nth k) ≡ Passes a n i → New k × ((w : Mined k ⊎ Child k) × As k a n i w)
-  unfolding standing anchoring
+  passed-stands : (k a n i : ℕ) → k < length (b .entries) → ruling s roots fee (b .bumps) (before k) (nth k) ≡ Passes a n i → New k × ((w : Mined k ⊎ Child k) × As k a n i w)
+  unfolding ruling anchoring
   passed-stands k a n i low e = go (among (idAt k) (ids k)) refl (rw (ids-are s (take k (b .entries))) at e)
     where
       new : among (idAt k) (ids k) ≡ false → New k
@@ -210,7 +210,7 @@ module _ (s roots : List ℕ) (fee : ℕ) (b : Beef) where
           let z : _≡_ {A = ℕ} 0 1 = cc in
           omega arith
 
-      child : nth k .anchor ≡ Unanchored → (t : Bool) → rests s (ids k) (inputsAt k) ≡ t → pick t (standingOf (funded fee (before k) (paymentOf s (nth k)))) (Refuses (carrying NO-PARENT 0)) ≡ Passes a n i → (w : Mined k ⊎ Child k) × As k a n i w
+      child : nth k .anchor ≡ Unanchored → (t : Bool) → rests s (ids k) (inputsAt k) ≡ t → pick t (rulingOf (funded fee (before k) (paymentOf s (nth k)))) (Refuses (carrying NO-PARENT 0)) ≡ Passes a n i → (w : Mined k ⊎ Child k) × As k a n i w
       child u true q h = by-funds (funded-only fee (before k) (paymentOf s (nth k)) a n i h)
         where
           by-funds : (funded fee (before k) (paymentOf s (nth k)) ≡ passes) × (a ≡ 0) × (n ≡ 0) × (i ≡ 0) → (w : Mined k ⊎ Child k) × As k a n i w
@@ -234,7 +234,7 @@ module _ (s roots : List ℕ) (fee : ℕ) (b : Beef) where
       f k low j a (ap (λ (t : Payment). t .id) (sym (payment-at j (omega arith))) ∙ e ∙ ap (λ (t : Payment). t .id) (payment-at k low))
 
   stands-passed : Different payments → (k : ℕ) → k < length (b .entries) → Stands k → PassesAt k
-  unfolding standing anchoring
+  unfolding ruling anchoring
   stands-passed different k low (new, w) = by (among (idAt k) (ids k)) refl w
     where
       ids-is : idsOf (before k) ≡ ids k
@@ -252,7 +252,7 @@ module _ (s roots : List ℕ) (fee : ℕ) (b : Beef) where
       )
       by false h (inr c) =
           let all : rests s (ids k) (inputsAt k) ≡ true = told-rests s (ids k) (inputsAt k) (λ m l. told-earlier (entryId s) (b .entries) emptyEntry k (omega arith) (hashAt s (getD (inputsAt k) m noInput .parent)) (c .parent m) (c .earlier m l) (c .named m l)) in
-          (0, 0, 0, rw (ids-is, h, c .unanchored) (rw (ids-is, all) (ap standingOf (told-funded fee (before k) (paymentOf s (nth k)) paid))))
+          (0, 0, 0, rw (ids-is, h, c .unanchored) (rw (ids-is, all) (ap rulingOf (told-funded fee (before k) (paymentOf s (nth k)) paid))))
         where
           paid : Funded fee (before k) (paymentOf s (nth k))
           paid = rw (take-map (paymentOf s) k (b .entries), payment-at k low) at (pays-funded fee payments k (omega (arith, low, length-map (b .entries) (paymentOf s))) (is-unanchored k low (c .unanchored)) different (c .pays))
@@ -267,7 +267,7 @@ module _ (s roots : List ℕ) (fee : ℕ) (b : Beef) where
       → New k × ((w : Mined k ⊎ Child k) × Recorded records k w)
   unfolding judgeEntries
   accepted-recorded records e k low =
-      let w = accepted-passed (paymentOf s) (standing s roots fee (b .bumps)) (entryRow s) emptyEntry blankRecord [] (b .entries) records e k low in
+      let w = accepted-passed (paymentOf s) (ruling s roots fee (b .bumps)) (entryRow s) emptyEntry blankRecord [] (b .entries) records e k low in
       let x = passed-stands k (w .flag) (w .bump) (w .position) low (w .passed) in
       (x .0, (x .1 .0, said (w .flag) (w .bump) (w .position) (x .1 .0) (x .1 .1) (w .recorded)))
     where
@@ -278,7 +278,7 @@ module _ (s roots : List ℕ) (fee : ℕ) (b : Beef) where
   pub stands-accepted : ((k : ℕ) → k < length (b .entries) → Stands k) → (records : List Record) × (judgeEntries s roots fee b ≡ accepted records)
   unfolding judgeEntries
   stands-accepted f =
-      all-accepted (paymentOf s) (standing s roots fee (b .bumps)) (entryRow s) emptyEntry blankRecord [] (b .entries) (λ k low. stands-passed (all-different (λ k low. f k low .0)) k low (f k low))
+      all-accepted (paymentOf s) (ruling s roots fee (b .bumps)) (entryRow s) emptyEntry blankRecord [] (b .entries) (λ k low. stands-passed (all-different (λ k low. f k low .0)) k low (f k low))
 
   -- what acceptance says of all: the ids differ
   pub accepted-different : (records : List Record) → judgeEntries s roots fee b ≡ accepted records → Different payments

@@ -11,11 +11,11 @@ use lib.ListN.{length, getD, take, drop, length-drop, take-append-drop, List·ge
 use lib.Seq.{paste, take-paste, length-paste, take-suc, take-add, take-take, length-take-le, getD-take, getD-append-add}
 use borrow.Author.Tests.{ltb-true, ltb-false}
 use Rattle.format.specs.declared.bump.BumpHead.{BumpHead}
-use Rattle.format.specs.declared.tx.TxHead.{TxHead}
+use Rattle.format.specs.declared.transaction.TxHead.{TxHead}
 use Rattle.format.specs.declared.beef.EntryHead.{EntryHead}
 use Rattle.format.specs.declared.beef.Anchor.{Anchor}
 use Rattle.format.specs.declared.beef.Anchor.the-variants.{Unanchored, Bump as InBump}
-use Rattle.format.specs.Parse.{each, got, bad, pick}
+use Rattle.format.specs.Parse.{each, ok, fault, pick}
 use Rattle.format.specs.Bytes.{hashAt}
 use Rattle.format.proofs.BytesLaws.{hash-there}
 use Rattle.format.specs.Beef.{entryField}
@@ -23,9 +23,9 @@ use Rattle.format.specs.BeefAnswer.{entryHeadOf}
 use Rattle.format.proofs.IdLaws.{span-length}
 use Rattle.format.specs.BeefAnswer.{noBump}
 use Rattle.format.specs.Refusals.{MAX-TXS, MAX-BUMPS, BAD-INDEX, SAME-TX, NO-PARENT}
-use Rattle.bundle.specs.declared.judging.Standing.the-variants.{Refuses, Passes}
+use Rattle.bundle.specs.declared.judge.Ruling.the-variants.{Refuses, Passes}
 use Rattle.bundle.specs.declared.table.Record.{Record}
-use Rattle.bundle.specs.declared.judging.Verdict.the-variants.{Accepted, Refused}
+use Rattle.bundle.specs.declared.judge.Verdict.the-variants.{Accepted, Refused}
 use Rattle.spv.specs.declared.rejection.Rejection.{Rejection}
 use Rattle.spv.specs.Result.{accepted, refused, carrying, blaming}
 use Rattle.bundle.specs.Table.{flatHead, flat, IDS-ROOM, NUMBERS-ROOM}
@@ -38,7 +38,7 @@ use Rattle.format.proofs.Basics.{one-less}
 use Rattle.spv.proofs.HashesLaws.{hashes-more, hashes-empty, taken-length}
 use Rattle.bundle.proofs.BundleLaws.{followed, followed-ahead, followed-none, from-refuses, from-passes, from-none}
 use Rattle.bundle.proofs.BundleTheorems.{trusted-told}
-use Rattle.bundle.specs.BundleHeads.{numbersOf, headTotal, restsFrom, headProving, headAnchoring, headStanding, headsFrom, headId, headStands, headRow, flagOf, noHead, RowIs, Written}
+use Rattle.bundle.specs.BundleHeads.{numbersOf, headTotal, restsFrom, headProving, headAnchoring, headRuling, headsFrom, headId, headStands, headRow, flagOf, noHead, RowIs, Written}
 use Rattle.bundle.specs.BundleAnswer.{judgementOf}
 
 -- ---- lists
@@ -107,7 +107,7 @@ row-new s numbers i e a m p low f = record {
 
 -- what is written of an anchor
 head-flag : (s roots : List ℕ) (bumps : List BumpHead) (earlier : List (List ℕ)) (e : EntryHead) (a m p : ℕ) → headStands s roots bumps earlier e ≡ Passes a m p → a ≡ flagOf (isAnchored (e .anchor))
-unfolding headStanding headAnchoring
+unfolding headRuling headAnchoring
 head-flag s roots bumps earlier e a m p t = go (among (headId s e) earlier) t
   where
     free : (r : Bool) → pick r (Passes 0 0 0) (Refuses (carrying NO-PARENT 0)) ≡ Passes a m p → a ≡ 0
@@ -176,14 +176,14 @@ module _ (s roots : List ℕ) (bumps : List BumpHead) (count n start : ℕ) wher
 
     module _ (few : n ≤ MAX-TXS) (low : i < n) where
       -- where all can be read the next one can
-      pub judging-reads : length all ≡ n → {k q : ℕ} → each entryHeadOf (entryField count s at) ≡ bad k q → ⊥
+      pub judging-reads : length all ≡ n → {k q : ℕ} → each entryHeadOf (entryField count s at) ≡ fault k q → ⊥
       unfolding headsFrom
       judging-reads every e =
           let none : rest i at ≡ [] = rw (one-less n i low) (rw e) in
           let left : length (drop i all) ≡ 0 = ap length (j .rest-is ∙ none) in
           omega (arith, length-drop i all)
 
-      module _ {e : EntryHead} {q : ℕ} (read : each entryHeadOf (entryField count s at) ≡ got e q) where
+      module _ {e : EntryHead} {q : ℕ} (read : each entryHeadOf (entryField count s at) ≡ ok e q) where
         next : rest i at ≡ e ∷ rest (i + 1) q
         unfolding headsFrom
         next = rw (one-less n i low) (rw read)

@@ -14,15 +14,15 @@ use mir.Syntax.{w8}
 use mir.Val.{Fits}
 use Rattle.format.specs.declared.beef.Anchor.{Anchor}
 use Rattle.format.specs.declared.beef.Anchor.the-variants.{Unanchored, Bump as InBump}
-use Rattle.format.specs.Parse.{Parse, Reader, got, bad, pick, pure, onward, given, at-start, many, times, _passing_else_}
-use Rattle.format.proofs.ParseLaws.{onward-told, passing-told, each-got, many-told, many-length, whole-told}
+use Rattle.format.specs.Parse.{Parse, Reader, ok, fault, pick, pure, onward, given, at-start, many, times, _passing_else_}
+use Rattle.format.proofs.ParseLaws.{onward-told, passing-told, each-ok, many-told, many-length, whole-told}
 use Rattle.format.proofs.Span.{Within, bytes-told, byte-told, varint-told, many-within}
 use Rattle.format.proofs.Whole.{whole-size, whole-ends}
 use Rattle.format.specs.Field.{bytes, byte, le2, le4, le8, number, announced, varint}
 use Rattle.format.specs.Bump.{Bump, bumpField}
 use Rattle.format.specs.Transaction.{Transaction, beefTxField}
 use Rattle.format.proofs.TransactionLaws.{tx-told}
-use Rattle.format.specs.Beef.{VERSION, Entry, Beef, versionField, bumpCountField, bumpsField, bumpsUpTo, txCountField, bumpNumberField, anchorField, entryField, entriesField, beefField, beefUpTo, beefWhole}
+use Rattle.format.specs.Beef.{VERSION, BeefEntry, Beef, versionField, bumpCountField, bumpsField, bumpsUpTo, txCountField, bumpNumberField, anchorField, entryField, entriesField, beefField, beefUpTo, beefWhole}
 use Rattle.format.proofs.BeefLaws.{bump-count-told, tx-count-told, anchor-told}
 use Rattle.format.specs.Refusals.{LONG-VARINT, OVER-LIMIT, BAD-FLAG, BAD-VERSION, BAD-INDEX, EMPTY, NO-ROOM, MAX-INPUT, MAX-BUMPS, MAX-TXS}
 use Rattle.bundle.specs.Bundle.{judgeBeef}
@@ -58,19 +58,19 @@ module _ (s : List ℕ) where
 
   -- what was read is spelled by its bytes alone
   cut : {A C : Type 0} (item : Reader A) (said : List ℕ → A → C) → ((u : List ℕ) (base : ℕ) → StandsIn u s base → Again u s base item item (said u) (said s))
-      → (at q : ℕ) (a : A) → item s at ≡ got a q → q ≤ length s → (at ≤ q) × ((b : A) × Spells item (slice at q) b × (said (slice at q) b ≡ said s a))
+      → (at q : ℕ) (a : A) → item s at ≡ ok a q → q ≤ length s → (at ≤ q) × ((b : A) × Spells item (slice at q) b × (said (slice at q) b ≡ said s a))
   cut item said moves at q a e low =
       let forth : at ≤ q = moves s 0 (stands-self s) .onwards .forth at q a e in
       let long = slice-length at q forth low in
       let end : q ≡ at + (q - at) = omega arith in
-      let x = moves (slice at q) at (slice-stands at q forth low) .within 0 (q - at) a (ap (item s) (add-zero at) ∙ e ∙ ap (got a) end) (omega arith) in
-      (forth, (x .0, x .1 ∙ ap (got (x .0)) (sym long), x .2))
+      let x = moves (slice at q) at (slice-stands at q forth low) .within 0 (q - at) a (ap (item s) (add-zero at) ∙ e ∙ ap (ok a) end) (omega arith) in
+      (forth, (x .0, x .1 ∙ ap (ok (x .0)) (sym long), x .2))
 
   -- ---- items, one after the other
 
   items-split : {A X : Type 0} (item : Reader A) (d : X) (text : X → List ℕ) (Is : X → Type 0)
-      → ((at q : ℕ) (a : A) → item s at ≡ got a q → q ≤ length s → (at ≤ q) × ((x : X) × Is x × (drop at s ≡ text x ++ drop q s)))
-      → (n at q : ℕ) (l : List A) → times item n s at ≡ got l q → q ≤ length s
+      → ((at q : ℕ) (a : A) → item s at ≡ ok a q → q ≤ length s → (at ≤ q) × ((x : X) × Is x × (drop at s ≡ text x ++ drop q s)))
+      → (n at q : ℕ) (l : List A) → times item n s at ≡ ok l q → q ≤ length s
       → (at ≤ q) × ((xs : List X) × (length xs ≡ n) × ((k : ℕ) → k < length xs → Is (getD xs k d)) × (drop at s ≡ chained (map text xs) ++ drop q s))
   unfolding many chained
   items-split item d text Is f zero at q l e low = let end : at ≡ q = cc in (omega arith, ([], refl, (λ k h. absurd (omega arith)), ap (λ (k : ℕ). drop k s) end))
@@ -86,31 +86,31 @@ module _ (s : List ℕ) where
 
   -- ---- a number below 253 takes one byte
 
-  small-told : (at : ℕ) {n q : ℕ} → varint s at ≡ got n q → n < 253 → (at < length s) × (getD s at 0 ≡ n) × (q ≡ at + 1)
+  small-told : (at : ℕ) {n q : ℕ} → varint s at ≡ ok n q → n < 253 → (at < length s) × (getD s at 0 ≡ n) × (q ≡ at + 1)
   unfolding varint
   small-told at {n} {q} e low = started (onward (byte s at) (λ a next. announced a s next)) refl e
     where
-      long : (value : List ℕ → ℕ → ℕ) (width least from : ℕ) → 253 ≤ least → (number value width passing (λ x. leb least x) else LONG-VARINT) s from ≡ got n q → ⊥
+      long : (value : List ℕ → ℕ → ℕ) (width least from : ℕ) → 253 ≤ least → (number value width passing (λ x. leb least x) else LONG-VARINT) s from ≡ ok n q → ⊥
       long value width least from h m = let x = leb-true least n (passing-told (number value width) (λ x. leb least x) LONG-VARINT s from m .1) in omega arith
 
       rest : (first from : ℕ) (a b c : Bool)
           → pick a (pure first)
           (pick b (number le2 2 passing (λ v. leb 253 v) else LONG-VARINT)
           (pick c (number le4 4 passing (λ v. leb 65536 v) else LONG-VARINT) (number le8 8 passing (λ v. leb 4294967296 v) else LONG-VARINT))) s from
-          ≡ got n q
+          ≡ ok n q
           → (first ≡ n) × (from ≡ q)
       rest first from true b c m = (cc, cc)
       rest first from false true c m = absurd (long le2 2 253 from (omega arith) m)
       rest first from false false true m = absurd (long le4 4 65536 from (omega arith) m)
       rest first from false false false m = absurd (long le8 8 4294967296 from (omega arith) m)
 
-      started : (p : Parse ℕ) → onward (byte s at) (λ a next. announced a s next) ≡ p → at-start at p ≡ got n q → (at < length s) × (getD s at 0 ≡ n) × (q ≡ at + 1)
-      started (got a r) h m =
+      started : (p : Parse ℕ) → onward (byte s at) (λ a next. announced a s next) ≡ p → at-start at p ≡ ok n q → (at < length s) × (getD s at 0 ≡ n) × (q ≡ at + 1)
+      started (ok a r) h m =
           let x = onward-told (byte s at) (λ a next. announced a s next) (h ∙ m) in
           let b = byte-told s at (x .2) in
           let y = rest (x .0) (x .1) (ltb (x .0) 253) (eqb (x .0) 253) (eqb (x .0) 254) (x .3) in
           (b .inside, sym (b .value-is) ∙ y .0, omega (arith, b .next-is, y .1))
-      started (bad n r) h m = absurd (let z : _≡_ {A = ℕ} 0 1 = cc in omega arith)
+      started (fault n r) h m = absurd (let z : _≡_ {A = ℕ} 0 1 = cc in omega arith)
 
   -- one byte, and what follows it
   byte-rest : (at v : ℕ) → at < length s → getD s at 0 ≡ v → drop at s ≡ (v ∷ []) ++ drop (at + 1) s
@@ -118,7 +118,7 @@ module _ (s : List ℕ) where
 
   -- ---- a transaction with its anchor
 
-  anchor-split : (bumps : ℕ) → bumps ≤ MAX-BUMPS → (at q : ℕ) (a : Anchor) → anchorField bumps s at ≡ got a q → (at ≤ q) × (q ≤ length s) × (drop at s ≡ anchorBytes a ++ drop q s)
+  anchor-split : (bumps : ℕ) → bumps ≤ MAX-BUMPS → (at q : ℕ) (a : Anchor) → anchorField bumps s at ≡ ok a q → (at ≤ q) × (q ≤ length s) × (drop at s ≡ anchorBytes a ++ drop q s)
   unfolding anchorField bumpNumberField anchorBytes
   anchor-split bumps few at q a e =
       let x = onward-told ((byte passing (λ b. leb b 1) else BAD-FLAG) s at) _ e in
@@ -126,7 +126,7 @@ module _ (s : List ℕ) where
       let b = byte-told s at (p .0) in
       chosen (x .0) (x .1) (b .inside) (sym (b .value-is)) (b .next-is) (leb-true (x .0) 1 (p .1)) (eqb (x .0) 0) refl (x .3)
     where
-      in-bump : (k : ℕ) → getD s at 0 ≡ 1 → at < length s → varint s (at + 1) ≡ got k q → k < bumps → InBump k ≡ a → (at ≤ q) × (q ≤ length s) × (drop at s ≡ anchorBytes a ++ drop q s)
+      in-bump : (k : ℕ) → getD s at 0 ≡ 1 → at < length s → varint s (at + 1) ≡ ok k q → k < bumps → InBump k ≡ a → (at ≤ q) × (q ≤ length s) × (drop at s ≡ anchorBytes a ++ drop q s)
       in-bump k mark inside v below is =
           let y = small-told (at + 1) v (omega arith) in
           let z = varint-told s (at + 1) v in (
@@ -136,24 +136,24 @@ module _ (s : List ℕ) where
           )
 
       chosen : (mark next : ℕ) → at < length s → getD s at 0 ≡ mark → next ≡ at + 1 → mark ≤ 1 → (t : Bool) → eqb mark 0 ≡ t
-          → pick t (pure Unanchored) (given InBump (varint passing (λ n. ltb n bumps) else BAD-INDEX)) s next ≡ got a q → (at ≤ q) × (q ≤ length s) × (drop at s ≡ anchorBytes a ++ drop q s)
+          → pick t (pure Unanchored) (given InBump (varint passing (λ n. ltb n bumps) else BAD-INDEX)) s next ≡ ok a q → (at ≤ q) × (q ≤ length s) × (drop at s ≡ anchorBytes a ++ drop q s)
       chosen mark next inside m n low true t f =
           let is : Unanchored ≡ a = cc in
           let end : next ≡ q = cc in
           let after : at + 1 ≡ q = omega arith in
           (omega arith, omega arith, rw (← is, ← after) (byte-rest at 0 inside (m ∙ eqb-true mark 0 t)))
       chosen mark next inside m n low false t f =
-          let y = each-got InBump ((varint passing (λ n. ltb n bumps) else BAD-INDEX) s next) f in
+          let y = each-ok InBump ((varint passing (λ n. ltb n bumps) else BAD-INDEX) s next) f in
           let p = passing-told varint (λ n. ltb n bumps) BAD-INDEX s next (y .1) in
           let one : mark ≡ 1 = (let z = eqb-false mark 0 t in omega arith) in
           in-bump (y .0) (m ∙ one) inside (ap (varint s) (sym n) ∙ p .0) (ltb-true _ _ (p .1)) (y .2)
 
-  entry-split : (bumps : ℕ) → bumps ≤ MAX-BUMPS → (at q : ℕ) (e : Entry) → entryField bumps s at ≡ got e q → (at ≤ q) × (q ≤ length s) × ((p : Part) × IsPart bumps p × (drop at s ≡ partBytes p ++ drop q s))
+  entry-split : (bumps : ℕ) → bumps ≤ MAX-BUMPS → (at q : ℕ) (e : BeefEntry) → entryField bumps s at ≡ ok e q → (at ≤ q) × (q ≤ length s) × ((p : Part) × IsPart bumps p × (drop at s ≡ partBytes p ++ drop q s))
   unfolding entryField
   entry-split bumps few at q e h =
       let x = onward-told (beefTxField s at) _ h in
       let y = onward-told (anchorField bumps s (x .1)) _ (x .3) in
-      let end : y .1 ≡ q = (let is : _≡_ {A = Parse Entry} (got (record { transaction = x .0; anchor = y .0 }) (y .1)) (got e q) = y .3 in cc) in
+      let end : y .1 ≡ q = (let is : _≡_ {A = Parse BeefEntry} (ok (record { transaction = x .0; anchor = y .0 }) (y .1)) (ok e q) = y .3 in cc) in
       let t = tx-told s at (x .2) in
       let c = cut beefTxField txSaid (λ u base st. tx-again st true) at (x .1) (x .0) (x .2) (t .inside) in
       let a = anchor-split bumps few (x .1) (y .1) (y .0) (y .2) in (
@@ -167,12 +167,12 @@ module _ (s : List ℕ) where
         ),
       )
 
-  entry-within : (bumps : ℕ) → bumps ≤ MAX-BUMPS → (at q : ℕ) (e : Entry) → entryField bumps s at ≡ got e q → Within s at q
+  entry-within : (bumps : ℕ) → bumps ≤ MAX-BUMPS → (at q : ℕ) (e : BeefEntry) → entryField bumps s at ≡ ok e q → Within s at q
   entry-within bumps few at q e h = let x = entry-split bumps few at q e h in record { forward = x .0; inside = λ _. x .1 }
 
   -- ---- the version
 
-  version-split : ((i : ℕ) → Fits w8 (getD s i 0)) → {v q : ℕ} → versionField s 0 ≡ got v q → (q ≡ 4) × (s ≡ versionBytes ++ drop 4 s)
+  version-split : ((i : ℕ) → Fits w8 (getD s i 0)) → {v q : ℕ} → versionField s 0 ≡ ok v q → (q ≡ 4) × (s ≡ versionBytes ++ drop 4 s)
   unfolding versionField
   version-split all {v} {q} e =
       let p = passing-told (number le4 4) (λ v. eqb v VERSION) BAD-VERSION s 0 e in
@@ -195,18 +195,18 @@ module _ (s : List ℕ) where
 
 -- ---- a bundle
 
-bump-number : (s : List ℕ) (at : ℕ) {n q : ℕ} → bumpCountField s at ≡ got n q → varint s at ≡ got n q
+bump-number : (s : List ℕ) (at : ℕ) {n q : ℕ} → bumpCountField s at ≡ ok n q → varint s at ≡ ok n q
 unfolding bumpCountField
 bump-number s at e = passing-told varint (λ n. leb n MAX-BUMPS) OVER-LIMIT s at e .0
 
-tx-number : (room : ℕ) (s : List ℕ) (at : ℕ) {n q : ℕ} → txCountField room s at ≡ got n q → varint s at ≡ got n q
+tx-number : (room : ℕ) (s : List ℕ) (at : ℕ) {n q : ℕ} → txCountField room s at ≡ ok n q → varint s at ≡ ok n q
 unfolding txCountField
 tx-number room s at e =
     let a = passing-told ((varint passing (λ n. leb n MAX-TXS) else OVER-LIMIT) passing (λ n. leb 1 n) else EMPTY) (λ n. leb n room) NO-ROOM s at e in
     let b = passing-told (varint passing (λ n. leb n MAX-TXS) else OVER-LIMIT) (λ n. leb 1 n) EMPTY s at (a .0) in
     passing-told varint (λ n. leb n MAX-TXS) OVER-LIMIT s at (b .0) .0
 
-bumps-split : (s : List ℕ) (n at q : ℕ) (l : List Bump) → times bumpField n s at ≡ got l q → q ≤ length s
+bumps-split : (s : List ℕ) (n at q : ℕ) (l : List Bump) → times bumpField n s at ≡ ok l q → q ≤ length s
     → (ws : List (List ℕ)) × (length ws ≡ n) × ((k : ℕ) → k < length ws → (x : Bump) × Spells bumpField (getD ws k []) x) × (drop at s ≡ chained ws ++ drop q s)
 bumps-split s n at q l e low =
     let x = items-split s bumpField [] (λ (w : List ℕ). w) (λ (w : List ℕ). (x : Bump) × Spells bumpField w x)
@@ -252,7 +252,7 @@ split-of room s n m bumps count parts r₁ r₂ r₃ size few low nb bump counte
     }
 
 -- every slice of u8 that is read as a bundle has them
-pub every-bundle : (room : ℕ) (s : List ℕ) (b : Beef) (q : ℕ) → ((i : ℕ) → Fits w8 (getD s i 0)) → beefWhole room s ≡ got b q → Split room s
+pub every-bundle : (room : ℕ) (s : List ℕ) (b : Beef) (q : ℕ) → ((i : ℕ) → Fits w8 (getD s i 0)) → beefWhole room s ≡ ok b q → Split room s
 unfolding beefUpTo bumpsUpTo entriesField
 every-bundle room s b q all e =
     let v = onward-told (versionField s 0) _ (whole-told (beefField room) s e) in
@@ -260,12 +260,12 @@ every-bundle room s b q all e =
     let c = onward-told (bumpCountField s (v .1)) _ (l .2) in
     let n = onward-told (entriesField (length (l .0)) room s (l .1)) _ (l .3) in
     let t = onward-told (txCountField room s (l .1)) _ (n .2) in
-    let end : n .1 ≡ q = (let is : _≡_ {A = Parse Beef} (got (record { bumps = l .0; entries = n .0 }) (n .1)) (got b q) = n .3 in cc) in
+    let end : n .1 ≡ q = (let is : _≡_ {A = Parse Beef} (ok (record { bumps = l .0; entries = n .0 }) (n .1)) (ok b q) = n .3 in cc) in
     read-as (v .1) (c .0) (c .1) (l .1) (t .0) (t .1) (n .1) (l .0) (n .0) (version-split s all (v .2)) (c .2) (c .3) (t .2) (t .3) (omega (arith, whole-ends (beefField room) s e, end))
   where
     -- version, BUMP count, BUMPs, transaction count, transactions, each from its place to the next
-    read-as : (p₀ n p₁ p₂ m p₃ p₄ : ℕ) (ls : List Bump) (es : List Entry) → (p₀ ≡ 4) × (s ≡ versionBytes ++ drop 4 s) → bumpCountField s p₀ ≡ got n p₁ → times bumpField n s p₁ ≡ got ls p₂
-        → txCountField room s p₂ ≡ got m p₃ → times (entryField (length ls)) m s p₃ ≡ got es p₄ → length s ≤ p₄ → Split room s
+    read-as : (p₀ n p₁ p₂ m p₃ p₄ : ℕ) (ls : List Bump) (es : List BeefEntry) → (p₀ ≡ 4) × (s ≡ versionBytes ++ drop 4 s) → bumpCountField s p₀ ≡ ok n p₁ → times bumpField n s p₁ ≡ ok ls p₂
+        → txCountField room s p₂ ≡ ok m p₃ → times (entryField (length ls)) m s p₃ ≡ ok es p₄ → length s ≤ p₄ → Split room s
     read-as p₀ n p₁ p₂ m p₃ p₄ ls es version ec eb et ee last =
         let few = bump-count-told s p₀ ec in
         let low = tx-count-told room s p₂ et in
@@ -296,20 +296,20 @@ pub record Unused (room : ℕ) (s roots : List ℕ) (fee : ℕ) : Type 0 where
       → judgeBeef (bundleBytes (take m (split .bumps) ++ extra ∷ drop m (split .bumps)) (split .count) (map (renumberedPart m) (split .parts))) roots fee room
       ≡ eachRecord (later m (length extra)) (judgeBeef s roots fee room)
 
-pub unused-everywhere : (room : ℕ) (s roots : List ℕ) (fee : ℕ) (b : Beef) (q : ℕ) → ((i : ℕ) → Fits w8 (getD s i 0)) → beefWhole room s ≡ got b q → Unused room s roots fee
+pub unused-everywhere : (room : ℕ) (s roots : List ℕ) (fee : ℕ) (b : Beef) (q : ℕ) → ((i : ℕ) → Fits w8 (getD s i 0)) → beefWhole room s ≡ ok b q → Unused room s roots fee
 unused-everywhere room s roots fee b q all e = let y = every-bundle room s b q all e in record { split = y; alike = one-more (y .bumps) (y .count) (y .parts) (y .valid) (y .is) }
   where
     one-more : (bumps : List (List ℕ)) (count : List ℕ) (parts : List Part) → Parts room bumps count parts → bundleBytes bumps count parts ≡ s → (m : ℕ) (extra : List ℕ) (x : Bump) → m ≤ length bumps
         → Spells bumpField extra x → length bumps < MAX-BUMPS
         → length (bundleBytes (take m bumps ++ extra ∷ drop m bumps) count (map (renumberedPart m) parts)) ≤ MAX-INPUT
         → judgeBeef (bundleBytes (take m bumps ++ extra ∷ drop m bumps) count (map (renumberedPart m) parts)) roots fee room ≡ eachRecord (later m (length extra)) (judgeBeef s roots fee room)
-    one-more bumps count parts valid is m extra x h spells few size =
+    one-more bumps count parts valid is m extra x h encodeAll few size =
         let whole : take m bumps ++ drop m bumps ≡ bumps = take-append-drop m bumps in
         let long : length (take m bumps) ≡ m = length-take m bumps ∙ min-eq-left h in
         let more : List (List ℕ) = take m bumps ++ extra ∷ drop m bumps in
         let Alike : ℕ → List (List ℕ) → Type 0 = λ n l. length (bundleBytes more count (map (renumberedPart n) parts)) ≤ MAX-INPUT
         → judgeBeef (bundleBytes more count (map (renumberedPart n) parts)) roots fee room ≡ eachRecord (later n (length extra)) (judgeBeef (bundleBytes l count parts) roots fee room) in
         let r : Alike (length (take m bumps)) (take m bumps ++ drop m bumps) =
-        unused-bump room roots fee (take m bumps) (drop m bumps) extra count parts x (subst (λ (l : List (List ℕ)). Parts room l count parts) (sym whole) valid) spells
+        unused-bump room roots fee (take m bumps) (drop m bumps) extra count parts x (subst (λ (l : List (List ℕ)). Parts room l count parts) (sym whole) valid) encodeAll
         (subst (λ (l : List (List ℕ)). length l < MAX-BUMPS) (sym whole) few) in
         subst (Alike m) whole (subst (λ (n : ℕ). Alike n (take m bumps ++ drop m bumps)) long r) size ∙ ap (λ (l : List ℕ). eachRecord (later m (length extra)) (judgeBeef l roots fee room)) is

@@ -4,7 +4,7 @@ use mathlib.Core.Path.{_≡_, refl}
 use mathlib.Core.Bool.{true, false}
 use mathlib.Core.List.{List, [], _∷_}
 use Rattle.format.specs.Bytes.{same}
-use Rattle.bundle.specs.Amounts.{Outpoint, Payment, Standing, passes, refuses, total, outputsOf, exist, sameOutput, spent, fresh, spends, worth, worths, enough, funded, anchoredTotal, kept, unspent, unspentTotal, lefts}
+use Rattle.bundle.specs.Amounts.{Outpoint, Payment, AmountRuling, passes, refuses, total, outputsOf, exist, sameOutput, spent, fresh, spends, worth, worths, enough, funded, anchoredTotal, kept, unspent, unspentTotal, lefts}
 
 abbrev from : ℕ → ℕ → Outpoint
 from x n = record { parent = x ∷ []; output = n }
@@ -15,7 +15,7 @@ mined = record { id = 1 ∷ []; anchored = true; outputs = 1000 ∷ []; inputs =
 abbrev child : List Outpoint → ℕ → Payment
 child inputs v = record { id = 2 ∷ []; anchored = false; outputs = v ∷ []; inputs = inputs }
 
-abbrev asked : ℕ → List Payment → List Outpoint → ℕ → Standing
+abbrev asked : ℕ → List Payment → List Outpoint → ℕ → AmountRuling
 asked fee earlier inputs v = funded fee earlier (child inputs v)
 
 -- spent twice within one transaction; a number that is not there comes first; spent by an earlier one; what an anchored one spends is not looked at

@@ -7,9 +7,9 @@ use native.Mathlib.Omega.{arith}
 use lib.Dec.{ltb}
 use lib.ListN.{length, getD}
 use borrow.Author.Tests.{ltb-true, ltb-false, lt-ltb, le-ltb}
-use Rattle.format.specs.declared.tx.Input.{Input}
+use Rattle.format.specs.declared.transaction.Input.{Input}
 use Rattle.format.proofs.Basics.{one-less}
-use Rattle.format.specs.Parse.{got, bad, pick, many, times}
+use Rattle.format.specs.Parse.{ok, fault, pick, many, times}
 use Rattle.format.proofs.ParseLaws.{many-told}
 use Rattle.format.specs.Bytes.{same, hashAt}
 use Rattle.format.specs.Field.{le4}
@@ -25,7 +25,7 @@ use Rattle.bundle.proofs.PicturedLaws.{four-there}
 -- ---- a loop over inputs: i of n are passed
 
 module _ (s : List ℕ) (ids : List (List ℕ)) (numbers : List ℕ) (n i at : ℕ) where
-  pub exist-refused : {k q : ℕ} → i < n → inputField s at ≡ bad k q → existFrom s ids numbers (n - i) at ≡ false
+  pub exist-refused : {k q : ℕ} → i < n → inputField s at ≡ fault k q → existFrom s ids numbers (n - i) at ≡ false
   unfolding existFrom
   exist-refused low e = rw (one-less n i low) (rw e)
 
@@ -33,7 +33,7 @@ module _ (s : List ℕ) (ids : List (List ℕ)) (numbers : List ℕ) (n i at : �
   unfolding existFrom
   exist-end past = let none : n - i ≡ 0 = omega arith in rw none
 
-  module _ (distinct : Distinct ids) (low : i < n) {input : Input} {q : ℕ} (read : inputField s at ≡ got input q) {x : List ℕ} (is : x ≡ hashAt s (input .parent)) {p v c : ℕ} (finds : Finds x ids p)
+  module _ (distinct : Distinct ids) (low : i < n) {input : Input} {q : ℕ} (read : inputField s at ≡ ok input q) {x : List ℕ} (is : x ≡ hashAt s (input .parent)) {p v c : ℕ} (finds : Finds x ids p)
       (four : v ≡ fourAt s (input .output)) (count : c ≡ outputsAt ids numbers p) where
     test : ltb v c ≡ ltb (fourAt s (input .output)) (outputsAt ids numbers (indexOf (hashAt s (input .parent)) ids))
     test = ap₂ ltb four (count ∙ ap (outputsAt ids numbers) (finds-index x ids p distinct finds ∙ ap (λ (h : List ℕ). indexOf h ids) is))
@@ -75,7 +75,7 @@ outputs-of (t ∷ l) x counts f = go (same (t .id) x) (outputs-of l x (λ k. cou
     go false e = ap (λ (b : Bool). pick b (counts (suc (indexOf x (idsOf l)))) 0) (shift (indexOf x (idsOf l)) (length (idsOf l))) ∙ e
 
 pub exist-is : (s : List ℕ) (l : List Payment) (numbers : List ℕ) → ((k : ℕ) → k < length l → column numbers 5 k ≡ length (getD l k noPayment .outputs))
-    → (n at : ℕ) {raw : List Input} {q : ℕ} → times inputField n s at ≡ got raw q → existFrom s (idsOf l) numbers n at ≡ exist l (map (outpointOf s) raw)
+    → (n at : ℕ) {raw : List Input} {q : ℕ} → times inputField n s at ≡ ok raw q → existFrom s (idsOf l) numbers n at ≡ exist l (map (outpointOf s) raw)
 unfolding existFrom exist many outputsAt
 exist-is s l numbers f zero at {raw} e = let none : [] ≡ raw = cc in rw (← none)
 exist-is s l numbers f (suc n) at {raw} {q} e =
@@ -86,7 +86,7 @@ exist-is s l numbers f (suc n) at {raw} {q} e =
     both true a b e = e
     both false a b e = refl
 
-    more : (a : Input) (r : ℕ) (rest : List Input) → inputField s at ≡ got a r → a ∷ rest ≡ raw → existFrom s (idsOf l) numbers n r ≡ exist l (map (outpointOf s) rest)
+    more : (a : Input) (r : ℕ) (rest : List Input) → inputField s at ≡ ok a r → a ∷ rest ≡ raw → existFrom s (idsOf l) numbers n r ≡ exist l (map (outpointOf s) rest)
         → existFrom s (idsOf l) numbers (suc n) at ≡ exist l (map (outpointOf s) raw)
     more a r rest read whole g =
         let told = input-told s at read in

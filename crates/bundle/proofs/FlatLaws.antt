@@ -10,18 +10,18 @@ use lib.Dec.{eqb, ltb}
 use lib.ListN.{length, getD, set, take, drop, replicate, List·getD-eq-default}
 use lib.Seq.{drop-drop}
 use borrow.Author.Tests.{le-leb, lt-ltb, ltb-true, ltb-false, lt-leb, le-ltb, eqb-true, eqb-false, eq-eqb, ne-eqb, not-true, not-false}
-use Rattle.format.specs.declared.tx.Input.{Input}
+use Rattle.format.specs.declared.transaction.Input.{Input}
 use Rattle.format.proofs.Basics.{one-less, or-true}
-use Rattle.format.specs.Parse.{got, bad, pick}
+use Rattle.format.specs.Parse.{ok, fault, pick}
 use Rattle.format.specs.Bytes.{same, hashAt}
 use Rattle.format.proofs.BytesLaws.{same-eq, eq-same}
 use Rattle.format.specs.Field.{le4, number}
 use Rattle.format.specs.Transaction.{inputField}
 use Rattle.spv.specs.Hashes.{hashes, hashesOf, among, indexOf, Distinct}
 use Rattle.spv.proofs.HashesLaws.{told-among}
-use Rattle.format.specs.declared.tx.Items.{Items}
+use Rattle.format.specs.declared.transaction.Items.{Items}
 use Rattle.bundle.specs.Windows.{inside, markOne, marked, markAll, twice, lesserIf, marksIn, firstIn}
-use Rattle.format.proofs.ParseLaws.{otherwise-got, otherwise-bad}
+use Rattle.format.proofs.ParseLaws.{otherwise-ok, otherwise-fault}
 use Rattle.format.specs.Refusals.{U32}
 use Rattle.bundle.specs.FlatForm.{column, inputsOf, listsFrom, Finds, fourAt, through, spentFrom}
 
@@ -130,13 +130,13 @@ pub through-at : (firsts : List ℕ) (p v : ℕ) → getD firsts p 0 % U32 + v %
 unfolding through
 through-at firsts p v = refl
 
-pub four-none : (s : List ℕ) (at : ℕ) {n q : ℕ} → number le4 4 s at ≡ bad n q → 0 ≡ fourAt s at
+pub four-none : (s : List ℕ) (at : ℕ) {n q : ℕ} → number le4 4 s at ≡ fault n q → 0 ≡ fourAt s at
 unfolding fourAt
-four-none s at e = sym (otherwise-bad 0 (λ v next. v) e)
+four-none s at e = sym (otherwise-fault 0 (λ v next. v) e)
 
-pub four-some : (s : List ℕ) (at : ℕ) {v q : ℕ} → number le4 4 s at ≡ got v q → v ≡ fourAt s at
+pub four-some : (s : List ℕ) (at : ℕ) {v q : ℕ} → number le4 4 s at ≡ ok v q → v ≡ fourAt s at
 unfolding fourAt
-four-some s at e = sym (otherwise-got 0 (λ v next. v) e)
+four-some s at e = sym (otherwise-ok 0 (λ v next. v) e)
 
 module _ (numbers : List ℕ) (k : ℕ) where
   pub inputs-anchored : (column numbers 3 k ≡ 0 → ⊥) → record { count = 0; at = record { at = column numbers 8 k } } ≡ inputsOf numbers k
@@ -174,7 +174,7 @@ module _ (s : List ℕ) (ids : List (List ℕ)) (firsts : List ℕ) (base size k
   abbrev spends : ℕ → ℕ → List ℕ
   spends i at = spentFrom s ids firsts (n - i) at
 
-  pub spent-refused : (i at : ℕ) {c q : ℕ} → inputField s at ≡ bad c q → spends i at ≡ []
+  pub spent-refused : (i at : ℕ) {c q : ℕ} → inputField s at ≡ fault c q → spends i at ≡ []
   unfolding spentFrom
   spent-refused i at e = go (n - i)
     where
@@ -186,7 +186,7 @@ module _ (s : List ℕ) (ids : List (List ℕ)) (firsts : List ℕ) (base size k
   unfolding spentFrom
   spent-end i at h = let none : n - i ≡ 0 = omega arith in rw none
 
-  pub spent-on : (i at : ℕ) {input : Input} {q : ℕ} → i < n → inputField s at ≡ got input q
+  pub spent-on : (i at : ℕ) {input : Input} {q : ℕ} → i < n → inputField s at ≡ ok input q
       → spends i at ≡ through firsts (indexOf (hashAt s (input .parent)) ids) (fourAt s (input .output)) ∷ spends (i + 1) q
   unfolding spentFrom
   spent-on i at low e = rw (one-less n i low) (rw e)
@@ -238,10 +238,10 @@ module _ (s : List ℕ) (ids : List (List ℕ)) (firsts : List ℕ) (base k n st
     pub marking-end : n ≤ i → (marks ≡ markAll base size k marks₀ all) × (again ≡ twice base size k marks₀ all)
     marking-end h = ends (spent-end s ids firsts base size k n i at h)
 
-    pub marking-stops : {c q : ℕ} → inputField s at ≡ bad c q → (marks ≡ markAll base size k marks₀ all) × (again ≡ twice base size k marks₀ all)
+    pub marking-stops : {c q : ℕ} → inputField s at ≡ fault c q → (marks ≡ markAll base size k marks₀ all) × (again ≡ twice base size k marks₀ all)
     marking-stops e = ends (spent-refused s ids firsts base size k n i at e)
 
-    pub marking-on : {input : Input} {q : ℕ} {x : List ℕ} {p v y : ℕ} {marks′ : List ℕ} {had again′ : Bool} → Distinct ids → i < n → inputField s at ≡ got input q → x ≡ hashAt s (input .parent) → Finds x ids p
+    pub marking-on : {input : Input} {q : ℕ} {x : List ℕ} {p v y : ℕ} {marks′ : List ℕ} {had again′ : Bool} → Distinct ids → i < n → inputField s at ≡ ok input q → x ≡ hashAt s (input .parent) → Finds x ids p
         → v ≡ fourAt s (input .output) → y ≡ through firsts p v → (marks′ ≡ markOne base (length marks) k marks y) × (had ≡ marked base (length marks) marks y) → length marks′ ≡ length marks → again′ ≡ (again || had)
         → Marking marks′ again′ (i + 1) q
     marking-on {input} {q} {x} {p} {v} {y} {marks′} {had} {again′} distinct low read is finds four number (new, old) long so =

@@ -6,7 +6,7 @@ use mathlib.Core.List.{List}
 use lib.ListN.{length}
 use lib.Dec.{leb, eqb}
 use native.Mathlib.Omega.{arith}
-use Rattle.format.specs.Parse.{Parse, got, bad, pick, whole}
+use Rattle.format.specs.Parse.{Parse, ok, fault, pick, whole}
 use Rattle.format.specs.Refusals.{MAX-INPUT, TOO-LONG, BAD-ROOTS}
 use Rattle.format.specs.Beef.{Beef, beefUpTo}
 use Rattle.format.proofs.MoreLayers.{beef-stays}
@@ -17,8 +17,8 @@ use Rattle.bundle.specs.Bundle.{Judgement, judgeRead, judgeUpTo}
 
 judged-stays : (s roots : List ℕ) (fee : ℕ) (x y : Parse Beef) (l : List Record) → Stays x y → judgeRead s roots fee x ≡ accepted l → judgeRead s roots fee y ≡ accepted l
 unfolding judgeRead
-judged-stays s roots fee (got b end) y l h e = rw (h b end refl) e
-judged-stays s roots fee (bad number place) y l h e = let z : _≡_ {A = ℕ} 0 1 = cc in absurd (omega arith)
+judged-stays s roots fee (ok b end) y l h e = rw (h b end refl) e
+judged-stays s roots fee (fault number place) y l h e = let z : _≡_ {A = ℕ} 0 1 = cc in absurd (omega arith)
 
 tested : (t : Bool) (v w : Judgement) (why : ℕ) (l : List Record) → (v ≡ accepted l → w ≡ accepted l) → pick t v (refused (carrying why 0)) ≡ accepted l → pick t w (refused (carrying why 0)) ≡ accepted l
 tested true v w why l h e = h e

@@ -10,7 +10,7 @@ use Rattle.hash.specs.Sha256.{sha256d}
 use Rattle.format.specs.declared.level.Kind.{Kind}
 use Rattle.format.specs.declared.level.Kind.the-variants.{Plain, Copy, Client}
 use Rattle.format.specs.declared.level.Leaf.{Leaf}
-use Rattle.format.specs.declared.tx.Input.{Input}
+use Rattle.format.specs.declared.transaction.Input.{Input}
 use Rattle.format.specs.declared.beef.Anchor.{Anchor}
 use Rattle.format.specs.declared.beef.Anchor.the-variants.{Unanchored, Bump as InBump}
 use Rattle.path.specs.declared.path.Found.the-variants.{Here}
@@ -18,21 +18,21 @@ use Rattle.format.specs.Parse.{pick}
 use Rattle.path.specs.Search.{lookup, carries}
 use Rattle.format.specs.Bump.{Bump}
 use Rattle.format.specs.Transaction.{Transaction}
-use Rattle.format.specs.Beef.{Entry, Beef}
+use Rattle.format.specs.Beef.{BeefEntry, Beef}
 use Rattle.format.specs.Refusals.{SAME-TX, NO-PARENT, UNTRUSTED, NO-OUTPUT, SPENT-TWICE, TOO-LITTLE}
-use Rattle.bundle.specs.declared.judging.Standing.{Standing}
-use Rattle.bundle.specs.declared.judging.Standing.the-variants.{Refuses, Passes}
+use Rattle.bundle.specs.declared.judge.Ruling.{Ruling}
+use Rattle.bundle.specs.declared.judge.Ruling.the-variants.{Refuses, Passes}
 use Rattle.bundle.specs.declared.table.Record.{Record}
 use Rattle.spv.specs.Result.{Result, accepted, refused, carrying}
 use Rattle.spv.specs.Climb.{Sibling}
-use Rattle.spv.specs.Compare.{prove, Proof}
+use Rattle.spv.specs.Prove.{prove, Proof}
 use Rattle.spv.specs.Siblings.{written, sibling, writtenBy, findIn}
 use Rattle.spv.proofs.AskedLaws.{same-all}
 use Rattle.spv.specs.Readings.{levelsReading}
 use Rattle.spv.proofs.Surplus.{carriedAt, surplus}
 use Rattle.format.specs.Id.{txid}
 use Rattle.spv.specs.Hashes.{hashesOf, among}
-use Rattle.bundle.specs.Bundle.{rests, trusted, proving, nthBump, entryId, standingOf, anchoring, standing, entryRow, Judgement, ahead, judgeFrom, judgeEntries}
+use Rattle.bundle.specs.Bundle.{rests, trusted, proving, nthBump, entryId, rulingOf, anchoring, ruling, entryRow, Judgement, ahead, judgeFrom, judgeEntries}
 use Rattle.bundle.proofs.BundleLaws.{from-refuses, from-passes}
 use Rattle.bundle.proofs.BundleTheorems.{emptyEntry}
 use Rattle.bundle.proofs.RereadBundle.{leafSaid, bumpSaid, TxSaid, txSaid}
@@ -109,7 +109,7 @@ module _ (s t : List ℕ) where
   id-same x y e = ap (λ (z : TxSaid). sha256d (z .1)) e
 
   -- what counts of two transactions that say the same, and are anchored alike
-  payment-same : (x y : Entry) → txSaid s (x .transaction) ≡ txSaid t (y .transaction) → isAnchored (x .anchor) ≡ isAnchored (y .anchor) → paymentOf s x ≡ paymentOf t y
+  payment-same : (x y : BeefEntry) → txSaid s (x .transaction) ≡ txSaid t (y .transaction) → isAnchored (x .anchor) ≡ isAnchored (y .anchor) → paymentOf s x ≡ paymentOf t y
   unfolding paymentOf
   payment-same x y e f =
       let id = id-same (x .transaction) (y .transaction) e in
@@ -140,18 +140,18 @@ unfoldable pub eachRecord : (Record → Record) → Judgement → Judgement
 eachRecord f (refused why) = refused why
 eachRecord f (accepted records) = accepted (map f records)
 
-unfoldable stillStands : ℕ → Standing → Standing
+unfoldable stillStands : ℕ → Ruling → Ruling
 stillStands m (Refuses why) = Refuses why
 stillStands m (Passes a n i) = Passes a (numberOf m a n) i
 
 -- two transactions that stand alike
-record Like {A B K : Type 0} (m : ℕ) (f : Record → Record) (id : A → K) (id′ : B → K) (stands : List K → A → Standing) (stands′ : List K → B → Standing)
+record Like {A B K : Type 0} (m : ℕ) (f : Record → Record) (id : A → K) (id′ : B → K) (stands : List K → A → Ruling) (stands′ : List K → B → Ruling)
     (row : A → ℕ → ℕ → ℕ → Record) (row′ : B → ℕ → ℕ → ℕ → Record) (x : A) (y : B) : Type 0 where
   ids : id x ≡ id′ y
-  standings : (earlier : List K) → stands′ earlier y ≡ stillStands m (stands earlier x)
+  rulings : (earlier : List K) → stands′ earlier y ≡ stillStands m (stands earlier x)
   rows : (a n i : ℕ) → row′ y a (numberOf m a n) i ≡ f (row x a n i)
 
-module _ {A B K : Type 0} (m : ℕ) (f : Record → Record) (id : A → K) (id′ : B → K) (stands : List K → A → Standing) (stands′ : List K → B → Standing)
+module _ {A B K : Type 0} (m : ℕ) (f : Record → Record) (id : A → K) (id′ : B → K) (stands : List K → A → Ruling) (stands′ : List K → B → Ruling)
     (row : A → ℕ → ℕ → ℕ → Record) (row′ : B → ℕ → ℕ → ℕ → Record) (d : A) (d′ : B) where
   each-ahead : (r : Record) (j : Judgement) → ahead (f r) (eachRecord f j) ≡ eachRecord f (ahead r j)
   unfolding ahead eachRecord
@@ -168,20 +168,20 @@ module _ {A B K : Type 0} (m : ℕ) (f : Record → Record) (id : A → K) (id�
   from-like earlier (x ∷ l) (y ∷ l′) e w =
       go (w 0 (omega arith)) (stands earlier x) refl (from-like (earlier ++ (id x ∷ [])) l l′ (omega arith) (λ k h. w (suc k) (omega arith)))
     where
-      go : Like m f id id′ stands stands′ row row′ x y → (v : Standing) → stands earlier x ≡ v
+      go : Like m f id id′ stands stands′ row row′ x y → (v : Ruling) → stands earlier x ≡ v
           → judgeFrom id′ stands′ row′ (earlier ++ (id x ∷ [])) l′ ≡ eachRecord f (judgeFrom id stands row (earlier ++ (id x ∷ [])) l)
           → judgeFrom id′ stands′ row′ earlier (y ∷ l′) ≡ eachRecord f (judgeFrom id stands row earlier (x ∷ l))
       go z (Refuses why) h rest =
-          from-refuses id′ stands′ row′ earlier y l′ why (z .standings earlier ∙ ap (stillStands m) h)
+          from-refuses id′ stands′ row′ earlier y l′ why (z .rulings earlier ∙ ap (stillStands m) h)
           ∙ sym (ap (eachRecord f) (from-refuses id stands row earlier x l why h))
       go z (Passes a n i) h rest =
-          from-passes id′ stands′ row′ earlier y l′ a (numberOf m a n) i (z .standings earlier ∙ ap (stillStands m) h)
+          from-passes id′ stands′ row′ earlier y l′ a (numberOf m a n) i (z .rulings earlier ∙ ap (stillStands m) h)
           ∙ ap₂ (λ (r : Record) (c : K). ahead r (judgeFrom id′ stands′ row′ (earlier ++ (c ∷ [])) l′)) (z .rows a n i) (sym (z .ids))
           ∙ ap (ahead (f (row x a n i))) rest
           ∙ each-ahead (row x a n i) (judgeFrom id stands row (earlier ++ (id x ∷ [])) l)
           ∙ sym (ap (eachRecord f) (from-passes id stands row earlier x l a n i h))
 
-abbrev pub entryAt : Beef → ℕ → Entry
+abbrev pub entryAt : Beef → ℕ → BeefEntry
 entryAt b k = getD (b .entries) k emptyEntry
 
 -- two bundles, the second with a BUMP more at m: the others say what they said, and the transactions are the same but d bytes later, anchored as before
@@ -222,28 +222,28 @@ module _ (s t roots : List ℕ) (fee m d : ℕ) (b c : Beef) (more : OneMore s t
         ap (trusted roots (past m n)) (ap (proving t (nthBump (c .bumps) (past m n))) (sym same-id) ∙ sym (proving-same s t (nthBump (b .bumps) n) (nthBump (c .bumps) (past m n)) (entryId s (entryAt b k)) (more .bumps n (more .below k n low h))))
         ∙ trusted-still n (proving s (nthBump (b .bumps) n) (entryId s (entryAt b k)))
     anchoring-still earlier Unanchored h =
-        ap₂ (λ (x : Bool) (y : Payment). pick x (standingOf (funded fee earlier y)) (Refuses (carrying NO-PARENT 0)))
+        ap₂ (λ (x : Bool) (y : Payment). pick x (rulingOf (funded fee earlier y)) (Refuses (carrying NO-PARENT 0)))
         (sym (rests-same s t (idsOf earlier) (entryAt b k .transaction .inputs) (entryAt c k .transaction .inputs) (ap (λ (z : TxSaid). z .2) (more .transactions k low)))) (sym same-payment)
         ∙ go (rests s (idsOf earlier) (entryAt b k .transaction .inputs))
       where
-        funds : (x y z : Bool) → standingOf (pick x (pick y (pick z passes (refuses TOO-LITTLE)) (refuses SPENT-TWICE)) (refuses NO-OUTPUT)) ≡ stillStands m (standingOf (pick x (pick y (pick z passes (refuses TOO-LITTLE)) (refuses SPENT-TWICE)) (refuses NO-OUTPUT)))
+        funds : (x y z : Bool) → rulingOf (pick x (pick y (pick z passes (refuses TOO-LITTLE)) (refuses SPENT-TWICE)) (refuses NO-OUTPUT)) ≡ stillStands m (rulingOf (pick x (pick y (pick z passes (refuses TOO-LITTLE)) (refuses SPENT-TWICE)) (refuses NO-OUTPUT)))
         funds true true true = refl
         funds true true false = refl
         funds true false z = refl
         funds false y z = refl
 
-        go : (x : Bool) → pick x (standingOf (funded fee earlier (paymentOf s (entryAt b k)))) (Refuses (carrying NO-PARENT 0)) ≡ stillStands m (pick x (standingOf (funded fee earlier (paymentOf s (entryAt b k)))) (Refuses (carrying NO-PARENT 0)))
+        go : (x : Bool) → pick x (rulingOf (funded fee earlier (paymentOf s (entryAt b k)))) (Refuses (carrying NO-PARENT 0)) ≡ stillStands m (pick x (rulingOf (funded fee earlier (paymentOf s (entryAt b k)))) (Refuses (carrying NO-PARENT 0)))
         go true = unfold funded in funds (exist earlier (paymentOf s (entryAt b k) .inputs)) (fresh (spends earlier) (paymentOf s (entryAt b k) .inputs)) (enough fee earlier (paymentOf s (entryAt b k)))
         go false = refl
 
-    still-stands : (earlier : List Payment) → standing t roots fee (c .bumps) earlier (entryAt c k) ≡ stillStands m (standing s roots fee (b .bumps) earlier (entryAt b k))
-    unfolding standing stillStands
+    still-stands : (earlier : List Payment) → ruling t roots fee (c .bumps) earlier (entryAt c k) ≡ stillStands m (ruling s roots fee (b .bumps) earlier (entryAt b k))
+    unfolding ruling stillStands
     still-stands earlier =
         ap₂ (λ (x : List ℕ) (a : Anchor). pick (among x (idsOf earlier)) (Refuses (carrying SAME-TX 0)) (anchoring t roots fee (c .bumps) earlier (entryAt c k) a)) (sym same-id) (more .anchors k low)
         ∙ ap (pick (among (entryId s (entryAt b k)) (idsOf earlier)) (Refuses (carrying SAME-TX 0))) (anchoring-still earlier (entryAt b k .anchor) refl)
         ∙ go (among (entryId s (entryAt b k)) (idsOf earlier)) (anchoring s roots fee (b .bumps) earlier (entryAt b k) (entryAt b k .anchor))
       where
-        go : (x : Bool) (v : Standing) → pick x (Refuses (carrying SAME-TX 0)) (stillStands m v) ≡ stillStands m (pick x (Refuses (carrying SAME-TX 0)) v)
+        go : (x : Bool) (v : Ruling) → pick x (Refuses (carrying SAME-TX 0)) (stillStands m v) ≡ stillStands m (pick x (Refuses (carrying SAME-TX 0)) v)
         go true v = refl
         go false v = refl
 
@@ -254,5 +254,5 @@ module _ (s t roots : List ℕ) (fee m d : ℕ) (b c : Beef) (more : OneMore s t
   pub one-more : judgeEntries t roots fee c ≡ eachRecord (later m d) (judgeEntries s roots fee b)
   unfolding judgeEntries
   one-more =
-      from-like m (later m d) (paymentOf s) (paymentOf t) (standing s roots fee (b .bumps)) (standing t roots fee (c .bumps)) (entryRow s) (entryRow t) emptyEntry emptyEntry [] (b .entries) (c .entries) (more .count)
-      (λ k low. record { ids = same-payment k low; standings = still-stands k low; rows = same-row k low })
+      from-like m (later m d) (paymentOf s) (paymentOf t) (ruling s roots fee (b .bumps)) (ruling t roots fee (c .bumps)) (entryRow s) (entryRow t) emptyEntry emptyEntry [] (b .entries) (c .entries) (more .count)
+      (λ k low. record { ids = same-payment k low; rulings = still-stands k low; rows = same-row k low })

@@ -9,28 +9,28 @@ use Rattle.format.specs.declared.beef.Anchor.{Anchor}
 use Rattle.format.specs.declared.beef.Anchor.the-variants.{Unanchored, Bump as InBump}
 use Rattle.format.specs.Parse.{pick}
 use Rattle.format.specs.Bump.{Bump}
-use Rattle.format.specs.Beef.{Entry}
+use Rattle.format.specs.Beef.{BeefEntry}
 use Rattle.format.specs.Refusals.{SAME-TX, NO-PARENT, UNTRUSTED}
-use Rattle.bundle.specs.declared.judging.Standing.{Standing}
-use Rattle.bundle.specs.declared.judging.Standing.the-variants.{Refuses, Passes}
+use Rattle.bundle.specs.declared.judge.Ruling.{Ruling}
+use Rattle.bundle.specs.declared.judge.Ruling.the-variants.{Refuses, Passes}
 use Rattle.bundle.specs.declared.table.Record.{Record}
 use Rattle.spv.specs.declared.rejection.Rejection.{Rejection}
 use Rattle.spv.specs.Result.{Result, accepted, refused, carrying, blaming}
-use Rattle.spv.specs.Compare.{Proof}
+use Rattle.spv.specs.Prove.{Proof}
 use Rattle.spv.specs.Hashes.{hashesOf, among}
 use Rattle.bundle.specs.Amounts.{Payment, paymentOf, isAnchored, idsOf, passes, funded, amounts}
 use Rattle.bundle.specs.Second.{faultIn}
-use Rattle.bundle.specs.Bundle.{rests, trusted, proving, nthBump, entryId, standingOf, anchoring, standing, Judgement, ahead, judgeFrom}
+use Rattle.bundle.specs.Bundle.{rests, trusted, proving, nthBump, entryId, rulingOf, anchoring, ruling, Judgement, ahead, judgeFrom}
 use Rattle.bundle.proofs.BundleLaws.{from-refuses, from-passes}
 use Rattle.bundle.specs.Pass.{settled}
 
 -- what the first rule refuses the second does not change; what both pass passes as the first says
-unfoldable pub also : Standing → Result (Unit {0}) → Standing
+unfoldable pub also : Ruling → Result (Unit {0}) → Ruling
 also (Refuses why) t = Refuses why
 also (Passes a n i) (refused why) = Refuses why
 also (Passes a n i) (accepted u) = Passes a n i
 
-module _ {A B : Type 0} (known : A → B) (first : List B → A → Standing) where
+module _ {A B : Type 0} (known : A → B) (first : List B → A → Ruling) where
   -- how many pass the first rule, one after the other from the first
   unfoldable pub passCount : List B → List A → ℕ
   passCount earlier [] = 0
@@ -42,7 +42,7 @@ module _ {A B : Type 0} (known : A → B) (first : List B → A → Standing) wh
     settled-ahead r (refused why) j = refl
     settled-ahead r (accepted u) j = refl
 
-    abbrev both : List B → A → Standing
+    abbrev both : List B → A → Ruling
     both earlier x = also (first earlier x) (second earlier (known x))
 
     -- judging by both rules at once is judging by the first, and then by the second what passed it
@@ -52,7 +52,7 @@ module _ {A B : Type 0} (known : A → B) (first : List B → A → Standing) wh
     two-passes earlier [] = refl
     two-passes earlier (x ∷ l) = step (first earlier x) refl (second earlier (known x)) refl (two-passes (earlier ++ (known x ∷ [])) l)
       where
-        step : (t : Standing) → first earlier x ≡ t → (u : Result (Unit {0})) → second earlier (known x) ≡ u
+        step : (t : Ruling) → first earlier x ≡ t → (u : Result (Unit {0})) → second earlier (known x) ≡ u
             → judgeFrom known both row (earlier ++ (known x ∷ [])) l
             ≡ settled (faultIn second (passCount (earlier ++ (known x ∷ [])) l) (earlier ++ (known x ∷ [])) (map known l)) (judgeFrom known first row (earlier ++ (known x ∷ [])) l)
             → judgeFrom known both row earlier (x ∷ l) ≡ settled (faultIn second (passCount earlier (x ∷ l)) earlier (map known (x ∷ l))) (judgeFrom known first row earlier (x ∷ l))
@@ -81,7 +81,7 @@ unfoldable pub reachedFrom : ℕ → Judgement → ℕ
 reachedFrom n (refused why) = why .carried
 reachedFrom n (accepted records) = n + length records
 
-module _ {A B : Type 0} (known : A → B) (first : List B → A → Standing) where
+module _ {A B : Type 0} (known : A → B) (first : List B → A → Ruling) where
   module _ (row : A → ℕ → ℕ → ℕ → Record) where
     reached-ahead : (n : ℕ) (r : Record) (j : Judgement) → reachedFrom n (ahead r j) ≡ reachedFrom (suc n) j
     unfolding reachedFrom ahead
@@ -93,7 +93,7 @@ module _ {A B : Type 0} (known : A → B) (first : List B → A → Standing) wh
     count-reached earlier [] = refl
     count-reached earlier (x ∷ l) = step (first earlier x) refl (count-reached (earlier ++ (known x ∷ [])) l)
       where
-        step : (t : Standing) → first earlier x ≡ t
+        step : (t : Ruling) → first earlier x ≡ t
             → length (earlier ++ (known x ∷ [])) + passCount known first (earlier ++ (known x ∷ [])) l ≡ reachedFrom (length (earlier ++ (known x ∷ []))) (judgeFrom known first row (earlier ++ (known x ∷ [])) l)
             → length earlier + passCount known first earlier (x ∷ l) ≡ reachedFrom (length earlier) (judgeFrom known first row earlier (x ∷ l))
         step (Refuses why) e h =
@@ -113,7 +113,7 @@ module _ {A B : Type 0} (known : A → B) (first : List B → A → Standing) wh
   count-passes d earlier [] k h = absurd (omega arith)
   count-passes d earlier (x ∷ l) k h = step k h (first earlier x) refl (λ j g. count-passes d (earlier ++ (known x ∷ [])) l j g)
     where
-      step : (k : ℕ) → k < passCount known first earlier (x ∷ l) → (t : Standing) → first earlier x ≡ t
+      step : (k : ℕ) → k < passCount known first earlier (x ∷ l) → (t : Ruling) → first earlier x ≡ t
           → ((j : ℕ) → j < passCount known first (earlier ++ (known x ∷ [])) l → (a : ℕ) × (n : ℕ) × (i : ℕ) × (first ((earlier ++ (known x ∷ [])) ++ map known (take j l)) (getD l j d) ≡ Passes a n i)) → (a : ℕ) × (n : ℕ) × (i : ℕ) × (first (earlier ++ map known (take k (x ∷ l))) (getD (x ∷ l) k d) ≡ Passes a n i)
       step k h (Refuses why) e f = absurd (let none : passCount known first earlier (x ∷ l) ≡ 0 = rw (passCount, e) in omega arith)
       step zero h (Passes a n i) e f = (a, n, i, ap (λ (m : List B). first m x) (append-nil earlier) ∙ e)
@@ -123,7 +123,7 @@ module _ {A B : Type 0} (known : A → B) (first : List B → A → Standing) wh
           (w .0, w .1, w .2, ap (λ (m : List B). first m (getD l k d)) (sym (append-assoc earlier (known x ∷ []) (map known (take k l)))) ∙ w .3)
 
 -- what is known of the earlier ones may be less
-module _ {A B C : Type 0} (known : A → B) (f : B → C) (first : List C → A → Standing) (row : A → ℕ → ℕ → ℕ → Record) where
+module _ {A B C : Type 0} (known : A → B) (f : B → C) (first : List C → A → Ruling) (row : A → ℕ → ℕ → ℕ → Record) where
   map-last : (l : List B) (x : B) → map f (l ++ (x ∷ [])) ≡ map f l ++ (f x ∷ [])
   map-last [] x = refl
   map-last (y ∷ l) x = ap (f y ∷_) (map-last l x)
@@ -133,7 +133,7 @@ module _ {A B C : Type 0} (known : A → B) (f : B → C) (first : List C → A 
   from-less earlier [] = refl
   from-less earlier (x ∷ l) = step (first (map f earlier) x) refl (from-less (earlier ++ (known x ∷ [])) l)
     where
-      step : (t : Standing) → first (map f earlier) x ≡ t
+      step : (t : Ruling) → first (map f earlier) x ≡ t
           → judgeFrom known (λ m x. first (map f m) x) row (earlier ++ (known x ∷ [])) l ≡ judgeFrom (λ x. f (known x)) first row (map f (earlier ++ (known x ∷ []))) l
           → judgeFrom known (λ m x. first (map f m) x) row earlier (x ∷ l) ≡ judgeFrom (λ x. f (known x)) first row (map f earlier) (x ∷ l)
       step (Refuses why) e h =
@@ -147,16 +147,16 @@ module _ {A B C : Type 0} (known : A → B) (f : B → C) (first : List C → A 
 -- ---- the bundle rule in two: 19, 13 to 17 and 20; then 26, 27 and 28
 
 module _ (s roots : List ℕ) (bumps : List Bump) where
-  unfoldable pub firstAnchoring : List (List ℕ) → Entry → Anchor → Standing
+  unfoldable pub firstAnchoring : List (List ℕ) → BeefEntry → Anchor → Ruling
   firstAnchoring ids e (InBump n) = trusted roots n (proving s (nthBump bumps n) (entryId s e))
   firstAnchoring ids e Unanchored = pick (rests s ids (e .transaction .inputs)) (Passes 0 0 0) (Refuses (carrying NO-PARENT 0))
 
-  unfoldable pub firstStanding : List (List ℕ) → Entry → Standing
-  firstStanding ids e = pick (among (entryId s e) ids) (Refuses (carrying SAME-TX 0)) (firstAnchoring ids e (e .anchor))
+  unfoldable pub firstRuling : List (List ℕ) → BeefEntry → Ruling
+  firstRuling ids e = pick (among (entryId s e) ids) (Refuses (carrying SAME-TX 0)) (firstAnchoring ids e (e .anchor))
 
-  pub standing-is : (fee : ℕ) (earlier : List Payment) (e : Entry) → standing s roots fee bumps earlier e ≡ also (firstStanding (idsOf earlier) e) (amounts fee earlier (paymentOf s e))
-  unfolding standing firstStanding anchoring firstAnchoring amounts paymentOf trusted also
-  standing-is fee earlier e = go (among (entryId s e) (idsOf earlier))
+  pub ruling-is : (fee : ℕ) (earlier : List Payment) (e : BeefEntry) → ruling s roots fee bumps earlier e ≡ also (firstRuling (idsOf earlier) e) (amounts fee earlier (paymentOf s e))
+  unfolding ruling firstRuling anchoring firstAnchoring amounts paymentOf trusted also
+  ruling-is fee earlier e = go (among (entryId s e) (idsOf earlier))
     where
       trusting : (n : ℕ) (v : Result Proof) → trusted roots n v ≡ also (trusted roots n v) passes
       trusting n (refused why) = refl
@@ -166,7 +166,7 @@ module _ (s roots : List ℕ) (bumps : List Bump) where
           listed true = refl
           listed false = refl
 
-      funds : (r : Bool) (f : Result (Unit {0})) → pick r (standingOf f) (Refuses (carrying NO-PARENT 0)) ≡ also (pick r (Passes 0 0 0) (Refuses (carrying NO-PARENT 0))) f
+      funds : (r : Bool) (f : Result (Unit {0})) → pick r (rulingOf f) (Refuses (carrying NO-PARENT 0)) ≡ also (pick r (Passes 0 0 0) (Refuses (carrying NO-PARENT 0))) f
       funds false f = refl
       funds true (refused why) = refl
       funds true (accepted u) = refl

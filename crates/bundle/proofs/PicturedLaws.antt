@@ -8,8 +8,8 @@ use native.Mathlib.Nat.{mod-eq-of-lt}
 use lib.Dec.{ltb}
 use lib.ListN.{length, getD, take, length-map}
 use borrow.Author.Tests.{ltb-true, le-leb}
-use Rattle.format.specs.declared.tx.Input.{Input}
-use Rattle.format.specs.Parse.{got, pick, many, times}
+use Rattle.format.specs.declared.transaction.Input.{Input}
+use Rattle.format.specs.Parse.{ok, pick, many, times}
 use Rattle.format.proofs.ParseLaws.{many-told}
 use Rattle.format.specs.Bytes.{same, hashAt}
 use Rattle.format.specs.Field.{bytes, le4}
@@ -78,7 +78,7 @@ exist-tail l i rest e = and-right (ltb (i .output) (length (outputsOf l (i .pare
 
 -- the numbers of what inputs spend, each of which is there
 pub spent-is : (s : List ℕ) (l : List Payment) (firsts : List ℕ) → outputCount l < U32 → ((p : ℕ) → p ≤ length l → getD firsts p 0 ≡ outputCount (take p l))
-    → (n at : ℕ) {raw : List Input} {q : ℕ} → times inputField n s at ≡ got raw q → exist l (map (outpointOf s) raw) ≡ true → spentFrom s (idsOf l) firsts n at ≡ map (flat l) (map (outpointOf s) raw)
+    → (n at : ℕ) {raw : List Input} {q : ℕ} → times inputField n s at ≡ ok raw q → exist l (map (outpointOf s) raw) ≡ true → spentFrom s (idsOf l) firsts n at ≡ map (flat l) (map (outpointOf s) raw)
 unfolding spentFrom many
 spent-is s l firsts few is zero at {raw} e h = let none : [] ≡ raw = cc in rw (← none)
 spent-is s l firsts few is (suc n) at {raw} {q} e h =
@@ -92,7 +92,7 @@ spent-is s l firsts few is (suc n) at {raw} {q} e h =
     tail-there : (a : Input) (rest : List Input) → exist l (map (outpointOf s) (a ∷ rest)) ≡ true → exist l (map (outpointOf s) rest) ≡ true
     tail-there a rest e = exist-tail l (outpointOf s a) (map (outpointOf s) rest) e
 
-    more : (a : Input) (r : ℕ) (rest : List Input) → inputField s at ≡ got a r → a ∷ rest ≡ raw → There l (outpointOf s a) → spentFrom s (idsOf l) firsts n r ≡ map (flat l) (map (outpointOf s) rest)
+    more : (a : Input) (r : ℕ) (rest : List Input) → inputField s at ≡ ok a r → a ∷ rest ≡ raw → There l (outpointOf s a) → spentFrom s (idsOf l) firsts n r ≡ map (flat l) (map (outpointOf s) rest)
         → spentFrom s (idsOf l) firsts (suc n) at ≡ map (flat l) (map (outpointOf s) raw)
     more a r rest read whole low f =
         let told = input-told s at read in

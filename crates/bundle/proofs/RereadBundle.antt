@@ -10,14 +10,14 @@ use Rattle.format.specs.declared.level.Layout.{Layout}
 use Rattle.format.specs.declared.level.Kind.the-variants.{Plain, Copy, Client}
 use Rattle.format.specs.declared.level.Leaf.{Leaf}
 use Rattle.format.specs.declared.beef.Anchor.{Anchor}
-use Rattle.format.specs.Parse.{Reader, got, _passing_else_, times}
+use Rattle.format.specs.Parse.{Reader, ok, _passing_else_, times}
 use Rattle.format.specs.Bytes.{hashAt}
 use Rattle.format.specs.Field.{bytes, byte, le4, le8, number, varint}
 use Rattle.format.specs.Level.{holds, offsetField, flagAllowed, flagField, kindField, carriedField, leafField, andOffset, levelField, levelInTurn, nextTurn, levelFields}
 use Rattle.format.specs.Bump.{Bump, blockField, heightUpTo, bumpField, bumpUpTo}
 use Rattle.format.specs.Transaction.{Transaction, scriptField, inputField, takes, outputField, outputsField, someField, listField, fieldsBy, txFieldBy}
 use Rattle.format.proofs.TransactionLaws.{TxRead, tx-told, tx-fields, tx-size, tx-read}
-use Rattle.format.specs.Beef.{Entry, bumpNumberField, anchorField, entryField}
+use Rattle.format.specs.Beef.{BeefEntry, bumpNumberField, anchorField, entryField}
 use Rattle.format.specs.Refusals.{OVER-LIMIT, BAD-HEIGHT, BAD-OFFSET, BAD-FLAG, REPEATED, BAD-TX, BAD-INDEX, BAD-AMOUNT, MAX-LEAVES, MAX-BLOCK, MAX-HEIGHT}
 use Rattle.spv.specs.Climb.{Sibling, value}
 use Rattle.spv.specs.Siblings.{written}
@@ -39,7 +39,7 @@ TxSaid = ℕ × List ℕ × List Outpoint × List ℕ
 abbrev pub txSaid : List ℕ → Transaction → TxSaid
 txSaid s x = (x .end - x .start, take (x .end - x .start) (drop (x .start) s), map (outpointOf s) (x .inputs), x .outputs)
 
-abbrev pub entrySaid : List ℕ → Entry → TxSaid × Anchor
+abbrev pub entrySaid : List ℕ → BeefEntry → TxSaid × Anchor
 entrySaid s e = (txSaid s (e .transaction), e .anchor)
 
 module _ {u t : List ℕ} {base : ℕ} (stands : StandsIn u t base) where
@@ -168,13 +168,13 @@ module _ {u t : List ℕ} {base : ℕ} (stands : StandsIn u t base) where
           let from : b .start ≡ base + at = y .start-is in
           rw (x .start-is, x .end-is, size, from, e, o, run-again stands (q - at) at (omega arith))
 
-      moved : (at q : ℕ) (a : Transaction) → txFieldBy limited u at ≡ got a q → (b : Transaction) × (txFieldBy limited t (base + at) ≡ got b (base + q)) × (txSaid u a ≡ txSaid t b)
+      moved : (at q : ℕ) (a : Transaction) → txFieldBy limited u at ≡ ok a q → (b : Transaction) × (txFieldBy limited t (base + at) ≡ ok b (base + q)) × (txSaid u a ≡ txSaid t b)
       moved at q a e =
           let x = moves-again limited .again at q a (tx-fields limited u at e .0) in
           let y = tx-read limited t (base + at) (x .1) (λ z. tx-size limited u at e (omega arith)) in
           (x .0, y, run a (x .0) at q (tx-told u at e) (tx-told t (base + at) y) (ap (λ (z : Moved). z .0) (x .2)) (sym (map-id (a .outputs)) ∙ ap (λ (z : Moved). z .1) (x .2) ∙ map-id (x .0 .outputs)))
 
-      back : (at q : ℕ) (b : Transaction) → txFieldBy limited t (base + at) ≡ got b (base + q) → q ≤ length u → (a : Transaction) × (txFieldBy limited u at ≡ got a q) × (txSaid u a ≡ txSaid t b)
+      back : (at q : ℕ) (b : Transaction) → txFieldBy limited t (base + at) ≡ ok b (base + q) → q ≤ length u → (a : Transaction) × (txFieldBy limited u at ≡ ok a q) × (txSaid u a ≡ txSaid t b)
       back at q b e low =
           let x = moves-again limited .within at q b (tx-fields limited t (base + at) e .0) low in
           let y = tx-read limited u at (x .1) (λ z. tx-size limited t (base + at) e (omega arith)) in

@@ -16,7 +16,7 @@ use Rattle.spv.specs.Result.{accepted, refused, blaming}
 use Rattle.spv.proofs.RowsLaws.{map-at}
 use Rattle.spv.proofs.TestLaws.{clash, or-told}
 use Rattle.bundle.specs.Numbers.{listed, flat, outputCount, freshNumbers}
-use Rattle.bundle.specs.Amounts.{Outpoint, Payment, Standing, outputsOf, exist, fresh, spends, worth, worths}
+use Rattle.bundle.specs.Amounts.{Outpoint, Payment, AmountRuling, outputsOf, exist, fresh, spends, worth, worths}
 use Rattle.bundle.proofs.AmountLaws.{worths-found}
 use Rattle.bundle.proofs.NumberingLaws.{There, flat-bound, fresh-flat, exist-append, exist-found}
 use Rattle.bundle.specs.Windows.{numbersOf, numbersIn, amountsIn, spenderFrom, sumTo, sumAt}
@@ -174,7 +174,7 @@ take-last [] k d h = absurd (omega arith)
 take-last (x ∷ l) zero d h = refl
 take-last (x ∷ l) (suc k) d h = ap (x ∷_) (take-last l k d (omega arith))
 
-module _ (rule : List Payment → Payment → Standing) (n : ℕ) (earlier : List Payment) (x : Payment) (l : List Payment) where
+module _ (rule : List Payment → Payment → AmountRuling) (n : ℕ) (earlier : List Payment) (x : Payment) (l : List Payment) where
   pub fault-refuses : (why : Rejection) → rule earlier x ≡ refused why → faultIn rule (suc n) earlier (x ∷ l) ≡ refused (blaming (length earlier) why)
   unfolding faultIn
   fault-refuses why e = rw (faultIn, e)
@@ -183,8 +183,8 @@ module _ (rule : List Payment → Payment → Standing) (n : ℕ) (earlier : Lis
   unfolding faultIn
   fault-passes e = rw (faultIn, e)
 
-module _ (rule : List Payment → Payment → Standing) (l : List Payment) where
-  abbrev pub faultAt : ℕ → Standing
+module _ (rule : List Payment → Payment → AmountRuling) (l : List Payment) where
+  abbrev pub faultAt : ℕ → AmountRuling
   faultAt k = faultIn rule (length l - k) (take k l) (drop k l)
 
   pub fault-end : (k : ℕ) → length l ≤ k → faultAt k ≡ accepted tt

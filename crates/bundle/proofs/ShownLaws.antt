@@ -17,7 +17,7 @@ use Rattle.spv.specs.Hashes.{hashesOf, Distinct}
 use Rattle.spv.proofs.HashesLaws.{hashes-at, taken-length}
 use Rattle.spv.proofs.RowsLaws.{map-at}
 use Rattle.bundle.specs.declared.pass.Fault.{Fault}
-use Rattle.bundle.specs.Amounts.{Payment, Standing, passes, refuses, idsOf, exist, fresh, spends, enough, funded, amounts}
+use Rattle.bundle.specs.Amounts.{Payment, AmountRuling, passes, refuses, idsOf, exist, fresh, spends, enough, funded, amounts}
 use Rattle.bundle.specs.Payments.{noPayment, Different}
 use Rattle.bundle.specs.Numbers.{outputCount}
 use Rattle.bundle.specs.FlatForm.{column, inputsOf, existFrom}
@@ -135,7 +135,7 @@ module _ (fee : ℕ) (earlier : List Payment) (t : Payment) where
   unfolding amounts second funded
   amounts-there f = go (t .anchored) refl
     where
-      later : Standing
+      later : AmountRuling
       later = pick (fresh (spends earlier) (t .inputs)) (pick (enough fee earlier t) passes (refuses 28)) (refuses 27)
 
       go : (b : Bool) → t .anchored ≡ b → pick b passes (pick (exist earlier (t .inputs)) later (refuses NO-OUTPUT)) ≡ pick b passes later
@@ -149,11 +149,11 @@ module _ (fee : ℕ) (earlier : List Payment) (t : Payment) where
       ∙ ap (λ (b : Bool). pick b (pick (fresh (spends earlier) (t .inputs)) (pick (enough fee earlier t) passes (refuses 28)) (refuses 27)) (refuses NO-OUTPUT)) e
 
 -- a refusal, or else what follows
-unfoldable orElse : Standing → Standing → Standing
+unfoldable orElse : AmountRuling → AmountRuling → AmountRuling
 orElse (refused why) t = refused why
 orElse (accepted u) t = t
 
-module _ (rule other : List Payment → Payment → Standing) where
+module _ (rule other : List Payment → Payment → AmountRuling) where
   in-front : (m n : ℕ) (earlier l : List Payment) → m ≤ n → n ≡ length l → ((k : ℕ) → k < m → rule (earlier ++ take k l) (getD l k noPayment) ≡ other (earlier ++ take k l) (getD l k noPayment))
       → faultIn rule n earlier l ≡ orElse (faultIn other m earlier l) (faultIn rule (n - m) (earlier ++ take m l) (drop m l))
   unfolding faultIn orElse
@@ -168,23 +168,23 @@ module _ (rule other : List Payment → Payment → Standing) where
       here : rule earlier x ≡ other earlier x
       here = ap (λ (d : List Payment). rule d x) (sym (append-nil earlier)) ∙ same 0 (omega arith) ∙ ap (λ (d : List Payment). other d x) (append-nil earlier)
 
-      step : (t : Standing) → other earlier x ≡ t
+      step : (t : AmountRuling) → other earlier x ≡ t
           → faultIn rule n (earlier ++ (x ∷ [])) l ≡ orElse (faultIn other m (earlier ++ (x ∷ [])) l) (faultIn rule (n - m) ((earlier ++ (x ∷ [])) ++ take m l) (drop m l))
           → faultIn rule (suc n) earlier (x ∷ l) ≡ orElse (faultIn other (suc m) earlier (x ∷ l)) (faultIn rule (suc n - suc m) (earlier ++ take (suc m) (x ∷ l)) (drop (suc m) (x ∷ l)))
       step (refused why) is f =
           fault-refuses rule n earlier x l why (here ∙ is)
-          ∙ sym (ap (λ (t : Standing). orElse t (faultIn rule (suc n - suc m) (earlier ++ take (suc m) (x ∷ l)) (drop m l))) (fault-refuses other m earlier x l why is))
+          ∙ sym (ap (λ (t : AmountRuling). orElse t (faultIn rule (suc n - suc m) (earlier ++ take (suc m) (x ∷ l)) (drop m l))) (fault-refuses other m earlier x l why is))
       step (accepted u) is f =
           let less : n - m ≡ suc n - suc m = omega arith in
           fault-passes rule n earlier x l (here ∙ is) ∙ f
           ∙ ap (λ (d : List Payment). orElse (faultIn other m (earlier ++ (x ∷ [])) l) (faultIn rule (n - m) d (drop m l))) (append-assoc earlier (x ∷ []) (take m l))
-          ∙ ap₂ (λ (t : Standing) (k : ℕ). orElse t (faultIn rule k (earlier ++ take (suc m) (x ∷ l)) (drop m l))) (sym (fault-passes other m earlier x l is)) less
+          ∙ ap₂ (λ (t : AmountRuling) (k : ℕ). orElse t (faultIn rule k (earlier ++ take (suc m) (x ∷ l)) (drop m l))) (sym (fault-passes other m earlier x l is)) less
 
-pub fault-taken : {A : Type 0} (rule : List A → A → Standing) (n : ℕ) (earlier l : List A) → faultIn rule n earlier l ≡ faultIn rule n earlier (take n l)
+pub fault-taken : {A : Type 0} (rule : List A → A → AmountRuling) (n : ℕ) (earlier l : List A) → faultIn rule n earlier l ≡ faultIn rule n earlier (take n l)
 unfolding faultIn
 fault-taken rule zero earlier l = refl
 fault-taken rule (suc n) earlier [] = refl
-fault-taken {A = A} rule (suc n) earlier (x ∷ l) = ap (λ (f : Standing). elim (rule earlier x) [ refused why ↦ refused (blaming (length earlier) why) | accepted u ↦ f ]) (fault-taken rule n (earlier ++ (x ∷ [])) l)
+fault-taken {A = A} rule (suc n) earlier (x ∷ l) = ap (λ (f : AmountRuling). elim (rule earlier x) [ refused why ↦ refused (blaming (length earlier) why) | accepted u ↦ f ]) (fault-taken rule n (earlier ++ (x ∷ [])) l)
 
 -- ---- the answer
 
@@ -216,12 +216,12 @@ module _ (s ids numbers : List ℕ) (fee n : ℕ) where
 
     pub answers-fault : (f .number ≡ 0 → ⊥) → Answers s ids numbers fee n f
     unfolding orElse
-    answers-fault ne l size w = sym (in-turn l size w ∙ ap (λ (t : Standing). orElse t (faultAt (amounts fee) l m)) (fault-refused f ne) ∙ sym (fault-refused f ne))
+    answers-fault ne l size w = sym (in-turn l size w ∙ ap (λ (t : AmountRuling). orElse t (faultAt (amounts fee) l m)) (fault-refused f ne) ∙ sym (fault-refused f ne))
 
     module _ (none : f .number ≡ 0) where
       rest : (l : List Payment) → length l ≡ n → Shown s ids numbers l → faultIn (amounts fee) n [] l ≡ faultAt (amounts fee) l m
       unfolding orElse
-      rest l size w = in-turn l size w ∙ ap (λ (t : Standing). orElse t (faultAt (amounts fee) l m)) (no-fault-is f none)
+      rest l size w = in-turn l size w ∙ ap (λ (t : AmountRuling). orElse t (faultAt (amounts fee) l m)) (no-fault-is f none)
 
       pub answers-missing : m < n → Answers s ids numbers fee n (record { number = NO-OUTPUT; entry = m })
       unfolding faultOf
@@ -229,7 +229,7 @@ module _ (s ids numbers : List ℕ) (fee n : ℕ) where
           let x = first l size w .missing (omega arith) in
           sym (rest l size w ∙ fault-here (amounts fee) l m (omega arith) (carrying NO-OUTPUT 0) (amounts-missing fee (take m l) (getD l m noPayment) (x .0) (x .1)))
 
-  or-none : (t : Standing) → orElse t (accepted tt) ≡ t
+  or-none : (t : AmountRuling) → orElse t (accepted tt) ≡ t
   unfolding orElse
   or-none (refused why) = refl
   or-none (accepted u) = refl

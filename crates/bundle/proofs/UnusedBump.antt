@@ -10,7 +10,7 @@ use lib.Dec.{ltb, eqb}
 use borrow.Author.Tests.{le-leb, ltb-true, ltb-false}
 use Rattle.format.specs.declared.beef.Anchor.{Anchor}
 use Rattle.format.specs.declared.beef.Anchor.the-variants.{Unanchored, Bump as InBump}
-use Rattle.format.specs.Parse.{got, pick}
+use Rattle.format.specs.Parse.{ok, pick}
 use Rattle.format.specs.Bump.{Bump, bumpField}
 use Rattle.format.specs.Beef.{Beef, beefWhole}
 use Rattle.format.proofs.BeefLaws.{beef-told}
@@ -77,7 +77,7 @@ same-place m (p ∷ parts) (suc k) =
     omega (arith, length-append (partBytes (renumberedPart m p)) us, length-append (partBytes p) ws, length-append (p .raw) (anchorBytes (p .anchor)), length-append (p .raw) (anchorBytes (renumbered m (p .anchor))))
 
 -- a bundle that was read is judged by its transactions, if the roots are whole
-judge-read : (s roots : List ℕ) (fee room : ℕ) (b : Beef) (q : ℕ) → length s ≤ MAX-INPUT → beefWhole room s ≡ got b q → judgeBeef s roots fee room ≡ pick (eqb (length roots % 32) 0) (judgeEntries s roots fee b) (refused (carrying BAD-ROOTS 0))
+judge-read : (s roots : List ℕ) (fee room : ℕ) (b : Beef) (q : ℕ) → length s ≤ MAX-INPUT → beefWhole room s ≡ ok b q → judgeBeef s roots fee room ≡ pick (eqb (length roots % 32) 0) (judgeEntries s roots fee b) (refused (carrying BAD-ROOTS 0))
 unfolding judgeUpTo judgeRead
 judge-read s roots fee room b q size e = rw (le-leb _ _ size, e)
 
@@ -108,7 +108,7 @@ module _ (room : ℕ) (before after : List (List ℕ)) (extra count : List ℕ) 
       go false h e = let is : i + 1 ≡ n = cc in omega arith
   past-below Unanchored n k f e = absurd (let z : _≡_ {A = ℕ} 0 1 = cc in omega arith)
 
-  module _ (p : Parts room (before ++ after) count parts) (spells : Spells bumpField extra x) (few : length (before ++ after) < MAX-BUMPS) (size : length (bundleBytes more count moved) ≤ MAX-INPUT) where
+  module _ (p : Parts room (before ++ after) count parts) (encodeAll : Spells bumpField extra x) (few : length (before ++ after) < MAX-BUMPS) (size : length (bundleBytes more count moved) ≤ MAX-INPUT) where
     more-parts : Parts room more count moved
     more-parts =
         let n : length moved ≡ length parts = length-map parts (renumberedPart m) in
@@ -118,7 +118,7 @@ module _ (room : ℕ) (before after : List (List ℕ)) (extra count : List ℕ) 
         record {
           size = size;
           bumps-low = omega (arith, more-length);
-          bump = all-more (λ (u : List ℕ). (b : Bump) × Spells bumpField u b) before after extra [] (x, spells) (p .bump);
+          bump = all-more (λ (u : List ℕ). (b : Bump) × Spells bumpField u b) before after extra [] (x, encodeAll) (p .bump);
           counted = rw n (p .counted);
           some = omega arith;
           parts-low = omega arith;
@@ -204,4 +204,4 @@ pub unused-bump : (room : ℕ) (roots : List ℕ) (fee : ℕ) (before after : Li
     → length (bundleBytes (before ++ extra ∷ after) count (map (renumberedPart (length before)) parts)) ≤ MAX-INPUT
     → judgeBeef (bundleBytes (before ++ extra ∷ after) count (map (renumberedPart (length before)) parts)) roots fee room
     ≡ eachRecord (later (length before) (length extra)) (judgeBeef (bundleBytes (before ++ after) count parts) roots fee room)
-unused-bump room roots fee before after extra count parts x p spells few size = proved-alike room before after extra count parts x p spells few size roots fee
+unused-bump room roots fee before after extra count parts x p encodeAll few size = proved-alike room before after extra count parts x p encodeAll few size roots fee

@@ -8,7 +8,7 @@ use lib.Dec.{ltb, leb, eqb}
 use lib.ListN.{length, getD, set, take, length-set, length-append, List·getD-append}
 use lib.Seq.{getD-set-same, getD-set-other, getD-append-add, take-all}
 use borrow.Author.Tests.{ltb-true, ltb-false, leb-true, leb-false, le-leb, lt-ltb, lt-leb, le-ltb, eqb-true, eqb-false, eq-eqb, ne-eqb}
-use Rattle.format.specs.Parse.{got, bad, pick, many, _passing_else_}
+use Rattle.format.specs.Parse.{ok, fault, pick, many, _passing_else_}
 use Rattle.format.proofs.ParseLaws.{onward-told, passing-told, many-told}
 use Rattle.format.specs.Field.{le8, number}
 use Rattle.format.specs.Transaction.{takes, outputField, outputsField}
@@ -80,7 +80,7 @@ module _ (numbers : List ℕ) (w : Walk) where
       onward-next g = rw (eq-eqb (w .left) 0 e, lt-ltb (w .entry) 256 h, le-leb (10 * w .entry + 20) (length numbers) g)
 
 -- an output that was read under a limit is read without one
-pub unlimited-read : (s : List ℕ) (at t : ℕ) {a q : ℕ} → outputField (takes true t) s at ≡ got a q → outputField (takes false 0) s at ≡ got a q
+pub unlimited-read : (s : List ℕ) (at t : ℕ) {a q : ℕ} → outputField (takes true t) s at ≡ ok a q → outputField (takes false 0) s at ≡ ok a q
 unfolding outputField takes
 unlimited-read s at t e =
     let x = onward-told ((number le8 8 passing (takes true t) else BAD-AMOUNT) s at) _ e in
@@ -144,13 +144,13 @@ module _ (s numbers : List ℕ) (l : List Payment) (c : Counted s numbers l) whe
               (subst (λ (n : ℕ). Here s l (walkAt numbers (w .entry + 1)) n) (ap (λ (k : ℕ). outputCount (take k l)) one ∙ at) (here-start (w .entry + 1) g), started (w .entry + 1) g)
 
   -- an output is read
-  pub here-reads : (w : Walk) (m : ℕ) → Here s l w m → 1 ≤ w .left → (q : ℕ) × (outputField (takes false 0) s (w .next .at) ≡ got (amountAt l m) q) × Here s l (record { entry = w .entry; left = w .left - 1; next = record { at = q } }) (m + 1)
+  pub here-reads : (w : Walk) (m : ℕ) → Here s l w m → 1 ≤ w .left → (q : ℕ) × (outputField (takes false 0) s (w .next .at) ≡ ok (amountAt l m) q) × Here s l (record { entry = w .entry; left = w .left - 1; next = record { at = q } }) (m + 1)
   here-reads w m h some = by (h .rest) refl
     where
-      by : (rest : List ℕ) → h .rest ≡ rest → (q : ℕ) × (outputField (takes false 0) s (w .next .at) ≡ got (amountAt l m) q) × Here s l (record { entry = w .entry; left = w .left - 1; next = record { at = q } }) (m + 1)
+      by : (rest : List ℕ) → h .rest ≡ rest → (q : ℕ) × (outputField (takes false 0) s (w .next .at) ≡ ok (amountAt l m) q) × Here s l (record { entry = w .entry; left = w .left - 1; next = record { at = q } }) (m + 1)
       by [] e = absurd (omega (arith, some, h .left-is, ap length e))
       by (a ∷ rest) e =
-          let read : many (λ t. outputField (takes true t)) _+_ (suc (length rest)) (total (h .done)) s (w .next .at) ≡ got (a ∷ rest) (h .end) = rw e at (h .read) in
+          let read : many (λ t. outputField (takes true t)) _+_ (suc (length rest)) (total (h .done)) s (w .next .at) ≡ ok (a ∷ rest) (h .end) = rw e at (h .read) in
           let x = many-told (λ t. outputField (takes true t)) _+_ (length rest) (total (h .done)) s (w .next .at) read in
           step (x .0) (x .1) (x .2) (x .3) (x .4) (x .5)
         where
@@ -167,14 +167,14 @@ module _ (s numbers : List ℕ) (l : List Payment) (c : Counted s numbers l) whe
           more : (d : List ℕ) → total (d ++ (a ∷ [])) ≡ total d + a
           more d = total-last d a
 
-          step : (b r : ℕ) (others : List ℕ) → outputField (takes true (total (h .done))) s (w .next .at) ≡ got b r
-              → many (λ t. outputField (takes true t)) _+_ (length rest) (total (h .done) + b) s r ≡ got others (h .end) → b ∷ others ≡ a ∷ rest
-              → (q : ℕ) × (outputField (takes false 0) s (w .next .at) ≡ got (amountAt l m) q) × Here s l (record { entry = w .entry; left = w .left - 1; next = record { at = q } }) (m + 1)
+          step : (b r : ℕ) (others : List ℕ) → outputField (takes true (total (h .done))) s (w .next .at) ≡ ok b r
+              → many (λ t. outputField (takes true t)) _+_ (length rest) (total (h .done) + b) s r ≡ ok others (h .end) → b ∷ others ≡ a ∷ rest
+              → (q : ℕ) × (outputField (takes false 0) s (w .next .at) ≡ ok (amountAt l m) q) × Here s l (record { entry = w .entry; left = w .left - 1; next = record { at = q } }) (m + 1)
           step b r others f g is =
               let eb : b ≡ a = cc in
               let eo : others ≡ rest = cc in (
                 r,
-                unlimited-read s (w .next .at) (total (h .done)) f ∙ ap (λ (v : ℕ). got v r) (eb ∙ sym here),
+                unlimited-read s (w .next .at) (total (h .done)) f ∙ ap (λ (v : ℕ). ok v r) (eb ∙ sym here),
                 record {
                   low = h .low;
                   done = h .done ++ (a ∷ []);
@@ -182,7 +182,7 @@ module _ (s numbers : List ℕ) (l : List Payment) (c : Counted s numbers l) whe
                   parts = append-assoc (h .done) (a ∷ []) rest ∙ parts;
                   left-is = omega (arith, h .left-is, ap length e);
                   end = h .end;
-                  read = ap (λ (t : ℕ). many (λ t. outputField (takes true t)) _+_ (length rest) t s r) (more (h .done) ∙ ap (λ (v : ℕ). total (h .done) + v) (sym eb)) ∙ g ∙ ap (λ (o : List ℕ). got o (h .end)) eo;
+                  read = ap (λ (t : ℕ). many (λ t. outputField (takes true t)) _+_ (length rest) t s r) (more (h .done) ∙ ap (λ (v : ℕ). total (h .done) + v) (sym eb)) ∙ g ∙ ap (λ (o : List ℕ). ok o (h .end)) eo;
                   number = omega (arith, h .number, length-append (h .done) (a ∷ []));
                 },
               )
@@ -282,20 +282,20 @@ module _ (s numbers marks : List ℕ) (count : ℕ) (walk₀ : Walk) (sums₀ : 
     module _ (low : j < count) {w : Walk} (is : w ≡ onwardOf numbers walk) where
       -- the next output is read
       reads : (l : List Payment) (spender : ℕ → ℕ) (m : ℕ) → Counted s numbers l → Here s l walk₀ m → m + count ≤ outputCount l → Says marks count spender m → Sums l spender m sums₀
-          → (1 ≤ w .left) × ((q : ℕ) × (outputField (takes false 0) s (w .next .at) ≡ got (amountAt l (m + j)) q) × Here s l (record { entry = w .entry; left = w .left - 1; next = record { at = q } }) (m + j + 1))
+          → (1 ≤ w .left) × ((q : ℕ) × (outputField (takes false 0) s (w .next .at) ≡ ok (amountAt l (m + j)) q) × Here s l (record { entry = w .entry; left = w .left - 1; next = record { at = q } }) (m + j + 1))
       reads l spender m c h f y z =
           let x = adds l spender m c h f y z in
           let o = here-onward s numbers l c walk (m + j) (x .1) (omega arith) in
-          subst (λ (v : Walk). (1 ≤ v .left) × ((q : ℕ) × (outputField (takes false 0) s (v .next .at) ≡ got (amountAt l (m + j)) q) × Here s l (record { entry = v .entry; left = v .left - 1; next = record { at = q } }) (m + j + 1))) (sym is)
+          subst (λ (v : Walk). (1 ≤ v .left) × ((q : ℕ) × (outputField (takes false 0) s (v .next .at) ≡ ok (amountAt l (m + j)) q) × Here s l (record { entry = v .entry; left = v .left - 1; next = record { at = q } }) (m + j + 1))) (sym is)
           (o .1, here-reads s numbers l c (onwardOf numbers walk) (m + j) (o .0) (o .1))
 
-      pub adds-stuck : {k q : ℕ} → outputField (takes false 0) s (w .next .at) ≡ bad k q → Adds count sums walk
+      pub adds-stuck : {k q : ℕ} → outputField (takes false 0) s (w .next .at) ≡ fault k q → Adds count sums walk
       adds-stuck e l spender m c h f y z = absurd (let r = reads l spender m c h f y z in let g = r .1 .1 in let n : _≡_ {A = ℕ} 0 1 = cc in omega arith)
 
       pub adds-none : w .left < 1 → Adds count sums walk
       adds-none e l spender m c h f y z = absurd (omega (arith, e, reads l spender m c h f y z .0))
 
-      pub adds-on : {amount q k : ℕ} {sums′ : List ℕ} → outputField (takes false 0) s (w .next .at) ≡ got amount q → k ≡ getD marks j 0
+      pub adds-on : {amount q k : ℕ} {sums′ : List ℕ} → outputField (takes false 0) s (w .next .at) ≡ ok amount q → k ≡ getD marks j 0
           → (k < length sums → getD sums k 0 + amount < 9223372036854775808 → sums′ ≡ set sums k (getD sums k 0 + amount))
           → Adds (j + 1) sums′ (record { entry = w .entry; left = w .left - 1; next = record { at = q } })
       adds-on {amount} {q} {k} {sums′} e named g l spender m c h f y z =
@@ -303,7 +303,7 @@ module _ (s numbers marks : List ℕ) (count : ℕ) (walk₀ : Walk) (sums₀ : 
           let r = reads l spender m c h f y z in
           go (x .0) (r .1 .0) (r .1 .1) (r .1 .2) (named ∙ y j low .0, y j low .1)
         where
-          go : Sums l spender (m + j) sums → (n : ℕ) → outputField (takes false 0) s (w .next .at) ≡ got (amountAt l (m + j)) n
+          go : Sums l spender (m + j) sums → (n : ℕ) → outputField (takes false 0) s (w .next .at) ≡ ok (amountAt l (m + j)) n
               → Here s l (record { entry = w .entry; left = w .left - 1; next = record { at = n } }) (m + j + 1) → (k ≡ spender (m + j)) × (spender (m + j) < 256)
               → Sums l spender (m + (j + 1)) sums′ × Here s l (record { entry = w .entry; left = w .left - 1; next = record { at = q } }) (m + (j + 1))
           go su n read here (mark, less) =

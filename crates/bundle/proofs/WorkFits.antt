@@ -12,30 +12,30 @@ use Rattle.format.specs.declared.level.Layout.{Layout}
 use Rattle.format.specs.declared.level.Leaf.{Leaf}
 use Rattle.path.specs.declared.path.Start.{Start}
 use Rattle.path.specs.declared.path.Start.the-variants.{At, Nowhere}
-use Rattle.format.specs.Parse.{Parse, got, bad, pick, many, each}
+use Rattle.format.specs.Parse.{Parse, ok, fault, pick, many, each}
 use Rattle.format.proofs.ParseLaws.{many-told}
 use Rattle.path.specs.Search.{leastOffset}
 use Rattle.format.specs.Level.{levelInTurn, nextTurn}
 use Rattle.format.proofs.LevelLaws.{level-few}
 use Rattle.format.proofs.BumpLaws.{bump-told}
-use Rattle.format.specs.Beef.{Entry, Beef, beefWhole}
+use Rattle.format.specs.Beef.{BeefEntry, Beef, beefWhole}
 use Rattle.format.proofs.BeefLaws.{EntryRead, BeefRead, beef-told}
 use Rattle.format.proofs.TransactionLaws.{tx-told}
 use Rattle.format.specs.Refusals.{MAX-INPUT, MAX-LEAVES}
 use Rattle.spv.specs.Siblings.{writtenBy, findIn}
 use Rattle.spv.specs.Joins.{leavesIn}
 use Rattle.spv.specs.Hashes.{among}
-use Rattle.bundle.specs.Bundle.{emptyBump, nthBump, entryId, standing}
+use Rattle.bundle.specs.Bundle.{emptyBump, nthBump, entryId, ruling}
 use Rattle.bundle.proofs.BundleTheorems.{emptyEntry}
 use Rattle.climbs.specs.Count.{startCost}
 use Rattle.climbs.proofs.CountLaws.{climb-leaves}
 use Rattle.bundle.specs.Amounts.{Payment, paymentOf, idsOf}
-use Rattle.bundle.specs.Work.{idWork, idsWork, bumpCost, anchorCost, standingCost, entriesWork, readWork, judgeWork}
+use Rattle.bundle.specs.Work.{idWork, idsWork, bumpCost, anchorCost, rulingCost, entriesWork, readWork, judgeWork}
 use Rattle.bundle.proofs.WorkLaws.{sum-most, sum-same, from-most}
 
 -- ---- leaves of a path
 
-levels-few : (layout : Layout) (h n turn : ℕ) (s : List ℕ) (at : ℕ) {ls : List (List Leaf)} {q : ℕ} → many (levelInTurn layout h) nextTurn n turn s at ≡ got ls q → (k : ℕ) → length (getD ls k []) ≤ MAX-LEAVES
+levels-few : (layout : Layout) (h n turn : ℕ) (s : List ℕ) (at : ℕ) {ls : List (List Leaf)} {q : ℕ} → many (levelInTurn layout h) nextTurn n turn s at ≡ ok ls q → (k : ℕ) → length (getD ls k []) ≤ MAX-LEAVES
 unfolding many each
 levels-few layout h zero turn s at {ls} e k = let z : [] ≡ ls = cc in subst (λ (l : List (List Leaf)). length (getD l k []) ≤ MAX-LEAVES) z (omega arith)
 levels-few layout h (suc n) turn s at {ls} e k =
@@ -70,8 +70,8 @@ module _ (room : ℕ) (s : List ℕ) (b : Beef) (read : BeefRead room s b) where
       let few = leaves-few (nthBump (b .bumps) n .levels) (levels-few Layout.Bump (nthBump (b .bumps) n .height) (nthBump (b .bumps) n .height) 0 s (nthBump (b .bumps) n .start) (y .levels)) (nthBump (b .bumps) n .height) in
       omega (arith, y .low, few)
 
-  pub entry-fits : (earlier : List Payment) (e : Entry) → EntryRead (length (b .bumps)) s e → standingCost s (b .bumps) earlier e ≤ CLIMB-MOST
-  unfolding standingCost anchorCost bumpCost
+  pub entry-fits : (earlier : List Payment) (e : BeefEntry) → EntryRead (length (b .bumps)) s e → rulingCost s (b .bumps) earlier e ≤ CLIMB-MOST
+  unfolding rulingCost anchorCost bumpCost
   entry-fits earlier e r = go (among (entryId s e) (idsOf earlier)) (e .anchor) refl
     where
       go : (t : Bool) (x : Anchor) → e .anchor ≡ x → pick t 0 (anchorCost s (b .bumps) (entryId s e) x) ≤ CLIMB-MOST
@@ -79,15 +79,15 @@ module _ (room : ℕ) (s : List ℕ) (b : Beef) (read : BeefRead room s b) where
       go false (InBump n) f = start-fits s (nthBump (b .bumps) n .levels) (nthBump (b .bumps) n .height) (entryId s e) (leastOffset s (entryId s e) (getD (nthBump (b .bumps) n .levels) 0 [])) (bump-fits n (r .anchored n f))
       go false Unanchored f = omega arith
 
-  id-fits : (e : Entry) → EntryRead (length (b .bumps)) s e → idWork (e .transaction .end - e .transaction .start) ≤ 262146
+  id-fits : (e : BeefEntry) → EntryRead (length (b .bumps)) s e → idWork (e .transaction .end - e .transaction .start) ≤ 262146
   unfolding idWork
   id-fits e r = let t = tx-told s (e .transaction .start) (r .transaction) in omega (arith, t .inside, read .size)
 
   pub entries-fit : (roots : List ℕ) (fee : ℕ) → entriesWork s roots fee b < 4294967296
   unfolding entriesWork idsWork
   entries-fit roots fee =
-      let ids = sum-most (λ (e : Entry). idWork (e .transaction .end - e .transaction .start)) (λ _. 262146) emptyEntry (b .entries) (λ k h. id-fits (getD (b .entries) k emptyEntry) (read .entry k emptyEntry h)) in
-      let climbs = from-most (paymentOf s) (standing s roots fee (b .bumps)) (standingCost s (b .bumps)) (λ _. CLIMB-MOST) emptyEntry [] (b .entries) (λ k h before. entry-fits before (getD (b .entries) k emptyEntry) (read .entry k emptyEntry h)) in
+      let ids = sum-most (λ (e : BeefEntry). idWork (e .transaction .end - e .transaction .start)) (λ _. 262146) emptyEntry (b .entries) (λ k h. id-fits (getD (b .entries) k emptyEntry) (read .entry k emptyEntry h)) in
+      let climbs = from-most (paymentOf s) (ruling s roots fee (b .bumps)) (rulingCost s (b .bumps)) (λ _. CLIMB-MOST) emptyEntry [] (b .entries) (λ k h before. entry-fits before (getD (b .entries) k emptyEntry) (read .entry k emptyEntry h)) in
       omega (arith, ids, climbs, sum-same 262146 (b .entries), sum-same CLIMB-MOST (b .entries), read .entries-low)
 
 pub work-fits : (s roots : List ℕ) (fee room : ℕ) → judgeWork s roots fee room < 4294967296
@@ -95,7 +95,7 @@ unfolding judgeWork readWork
 work-fits s roots fee room = go (leb (length s) MAX-INPUT) (eqb (length roots % 32) 0) (beefWhole room s) refl
   where
     go : (t u : Bool) (p : Parse Beef) → beefWhole room s ≡ p → pick t (pick u (readWork s roots fee p) 0) 0 < 4294967296
-    go true true (got c n) h = entries-fit room s c (beef-told room s h) roots fee
-    go true true (bad number place) h = omega arith
+    go true true (ok c n) h = entries-fit room s c (beef-told room s h) roots fee
+    go true true (fault number place) h = omega arith
     go true false p h = omega arith
     go false u p h = omega arith

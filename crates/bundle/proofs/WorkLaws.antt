@@ -10,35 +10,35 @@ use Rattle.format.specs.declared.beef.Anchor.{Anchor}
 use Rattle.format.specs.declared.beef.Anchor.the-variants.{Unanchored, Bump as InBump}
 use Rattle.path.specs.declared.path.Start.{Start}
 use Rattle.path.specs.declared.path.Start.the-variants.{At, Nowhere}
-use Rattle.format.specs.Parse.{Parse, got, bad, pick}
+use Rattle.format.specs.Parse.{Parse, ok, fault, pick}
 use Rattle.path.specs.Search.{leastOffset}
 use Rattle.format.specs.Bump.{Bump}
-use Rattle.format.specs.Beef.{Entry, Beef, beefWhole}
+use Rattle.format.specs.Beef.{BeefEntry, Beef, beefWhole}
 use Rattle.format.specs.Refusals.{TOO-LONG, BAD-ROOTS, SAME-TX, MAX-INPUT}
 use Rattle.spv.specs.declared.rejection.Rejection.{Rejection}
 use Rattle.spv.specs.Result.{Result, accepted, refused, carrying}
 use Rattle.spv.specs.Climb.{Siblings, ascend, endOf}
-use Rattle.spv.specs.Compare.{Proof, any, settle, proofOf, prove, proveBy, hits}
 use Rattle.spv.specs.Readings.{starting, levelsReading}
 use Rattle.spv.specs.Siblings.{writtenBy, findIn, levelSiblings}
 use Rattle.spv.specs.Values.{workedOut}
 use Rattle.spv.specs.Hashes.{among}
 use Rattle.bundle.specs.declared.table.Record.{Record}
-use Rattle.bundle.specs.declared.judging.Standing.{Standing}
-use Rattle.bundle.specs.declared.judging.Standing.the-variants.{Refuses, Passes}
-use Rattle.bundle.specs.Bundle.{nthBump, entryId, proving, anchoring, standing, entryRow, Judgement, ahead, judgeFrom, judgeEntries, judgeRead, judgeBeef, judgeUpTo}
+use Rattle.bundle.specs.declared.judge.Ruling.{Ruling}
+use Rattle.bundle.specs.declared.judge.Ruling.the-variants.{Refuses, Passes}
+use Rattle.bundle.specs.Bundle.{nthBump, entryId, proving, anchoring, ruling, entryRow, Judgement, ahead, judgeFrom, judgeEntries, judgeRead, judgeBeef, judgeUpTo}
 use Rattle.bundle.proofs.BundleLaws.{from-refuses, from-passes}
 use Rattle.bundle.proofs.BundleTheorems.{emptyEntry, trusted-told}
 use Rattle.climbs.specs.Count.{startCost}
 use Rattle.climbs.proofs.CountEnds.{AllWritten}
 use Rattle.climbs.proofs.CountLaws.{written-most, written-exact}
 use Rattle.bundle.specs.Amounts.{Payment, paymentOf, idsOf}
-use Rattle.bundle.specs.Work.{JOIN, sumOf, idsWork, bumpCost, anchorCost, standingCost, costFrom, entriesWork, readWork, judgeWork}
+use Rattle.bundle.specs.Work.{JOIN, sumOf, idsWork, bumpCost, anchorCost, rulingCost, costFrom, entriesWork, readWork, judgeWork}
+use Rattle.spv.specs.Prove.{Proof, settle, proofOf, prove, proveBy, hits, any}
 
 -- ---- all siblings written
 
 -- the layers of an anchored transaction's climb
-unfoldable pub layersOf : List Bump → Entry → ℕ
+unfoldable pub layersOf : List Bump → BeefEntry → ℕ
 layersOf bumps e = elim (e .anchor) [ InBump n ↦ nthBump bumps n .height | Unanchored ↦ 0 ]
 
 unfoldable pub StartWritten : Siblings → ℕ → Start → Type 0
@@ -78,9 +78,9 @@ start-exact w h id Nowhere p f e = absurd (let z : _≡_ {A = ℕ} 0 1 = cc in o
 
 -- ---- one transaction
 
-module _ (s roots : List ℕ) (fee : ℕ) (bumps : List Bump) (earlier : List Payment) (e : Entry) where
-  entry-most : AnchorWritten s bumps (entryId s e) (e .anchor) → standingCost s bumps earlier e ≤ layersOf bumps e
-  unfolding standingCost layersOf anchorCost AnchorWritten bumpCost
+module _ (s roots : List ℕ) (fee : ℕ) (bumps : List Bump) (earlier : List Payment) (e : BeefEntry) where
+  entry-most : AnchorWritten s bumps (entryId s e) (e .anchor) → rulingCost s bumps earlier e ≤ layersOf bumps e
+  unfolding rulingCost layersOf anchorCost AnchorWritten bumpCost
   entry-most f = go (among (entryId s e) (idsOf earlier)) (e .anchor) f
     where
       go : (t : Bool) (x : Anchor) → AnchorWritten s bumps (entryId s e) x
@@ -89,8 +89,8 @@ module _ (s roots : List ℕ) (fee : ℕ) (bumps : List Bump) (earlier : List Pa
       go false (InBump n) g = start-most (writtenBy s (findIn (nthBump bumps n .levels))) (nthBump bumps n .height) (entryId s e) (leastOffset s (entryId s e) (getD (nthBump bumps n .levels) 0 [])) g
       go false Unanchored g = omega arith
 
-  entry-exact : (a n i : ℕ) → AnchorWritten s bumps (entryId s e) (e .anchor) → standing s roots fee bumps earlier e ≡ Passes a n i → standingCost s bumps earlier e ≡ layersOf bumps e
-  unfolding standing anchoring standingCost layersOf anchorCost AnchorWritten bumpCost proving levelsReading levelSiblings
+  entry-exact : (a n i : ℕ) → AnchorWritten s bumps (entryId s e) (e .anchor) → ruling s roots fee bumps earlier e ≡ Passes a n i → rulingCost s bumps earlier e ≡ layersOf bumps e
+  unfolding ruling anchoring rulingCost layersOf anchorCost AnchorWritten bumpCost proving levelsReading levelSiblings
   entry-exact a n i f h = go (among (entryId s e) (idsOf earlier)) (e .anchor) f h
     where
       go : (t : Bool) (x : Anchor) → AnchorWritten s bumps (entryId s e) x → pick t (Refuses (carrying SAME-TX 0)) (anchoring s roots fee bumps earlier e x) ≡ Passes a n i
@@ -113,13 +113,13 @@ unfolding sumOf
 sum-same n [] = omega arith
 sum-same n (x ∷ l) = omega (arith, sum-same n l)
 
-module _ {A B : Type 0} (known : A → B) (stands : List B → A → Standing) (cost : List B → A → ℕ) (most : A → ℕ) (d : A) where
+module _ {A B : Type 0} (known : A → B) (stands : List B → A → Ruling) (cost : List B → A → ℕ) (most : A → ℕ) (d : A) where
   pub from-most : (earlier : List B) (l : List A) → ((k : ℕ) → k < length l → (before : List B) → cost before (getD l k d) ≤ most (getD l k d)) → costFrom known stands cost earlier l ≤ sumOf most l
   unfolding costFrom sumOf
   from-most earlier [] f = omega arith
   from-most earlier (x ∷ l) f = go (stands earlier x) (f 0 (omega arith) earlier) (from-most (earlier ++ (known x ∷ [])) l (λ k h. f (suc k) (omega arith)))
     where
-      go : (t : Standing) → cost earlier x ≤ most x → costFrom known stands cost (earlier ++ (known x ∷ [])) l ≤ sumOf most l
+      go : (t : Ruling) → cost earlier x ≤ most x → costFrom known stands cost (earlier ++ (known x ∷ [])) l ≤ sumOf most l
           → cost earlier x + elim t [ Refuses why ↦ 0 | Passes a n i ↦ costFrom known stands cost (earlier ++ (known x ∷ [])) l ] ≤ most x + sumOf most l
       go (Refuses why) a b = omega arith
       go (Passes u n i) a b = omega arith
@@ -136,7 +136,7 @@ module _ {A B : Type 0} (known : A → B) (stands : List B → A → Standing) (
     from-exact earlier [] records e f = refl
     from-exact earlier (x ∷ l) records e f = go (stands earlier x) refl (f 0 (omega arith) earlier) (λ r h. from-exact (earlier ++ (known x ∷ [])) l r h (λ k b. f (suc k) (omega arith)))
       where
-        go : (t : Standing) → stands earlier x ≡ t → ((a n i : ℕ) → stands earlier x ≡ Passes a n i → cost earlier x ≡ most x)
+        go : (t : Ruling) → stands earlier x ≡ t → ((a n i : ℕ) → stands earlier x ≡ Passes a n i → cost earlier x ≡ most x)
             → ((r : List Record) → judgeFrom known stands row (earlier ++ (known x ∷ [])) l ≡ accepted r → costFrom known stands cost (earlier ++ (known x ∷ [])) l ≡ sumOf most l)
             → cost earlier x + elim t [ Refuses why ↦ 0 | Passes a n i ↦ costFrom known stands cost (earlier ++ (known x ∷ [])) l ] ≡ most x + sumOf most l
         go (Refuses why) h a b = let q = from-refuses known stands row earlier x l why h in absurd (let z : _≡_ {A = ℕ} 0 1 = cc in omega arith)
@@ -146,8 +146,8 @@ module _ {A B : Type 0} (known : A → B) (stands : List B → A → Standing) (
 
 -- ---- turn by turn, as a loop makes them
 
-module _ {A B : Type 0} (known : A → B) (stands : List B → A → Standing) (cost : List B → A → ℕ) (earlier : List B) (x : A) (l : List A) where
-  unfoldable after : Standing → ℕ
+module _ {A B : Type 0} (known : A → B) (stands : List B → A → Ruling) (cost : List B → A → ℕ) (earlier : List B) (x : A) (l : List A) where
+  unfoldable after : Ruling → ℕ
   after t = cost earlier x + elim t [ Refuses why ↦ 0 | Passes a n i ↦ costFrom known stands cost (earlier ++ (known x ∷ [])) l ]
 
   pub cost-refuses : (why : Rejection) → stands earlier x ≡ Refuses why → costFrom known stands cost earlier (x ∷ l) ≡ cost earlier x
@@ -166,7 +166,7 @@ module _ (s roots : List ℕ) (fee : ℕ) (b : Beef) (all : SiblingsWritten s b)
   unfolding judgeEntries entriesWork writtenWork SiblingsWritten
   entries-exact records e =
       ap (λ (n : ℕ). idsWork (b .entries) + JOIN * n)
-      (from-exact (paymentOf s) (standing s roots fee (b .bumps)) (standingCost s (b .bumps)) (layersOf (b .bumps)) emptyEntry (entryRow s) [] (b .entries) records e
+      (from-exact (paymentOf s) (ruling s roots fee (b .bumps)) (rulingCost s (b .bumps)) (layersOf (b .bumps)) emptyEntry (entryRow s) [] (b .entries) records e
       (λ k h ids a n i p. entry-exact s roots fee (b .bumps) ids (getD (b .entries) k emptyEntry) a n i (all k h) p))
 
   -- "and a refusal in judging no more than that"
@@ -175,19 +175,19 @@ module _ (s roots : List ℕ) (fee : ℕ) (b : Beef) (all : SiblingsWritten s b)
   entries-most =
       omega (
         arith,
-        from-most (paymentOf s) (standing s roots fee (b .bumps)) (standingCost s (b .bumps)) (layersOf (b .bumps)) emptyEntry [] (b .entries)
+        from-most (paymentOf s) (ruling s roots fee (b .bumps)) (rulingCost s (b .bumps)) (layersOf (b .bumps)) emptyEntry [] (b .entries)
             (λ k h ids. entry-most s roots fee (b .bumps) ids (getD (b .entries) k emptyEntry) (all k h)),
       )
 
-module _ (s roots : List ℕ) (fee room : ℕ) (b : Beef) (next : ℕ) (read : beefWhole room s ≡ got b next) (all : SiblingsWritten s b) where
+module _ (s roots : List ℕ) (fee room : ℕ) (b : Beef) (next : ℕ) (read : beefWhole room s ≡ ok b next) (all : SiblingsWritten s b) where
   pub accepted-work : (records : List Record) → judgeBeef s roots fee room ≡ accepted records → judgeWork s roots fee room ≡ writtenWork b
   unfolding judgeUpTo judgeWork judgeRead readWork
   accepted-work records e = go (leb (length s) MAX-INPUT) (eqb (length roots % 32) 0) (beefWhole room s) read e
     where
-      go : (t u : Bool) (p : Parse Beef) → p ≡ got b next → pick t (pick u (judgeRead s roots fee p) (refused (carrying BAD-ROOTS 0))) (refused (carrying TOO-LONG 0)) ≡ accepted records
+      go : (t u : Bool) (p : Parse Beef) → p ≡ ok b next → pick t (pick u (judgeRead s roots fee p) (refused (carrying BAD-ROOTS 0))) (refused (carrying TOO-LONG 0)) ≡ accepted records
           → pick t (pick u (readWork s roots fee p) 0) 0 ≡ writtenWork b
-      go true true (got c n) h q = let z : c ≡ b = cc in ap (entriesWork s roots fee) z ∙ entries-exact s roots fee b all records (ap (judgeEntries s roots fee) (sym z) ∙ q)
-      go true true (bad number place) h q = absurd (let z : _≡_ {A = ℕ} 0 1 = cc in omega arith)
+      go true true (ok c n) h q = let z : c ≡ b = cc in ap (entriesWork s roots fee) z ∙ entries-exact s roots fee b all records (ap (judgeEntries s roots fee) (sym z) ∙ q)
+      go true true (fault number place) h q = absurd (let z : _≡_ {A = ℕ} 0 1 = cc in omega arith)
       go true false p h q = absurd (let z : _≡_ {A = ℕ} 0 1 = cc in omega arith)
       go false u p h q = absurd (let z : _≡_ {A = ℕ} 0 1 = cc in omega arith)
 
@@ -195,8 +195,8 @@ module _ (s roots : List ℕ) (fee room : ℕ) (b : Beef) (next : ℕ) (read : b
   unfolding judgeWork readWork
   most-work = go (leb (length s) MAX-INPUT) (eqb (length roots % 32) 0) (beefWhole room s) read
     where
-      go : (t u : Bool) (p : Parse Beef) → p ≡ got b next → pick t (pick u (readWork s roots fee p) 0) 0 ≤ writtenWork b
-      go true true (got c n) h = let z : c ≡ b = cc in omega (arith, ap (entriesWork s roots fee) z, entries-most s roots fee b all)
-      go true true (bad number place) h = absurd (let z : _≡_ {A = ℕ} 0 1 = cc in omega arith)
+      go : (t u : Bool) (p : Parse Beef) → p ≡ ok b next → pick t (pick u (readWork s roots fee p) 0) 0 ≤ writtenWork b
+      go true true (ok c n) h = let z : c ≡ b = cc in omega (arith, ap (entriesWork s roots fee) z, entries-most s roots fee b all)
+      go true true (fault number place) h = absurd (let z : _≡_ {A = ℕ} 0 1 = cc in omega arith)
       go true false p h = omega arith
       go false u p h = omega arith

@@ -15,8 +15,8 @@ use Rattle.lanes.specs.Lanes as L
 use Rattle.bundle.specs.Windows.{sumTo}
 use Rattle.bundle.specs.declared.ids.NamedSpan.{NamedSpan}
 use Rattle.bundle.specs.declared.ids.Spans.{Spans}
-use Rattle.bundle.specs.declared.judging.Verdict.{Verdict}
-use Rattle.bundle.specs.declared.judging.Verdict.the-variants.{Accepted, Refused}
+use Rattle.bundle.specs.declared.judge.Verdict.{Verdict}
+use Rattle.bundle.specs.declared.judge.Verdict.the-variants.{Accepted, Refused}
 use Rattle.bundle.specs.Ahead.{span, spanAt, ReachesFour, Onward}
 use Rattle.bundle.specs.Anchored.{joinsAt}
 use Rattle.bundle.specs.Work.{idWork}

@@ -16,13 +16,13 @@ use Rattle.format.specs.declared.beef.BeefHead.{BeefHead}
 use Rattle.format.specs.declared.beef.EntryHead.{EntryHead}
 use Rattle.format.specs.declared.beef.Anchor.{Anchor}
 use Rattle.format.specs.declared.beef.Anchor.the-variants.{Unanchored, Bump as InBump}
-use Rattle.format.specs.Parse.{Parse, got, bad, pick, each}
-use Rattle.format.proofs.ParseLaws.{each-got, each-bad}
+use Rattle.format.specs.Parse.{Parse, ok, fault, pick, each}
+use Rattle.format.proofs.ParseLaws.{each-ok, each-fault}
 use Rattle.format.specs.Bump.{headOf}
 use Rattle.format.proofs.BumpLaws.{bump-told}
 use Rattle.format.specs.Padded.{padded}
 use Rattle.format.proofs.Gather.{padded-at}
-use Rattle.format.specs.Beef.{Entry, Beef, beefWhole}
+use Rattle.format.specs.Beef.{BeefEntry, Beef, beefWhole}
 use Rattle.format.specs.BeefAnswer.{noBump, entryHeadOf, firstAt, beefHeadOf, headsOf}
 use Rattle.format.proofs.BeefLaws.{BeefRead, beef-told, heads-read}
 use Rattle.format.proofs.TransactionLaws.{tx-told}
@@ -37,7 +37,6 @@ use Rattle.spv.specs.declared.rejection.Rejection.{Rejection}
 use Rattle.spv.specs.Result.{Result, accepted, refused, carrying, atSibling}
 use Rattle.spv.specs.Climb.{Siblings, siblingPosition, odd, Step, joins, fails, step, ascendBy, ascend, endBy, endOf}
 use Rattle.spv.proofs.ClimbLaws.{ascend-joins, ascend-fails}
-use Rattle.spv.specs.Compare.{any, hits, settle, proofOf, proveBy, prove}
 use Rattle.spv.specs.Readings.{starting, levelsReading}
 use Rattle.spv.proofs.ReadingsLaws.{bump-leads}
 use Rattle.spv.specs.Siblings.{sibling, writtenBy, findIn, levelSiblings}
@@ -50,11 +49,11 @@ use Rattle.bundle.specs.Amounts.{Payment, paymentOf, idsOf}
 use Rattle.bundle.specs.Windows.{sumTo}
 use Rattle.bundle.specs.declared.table.Record.{Record}
 use Rattle.bundle.specs.declared.ids.NamedSpan.{NamedSpan}
-use Rattle.bundle.specs.declared.judging.Standing.{Standing}
-use Rattle.bundle.specs.declared.judging.Standing.the-variants.{Refuses, Passes}
-use Rattle.bundle.specs.declared.judging.Verdict.{Verdict}
-use Rattle.bundle.specs.declared.judging.Verdict.the-variants.{Accepted, Refused}
-use Rattle.bundle.specs.Bundle.{trusted, proving, nthBump, emptyBump, entryId, anchoring, standing, entryRow, Judgement, ahead, judgeFrom, judgeEntries, judgeRead, judgeBeef, judgeUpTo}
+use Rattle.bundle.specs.declared.judge.Ruling.{Ruling}
+use Rattle.bundle.specs.declared.judge.Ruling.the-variants.{Refuses, Passes}
+use Rattle.bundle.specs.declared.judge.Verdict.{Verdict}
+use Rattle.bundle.specs.declared.judge.Verdict.the-variants.{Accepted, Refused}
+use Rattle.bundle.specs.Bundle.{trusted, proving, nthBump, emptyBump, entryId, anchoring, ruling, entryRow, Judgement, ahead, judgeFrom, judgeEntries, judgeRead, judgeBeef, judgeUpTo}
 use Rattle.bundle.proofs.BundleLaws.{from-refuses, from-passes, accepted-length}
 use Rattle.bundle.proofs.BundleTheorems.{emptyEntry}
 use Rattle.bundle.specs.BundleHeads.{headId, headsFrom, noHead}
@@ -67,11 +66,12 @@ use Rattle.bundle.specs.Ahead.{anchorOf, spanOf, entryAt, spanAt, spanId
 use Rattle.bundle.proofs.AheadLaws.{first-at, later-at}
 use Rattle.bundle.specs.Anchored.{joinsAt, minedJoins, JoinsFrom}
 use Rattle.spv.proofs.RowsLaws.{map-at}
-use Rattle.bundle.specs.Work.{JOIN, idWork, sumOf, idsWork, bumpCost, anchorCost, standingCost, costFrom, entriesWork, readWork, judgeWork}
+use Rattle.bundle.specs.Work.{JOIN, idWork, sumOf, idsWork, bumpCost, anchorCost, rulingCost, costFrom, entriesWork, readWork, judgeWork}
 use Rattle.bundle.proofs.WorkLaws.{cost-refuses, cost-passes}
 use Rattle.bundle.proofs.WorkFits.{entry-fits}
 use Rattle.bundle.specs.WorkMade.{spanWork, idsMade, keptJoins, climbsBefore, climbsMade}
 use Rattle.bundle.proofs.WorkMadeLaws.{span-counted, sum-below, kept-none, kept-some, before-past, before-again, before-own}
+use Rattle.spv.specs.Prove.{hits, settle, proofOf, proveBy, prove, any}
 
 -- ---- climbs up to a refusal, by the judgement
 
@@ -85,7 +85,7 @@ unfolding ownClimb ahead
 own-ahead r (refused why) = refl
 own-ahead r (accepted l) = refl
 
-module _ {A B : Type 0} (known : A → B) (stands : List B → A → Standing) (row : A → ℕ → ℕ → ℕ → Record) (cost : List B → A → ℕ) (plain : A → ℕ)
+module _ {A B : Type 0} (known : A → B) (stands : List B → A → Ruling) (row : A → ℕ → ℕ → ℕ → Record) (cost : List B → A → ℕ) (plain : A → ℕ)
     (passing : (earlier : List B) (x : A) (a n i : ℕ) → stands earlier x ≡ Passes a n i → cost earlier x ≡ plain x)
     (refusing : (earlier : List B) (x : A) (why : Rejection) → stands earlier x ≡ Refuses why → cost earlier x ≡ pick (eqb (why .number) SAME-TX) 0 (plain x)) where
   pub from-cost : (earlier : List B) (l : List A) → costFrom known stands cost earlier l ≡ sumOf plain (take (passCount known stands earlier l + ownClimb (judgeFrom known stands row earlier l)) l)
@@ -97,7 +97,7 @@ module _ {A B : Type 0} (known : A → B) (stands : List B → A → Standing) (
       alone true = refl
       alone false = omega arith
 
-      go : (t : Standing) → stands earlier x ≡ t
+      go : (t : Ruling) → stands earlier x ≡ t
           → costFrom known stands cost (earlier ++ (known x ∷ [])) l ≡ sumOf plain (take (passCount known stands (earlier ++ (known x ∷ [])) l + ownClimb (judgeFrom known stands row (earlier ++ (known x ∷ [])) l)) l)
           → costFrom known stands cost earlier (x ∷ l) ≡ sumOf plain (take (passCount known stands earlier (x ∷ l) + ownClimb (judgeFrom known stands row earlier (x ∷ l))) (x ∷ l))
       go (Refuses why) e rest =
@@ -145,19 +145,19 @@ start-number roots bump σ h id (At i) why e = go (endOf id (ascend σ 0 h i id)
 
 module _ (s roots : List ℕ) (fee : ℕ) (b : Beef) where
   -- the joins of a transaction's climb, if it is made
-  abbrev plain : Entry → ℕ
+  abbrev plain : BeefEntry → ℕ
   plain e = anchorCost s (b .bumps) (entryId s e) (e .anchor)
 
-  passing : (earlier : List Payment) (e : Entry) (a n i : ℕ) → standing s roots fee (b .bumps) earlier e ≡ Passes a n i → standingCost s (b .bumps) earlier e ≡ plain e
-  unfolding standing standingCost
+  passing : (earlier : List Payment) (e : BeefEntry) (a n i : ℕ) → ruling s roots fee (b .bumps) earlier e ≡ Passes a n i → rulingCost s (b .bumps) earlier e ≡ plain e
+  unfolding ruling rulingCost
   passing earlier e a n i h = go (among (entryId s e) (idsOf earlier)) h
     where
       go : (t : Bool) → pick t (Refuses (carrying SAME-TX 0)) (anchoring s roots fee (b .bumps) earlier e (e .anchor)) ≡ Passes a n i → pick t 0 (plain e) ≡ plain e
       go true q = let z : _≡_ {A = ℕ} 0 1 = cc in absurd (omega arith)
       go false q = refl
 
-  refusing : (earlier : List Payment) (e : Entry) (why : Rejection) → standing s roots fee (b .bumps) earlier e ≡ Refuses why → standingCost s (b .bumps) earlier e ≡ pick (eqb (why .number) SAME-TX) 0 (plain e)
-  unfolding standing standingCost anchoring anchorCost proving levelsReading
+  refusing : (earlier : List Payment) (e : BeefEntry) (why : Rejection) → ruling s roots fee (b .bumps) earlier e ≡ Refuses why → rulingCost s (b .bumps) earlier e ≡ pick (eqb (why .number) SAME-TX) 0 (plain e)
+  unfolding ruling rulingCost anchoring anchorCost proving levelsReading
   refusing earlier e why h = go (among (entryId s e) (idsOf earlier)) (e .anchor) h
     where
       either : (t : Bool) → _≡_ {A = ℕ} 0 (pick t 0 0)
@@ -190,11 +190,11 @@ sum-taken f d (x ∷ l) (suc m) h = ap (λ (n : ℕ). f x + n) (sum-taken f d l 
 
 -- ---- where the transactions lie
 
-heads-on : (count : ℕ) (s : List ℕ) (n at : ℕ) {e : EntryHead} {next : ℕ} → entryAt count s at ≡ got e next → headsFrom count s (suc n) at ≡ e ∷ headsFrom count s n next
+heads-on : (count : ℕ) (s : List ℕ) (n at : ℕ) {e : EntryHead} {next : ℕ} → entryAt count s at ≡ ok e next → headsFrom count s (suc n) at ≡ e ∷ headsFrom count s n next
 unfolding headsFrom
 heads-on count s n at read = rw read
 
-heads-off : (count : ℕ) (s : List ℕ) (n at : ℕ) {k q : ℕ} → entryAt count s at ≡ bad k q → headsFrom count s (suc n) at ≡ []
+heads-off : (count : ℕ) (s : List ℕ) (n at : ℕ) {k q : ℕ} → entryAt count s at ≡ fault k q → headsFrom count s (suc n) at ≡ []
 unfolding headsFrom
 heads-off count s n at read = rw read
 
@@ -204,16 +204,16 @@ span-head count s (suc n) at k h = go (entryAt count s at) refl k h (λ next j l
   where
     go : (r : Parse EntryHead) → entryAt count s at ≡ r → (k : ℕ) → k < length (headsFrom count s (suc n) at) → ((next j : ℕ) → j < length (headsFrom count s n next) → spanAt count s next j ≡ spanOf (getD (headsFrom count s n next) j noHead))
         → spanAt count s at k ≡ spanOf (getD (headsFrom count s (suc n) at) k noHead)
-    go (got e next) q zero l rest = first-at count s at q ∙ sym (ap (λ (m : List EntryHead). spanOf (getD m 0 noHead)) (heads-on count s n at q))
-    go (got e next) q (suc j) l rest =
+    go (ok e next) q zero l rest = first-at count s at q ∙ sym (ap (λ (m : List EntryHead). spanOf (getD m 0 noHead)) (heads-on count s n at q))
+    go (ok e next) q (suc j) l rest =
         let size = ap length (heads-on count s n at q) in
         later-at count s at q j ∙ rest next j (omega arith) ∙ sym (ap (λ (m : List EntryHead). spanOf (getD m (suc j) noHead)) (heads-on count s n at q))
-    go (bad p r) q j l rest = absurd (let size = ap length (heads-off count s n at q) in omega arith)
+    go (fault p r) q j l rest = absurd (let size = ap length (heads-off count s n at q) in omega arith)
 
 -- ---- a bundle that was read
 
 module _ (s roots : List ℕ) (fee room : ℕ) (b : Beef) (read : BeefRead room s b) where
-  abbrev nth : ℕ → Entry
+  abbrev nth : ℕ → BeefEntry
   nth k = getD (b .entries) k emptyEntry
 
   abbrev heads : List BumpHead
@@ -248,8 +248,8 @@ module _ (s roots : List ℕ) (fee room : ℕ) (b : Beef) (read : BeefRead room 
   unfolding idsMade idsWork
   ids-made =
       sum-below (λ k. spanWork (spanAt count s place k)) (λ k. idWork (nth k .transaction .end - nth k .transaction .start)) many id-is
-      ∙ sym (sum-taken (λ (e : Entry). idWork (e .transaction .end - e .transaction .start)) emptyEntry (b .entries) many (omega arith))
-      ∙ ap (sumOf (λ (e : Entry). idWork (e .transaction .end - e .transaction .start))) (take-all many (b .entries) (omega arith))
+      ∙ sym (sum-taken (λ (e : BeefEntry). idWork (e .transaction .end - e .transaction .start)) emptyEntry (b .entries) many (omega arith))
+      ∙ ap (sumOf (λ (e : BeefEntry). idWork (e .transaction .end - e .transaction .start))) (take-all many (b .entries) (omega arith))
 
   -- climbs
   mined-cost : (m : ℕ) → m < count → (id : List ℕ) → minedJoins s heads m id ≡ bumpCost s (nthBump (b .bumps) m) id
@@ -265,7 +265,7 @@ module _ (s roots : List ℕ) (fee room : ℕ) (b : Beef) (read : BeefRead room 
       ∙ start-same (writtenBy s (leafIn s (bumpPath s bump))) (writtenBy s (findIn (bump .levels))) (bump .height) (λ k q l. ap (sibling s) (leads .leaf k q l)) id (leastOffset s id (getD (bump .levels) 0 []))
 
   plain-low : (k : ℕ) → k < many → plain s roots fee b (nth k) ≤ 65600
-  unfolding standingCost among
+  unfolding rulingCost among
   plain-low k low = entry-fits room s b read [] (nth k) (read .entry k emptyEntry low)
 
   module _ (anchors ends : List ℕ) (named : AnchorsFrom count s place many anchors) (kept : JoinsFrom count s heads place many ends) (wide : many ≤ length anchors) where
@@ -297,15 +297,15 @@ module _ (s roots : List ℕ) (fee room : ℕ) (b : Beef) (read : BeefRead room 
 
     -- the climbs that the verdict counts
     climbs-are : (v : Verdict) (ids numbers : List ℕ) → judgementOf v ids numbers ≡ judgeEntries s roots fee b
-        → sumTo (keptJoins anchors ends) (climbsMade v many) ≡ costFrom (paymentOf s) (standing s roots fee (b .bumps)) (standingCost s (b .bumps)) [] (b .entries)
+        → sumTo (keptJoins anchors ends) (climbsMade v many) ≡ costFrom (paymentOf s) (ruling s roots fee (b .bumps)) (rulingCost s (b .bumps)) [] (b .entries)
     unfolding judgeEntries judgementOf climbsMade ownClimb
-    climbs-are v ids numbers judged = all v judged ∙ sym (from-cost (paymentOf s) (standing s roots fee (b .bumps)) (entryRow s) (standingCost s (b .bumps)) (plain s roots fee b) (passing s roots fee b) (refusing s roots fee b) [] (b .entries))
+    climbs-are v ids numbers judged = all v judged ∙ sym (from-cost (paymentOf s) (ruling s roots fee (b .bumps)) (entryRow s) (rulingCost s (b .bumps)) (plain s roots fee b) (passing s roots fee b) (refusing s roots fee b) [] (b .entries))
       where
         P : ℕ
-        P = passCount (paymentOf s) (standing s roots fee (b .bumps)) [] (b .entries)
+        P = passCount (paymentOf s) (ruling s roots fee (b .bumps)) [] (b .entries)
 
         J : Judgement
-        J = judgeFrom (paymentOf s) (standing s roots fee (b .bumps)) (entryRow s) [] (b .entries)
+        J = judgeFrom (paymentOf s) (ruling s roots fee (b .bumps)) (entryRow s) [] (b .entries)
 
         taken : (m : ℕ) → m ≤ many → sumTo (keptJoins anchors ends) m ≡ sumOf (plain s roots fee b) (take m (b .entries))
         taken m few =
@@ -318,7 +318,7 @@ module _ (s roots : List ℕ) (fee room : ℕ) (b : Beef) (read : BeefRead room 
         reached : (v : Verdict) → judgementOf v ids numbers ≡ judgeEntries s roots fee b → P ≡ reachedBy v
         reached v e =
             let z : P ≡ 0 + P = omega arith in
-            z ∙ count-reached (paymentOf s) (standing s roots fee (b .bumps)) (entryRow s) [] (b .entries) ∙ sym (ap (reachedFrom 0) e) ∙ sym (reached-is v ids numbers)
+            z ∙ count-reached (paymentOf s) (ruling s roots fee (b .bumps)) (entryRow s) [] (b .entries) ∙ sym (ap (reachedFrom 0) e) ∙ sym (reached-is v ids numbers)
 
         own : (v : Verdict) → judgementOf v ids numbers ≡ judgeEntries s roots fee b → ownClimb J ≡ ownClimb (judgementOf v ids numbers)
         own v e = sym (ap ownClimb e)
@@ -345,7 +345,7 @@ module _ (s roots : List ℕ) (fee room : ℕ) (b : Beef) (read : BeefRead room 
         all : (v : Verdict) → judgementOf v ids numbers ≡ judgeEntries s roots fee b → sumTo (keptJoins anchors ends) (climbsMade v many) ≡ sumOf (plain s roots fee b) (take (P + ownClimb J) (b .entries))
         all (Accepted n) e =
             let r = reached (Accepted n) e in
-            let size = accepted-length (paymentOf s) (standing s roots fee (b .bumps)) (entryRow s) emptyEntry blankRecord [] (b .entries) (flat n ids numbers) (sym e) in
+            let size = accepted-length (paymentOf s) (ruling s roots fee (b .bumps)) (entryRow s) emptyEntry blankRecord [] (b .entries) (flat n ids numbers) (sym e) in
             let has = flat-length n ids numbers in
             whole (P + ownClimb J) (omega arith)
         all (Refused why) e = before why e (ltb (why .carried) many) refl (eqb (why .number) SAME-TX) refl
@@ -371,9 +371,9 @@ module _ (s roots : List ℕ) (fee room : ℕ) where
     work-roots h = simp (le-leb _ _ fits, ne-eqb _ _ h)
 
     module _ (even : length roots % 32 ≡ 0) where
-      pub work-refused : (x : Refusal) → each beefHeadOf (beefWhole room s) ≡ bad (x .number) (x .place) → 0 ≡ judgeWork s roots fee room
+      pub work-refused : (x : Refusal) → each beefHeadOf (beefWhole room s) ≡ fault (x .number) (x .place) → 0 ≡ judgeWork s roots fee room
       unfolding judgeWork readWork
-      work-refused x e = simp (le-leb _ _ fits, eq-eqb _ _ even, each-bad beefHeadOf (beefWhole room s) e)
+      work-refused x e = simp (le-leb _ _ fits, eq-eqb _ _ even, each-fault beefHeadOf (beefWhole room s) e)
 
       -- what is known of the head of a bundle, and what follows
       abbrev Counts : List BumpHead → Verdict → List ℕ → List ℕ → List ℕ → List ℕ → ℕ → BeefHead → Type 0
@@ -381,14 +381,14 @@ module _ (s roots : List ℕ) (fee room : ℕ) where
           AnchorsFrom (h .bumps) s (h .entries .at) (h .transactions) anchors → JoinsFrom (h .bumps) s bumps (h .entries .at) (h .transactions) ends → h .transactions ≤ length anchors
           → made ≡ idsMade (h .bumps) s (h .entries .at) (h .transactions) → made + JOIN * sumTo (keptJoins anchors ends) (climbsMade v (h .transactions)) ≡ judgeWork s roots fee room
 
-      pub work-read : (h : BeefHead) (q : ℕ) {bumps : List BumpHead} → each beefHeadOf (beefWhole room s) ≡ got h q → bumps ≡ headsOf (beefWhole room s)
+      pub work-read : (h : BeefHead) (q : ℕ) {bumps : List BumpHead} → each beefHeadOf (beefWhole room s) ≡ ok h q → bumps ≡ headsOf (beefWhole room s)
           → (v : Verdict) (ids numbers anchors ends : List ℕ) {made : ℕ} → judgementOf v ids numbers ≡ judgeBeef s roots fee room → Counts bumps v ids numbers anchors ends made h
       unfolding judgeUpTo judgeRead judgeWork readWork
       work-read h q {bumps} e found v ids numbers anchors ends {made} judged =
-          let w = each-got beefHeadOf (beefWhole room s) e in
+          let w = each-ok beefHeadOf (beefWhole room s) e in
           outcome (w .0) (w .1) (w .2) (beef-told room s (w .1))
         where
-          outcome : (b : Beef) → beefWhole room s ≡ got b q → beefHeadOf b ≡ h → BeefRead room s b → Counts bumps v ids numbers anchors ends made h
+          outcome : (b : Beef) → beefWhole room s ≡ ok b q → beefHeadOf b ≡ h → BeefRead room s b → Counts bumps v ids numbers anchors ends made h
           outcome b g is read =
               let by : judgementOf v ids numbers ≡ judgeEntries s roots fee b = judged ∙ simp (le-leb _ _ fits, eq-eqb _ _ even, g) in
               let work : judgeWork s roots fee room ≡ entriesWork s roots fee b = simp (le-leb _ _ fits, eq-eqb _ _ even, g) in

@@ -14,12 +14,12 @@ use Rattle.format.specs.BeefAnswer.{noBump}
 use Rattle.format.specs.Refusals.{MAX-BUMPS}
 use Rattle.path.specs.declared.path.Path.{Path}
 use Rattle.path.specs.Path.{bumpPathOf}
-use Rattle.spv.specs.Compare.{prove}
+use Rattle.spv.specs.Prove.{prove}
 use Rattle.spv.specs.Readings.{pathReading}
 use Rattle.spv.specs.Shapes.{provedOf}
 use Rattle.climbs.specs.Proofs.{joinsIn, provedAt}
-use Rattle.bundle.specs.declared.judging.Standing.{Standing}
-use Rattle.bundle.specs.declared.judging.Standing.the-variants.{Refuses, Passes}
+use Rattle.bundle.specs.declared.judge.Ruling.{Ruling}
+use Rattle.bundle.specs.declared.judge.Ruling.the-variants.{Refuses, Passes}
 use Rattle.bundle.specs.Bundle.{trusted}
 use Rattle.bundle.specs.BundleHeads.{headProving}
 use Rattle.bundle.specs.Ahead.{spanAt, spanId}
@@ -29,31 +29,31 @@ ENDS-ROOM = 1024
 
 -- ---- four numbers of a transaction
 
-unfoldable pub endNumber : Standing → ℕ
+unfoldable pub endNumber : Ruling → ℕ
 endNumber (Refuses why) = why .number
 endNumber (Passes a n p) = 0
 
-unfoldable pub endLayer : Standing → ℕ
+unfoldable pub endLayer : Ruling → ℕ
 endLayer (Refuses why) = why .layer
 endLayer (Passes a n p) = 0
 
-unfoldable pub endPlace : Standing → ℕ
+unfoldable pub endPlace : Ruling → ℕ
 endPlace (Refuses why) = why .sibling
 endPlace (Passes a n p) = p
 
 unfoldable pub putFour : List ℕ → ℕ → ℕ → ℕ → ℕ → ℕ → List ℕ
 putFour ends i number layer place joins = set (set (set (set ends (4 * i) number) (4 * i + 1) layer) (4 * i + 2) place) (4 * i + 3) joins
 
-abbrev pub putEnd : List ℕ → ℕ → Standing → ℕ → List ℕ
+abbrev pub putEnd : List ℕ → ℕ → Ruling → ℕ → List ℕ
 putEnd ends i t joins = putFour ends i (endNumber t) (endLayer t) (endPlace t) joins
 
--- the standing by the BUMP with a number, of the first three
-unfoldable pub standingBy : ℕ → ℕ → ℕ → ℕ → Standing
-standingBy bump number layer place =
+-- the ruling by the BUMP with a number, of the first three
+unfoldable pub rulingBy : ℕ → ℕ → ℕ → ℕ → Ruling
+rulingBy bump number layer place =
     pick (eqb (number % 256) 0) (Passes 1 bump place) (Refuses (record { number = number % 256; carried = 0; layer = layer; sibling = place }))
 
-unfoldable pub standingAt : List ℕ → ℕ → ℕ → Standing
-standingAt ends bump i = standingBy bump (getD ends (4 * i) 0) (getD ends (4 * i + 1) 0) (getD ends (4 * i + 2) 0)
+unfoldable pub rulingAt : List ℕ → ℕ → ℕ → Ruling
+rulingAt ends bump i = rulingBy bump (getD ends (4 * i) 0) (getD ends (4 * i + 1) 0) (getD ends (4 * i + 2) 0)
 
 unfoldable pub joinsAt : List ℕ → ℕ → ℕ
 joinsAt ends i = getD ends (4 * i + 3) 0
@@ -61,7 +61,7 @@ joinsAt ends i = getD ends (4 * i + 3) 0
 -- ---- what they must be
 
 -- an id by the BUMP with a number, to a root of the list
-unfoldable pub minedBy : List ℕ → List ℕ → List BumpHead → ℕ → List ℕ → Standing
+unfoldable pub minedBy : List ℕ → List ℕ → List BumpHead → ℕ → List ℕ → Ruling
 minedBy s roots bumps bump id = trusted roots bump (headProving s (getD bumps bump noBump) id)
 
 -- the joins of its climb
@@ -71,7 +71,7 @@ minedJoins s bumps bump id = joinsIn s (bumpPathOf s (getD bumps bump noBump)) i
 -- what is kept of the i-th transaction is what it comes to by the BUMP that it names
 unfoldable pub Right : List ℕ → List ℕ → List BumpHead → List ℕ → List ℕ → List ℕ → ℕ → Type 0
 Right s roots bumps anchors ids ends i =
-    (standingAt ends (getD anchors i 0) i ≡ minedBy s roots bumps (getD anchors i 0) (hashAt ids (32 * i))) × (joinsAt ends i ≡ minedJoins s bumps (getD anchors i 0) (hashAt ids (32 * i)))
+    (rulingAt ends (getD anchors i 0) i ≡ minedBy s roots bumps (getD anchors i 0) (hashAt ids (32 * i))) × (joinsAt ends i ≡ minedJoins s bumps (getD anchors i 0) (hashAt ids (32 * i)))
 
 -- none of n names a BUMP
 unfoldable pub Unnamed : List ℕ → ℕ → ℕ → Type 0
@@ -112,7 +112,7 @@ Risen s roots head bump n anchors ids ends ends′ =
 -- what is kept of n transactions from a place on
 unfoldable pub EndsFrom : ℕ → List ℕ → List ℕ → List BumpHead → ℕ → ℕ → List ℕ → Type 0
 EndsFrom count s roots bumps at n ends =
-    (k : ℕ) → k < n → spanAt count s at k .anchor < MAX-BUMPS → standingAt ends (spanAt count s at k .anchor) k ≡ minedBy s roots bumps (spanAt count s at k .anchor) (spanId s (spanAt count s at k))
+    (k : ℕ) → k < n → spanAt count s at k .anchor < MAX-BUMPS → rulingAt ends (spanAt count s at k .anchor) k ≡ minedBy s roots bumps (spanAt count s at k .anchor) (spanId s (spanAt count s at k))
 
 -- and the joins of their climbs
 unfoldable pub JoinsFrom : ℕ → List ℕ → List BumpHead → ℕ → ℕ → List ℕ → Type 0
@@ -120,5 +120,5 @@ JoinsFrom count s bumps at n ends =
     (k : ℕ) → k < n → spanAt count s at k .anchor < MAX-BUMPS → joinsAt ends k ≡ minedJoins s bumps (spanAt count s at k .anchor) (spanId s (spanAt count s at k))
 
 -- what an anchored transaction comes to
-abbrev pub Mined : List ℕ → List ℕ → List BumpHead → List ℕ → Anchor → Standing → Type 0
+abbrev pub Mined : List ℕ → List ℕ → List BumpHead → List ℕ → Anchor → Ruling → Type 0
 Mined s roots bumps id anchor t = (n : ℕ) → anchor ≡ InBump n → n < MAX-BUMPS → t ≡ minedBy s roots bumps n id

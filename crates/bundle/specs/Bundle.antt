@@ -4,23 +4,23 @@ use mathlib.Core.Bool.{Bool, true, _&&_}
 use mathlib.Core.List.{List, [], _∷_, _++_}
 use lib.Dec.{leb, eqb}
 use lib.ListN.{length, getD, replicate}
-use Rattle.format.specs.declared.tx.Input.{Input}
+use Rattle.format.specs.declared.transaction.Input.{Input}
 use Rattle.format.specs.declared.beef.Anchor.{Anchor}
 use Rattle.format.specs.declared.beef.Anchor.the-variants.{Unanchored, Bump as InBump}
-use Rattle.format.specs.Parse.{Parse, got, bad, pick, whole}
+use Rattle.format.specs.Parse.{Parse, ok, fault, pick, whole}
 use Rattle.format.specs.Bytes.{hashAt}
 use Rattle.format.specs.Bump.{Bump}
 use Rattle.format.specs.Padded.{padded}
 use Rattle.format.specs.Id.{txid}
-use Rattle.format.specs.Beef.{Entry, Beef, beefUpTo}
+use Rattle.format.specs.Beef.{BeefEntry, Beef, beefUpTo}
 use Rattle.format.specs.Refusals.{TOO-LONG, UNTRUSTED, SAME-TX, NO-PARENT, BAD-ROOTS, MAX-INPUT, MAX-HEIGHT}
 use Rattle.bundle.specs.declared.table.Record.{Record}
-use Rattle.bundle.specs.declared.judging.Standing.{Standing}
-use Rattle.bundle.specs.declared.judging.Standing.the-variants.{Refuses, Passes}
-use Rattle.bundle.specs.declared.judging.Verdict.{Verdict}
-use Rattle.bundle.specs.declared.judging.Verdict.the-variants.{Accepted, Refused}
+use Rattle.bundle.specs.declared.judge.Ruling.{Ruling}
+use Rattle.bundle.specs.declared.judge.Ruling.the-variants.{Refuses, Passes}
+use Rattle.bundle.specs.declared.judge.Verdict.{Verdict}
+use Rattle.bundle.specs.declared.judge.Verdict.the-variants.{Accepted, Refused}
 use Rattle.spv.specs.Result.{Result, accepted, refused, carrying, blaming}
-use Rattle.spv.specs.Compare.{Proof, prove}
+use Rattle.spv.specs.Prove.{Proof, prove}
 use Rattle.spv.specs.Readings.{levelsReading}
 use Rattle.spv.specs.Hashes.{hashesOf, among}
 use Rattle.bundle.specs.Table.{blankRecord}
@@ -32,7 +32,7 @@ rests s ids [] = true
 rests s ids (input ∷ l) = among (hashAt s (input .parent)) ids && rests s ids l
 
 -- "An anchored one (byte 01) must climb in its BUMP to a root in the lent list"
-unfoldable pub trusted : List ℕ → ℕ → Result Proof → Standing
+unfoldable pub trusted : List ℕ → ℕ → Result Proof → Ruling
 trusted roots n (refused why) = Refuses why
 trusted roots n (accepted p) = pick (among (p .root) (hashesOf roots)) (Passes 1 n (p .position)) (Refuses (carrying UNTRUSTED 0))
 
@@ -47,26 +47,26 @@ emptyBump = record { block = 0; height = 0; start = 0; levels = [] }
 abbrev pub nthBump : List Bump → ℕ → Bump
 nthBump bumps n = getD bumps n emptyBump
 
-abbrev pub entryId : List ℕ → Entry → List ℕ
+abbrev pub entryId : List ℕ → BeefEntry → List ℕ
 entryId s e = txid s (e .transaction)
 
 -- one that is not anchored, as 26, 27 and 28 say
-abbrev pub standingOf : Result (Unit {0}) → Standing
-standingOf (refused why) = Refuses why
-standingOf (accepted u) = Passes 0 0 0
+abbrev pub rulingOf : Result (Unit {0}) → Ruling
+rulingOf (refused why) = Refuses why
+rulingOf (accepted u) = Passes 0 0 0
 
 module _ (s roots : List ℕ) (fee : ℕ) (bumps : List Bump) where
   -- "Any other must have, for each input, an earlier transaction with the parent's id"; then 26, 27 and 28
-  unfoldable pub anchoring : List Payment → Entry → Anchor → Standing
+  unfoldable pub anchoring : List Payment → BeefEntry → Anchor → Ruling
   anchoring earlier e (InBump n) = trusted roots n (proving s (nthBump bumps n) (entryId s e))
-  anchoring earlier e Unanchored = pick (rests s (idsOf earlier) (e .transaction .inputs)) (standingOf (funded fee earlier (paymentOf s e))) (Refuses (carrying NO-PARENT 0))
+  anchoring earlier e Unanchored = pick (rests s (idsOf earlier) (e .transaction .inputs)) (rulingOf (funded fee earlier (paymentOf s e))) (Refuses (carrying NO-PARENT 0))
 
   -- 19, then 13, 14 or 15, 17, or 20, 26, 27, 28
-  unfoldable pub standing : List Payment → Entry → Standing
-  standing earlier e = pick (among (entryId s e) (idsOf earlier)) (Refuses (carrying SAME-TX 0)) (anchoring earlier e (e .anchor))
+  unfoldable pub ruling : List Payment → BeefEntry → Ruling
+  ruling earlier e = pick (among (entryId s e) (idsOf earlier)) (Refuses (carrying SAME-TX 0)) (anchoring earlier e (e .anchor))
 
 -- the record of a transaction
-unfoldable pub entryRow : List ℕ → Entry → ℕ → ℕ → ℕ → Record
+unfoldable pub entryRow : List ℕ → BeefEntry → ℕ → ℕ → ℕ → Record
 entryRow s e a n i =
     record {
       start = e .transaction .start;
@@ -88,7 +88,7 @@ ahead r (refused why) = refused why
 ahead r (accepted l) = accepted (r ∷ l)
 
 -- "transactions are judged from the first", each after what is known of the earlier ones; a refusal carries the transaction's number, counted from 0
-module _ {A B : Type 0} (known : A → B) (stands : List B → A → Standing) (row : A → ℕ → ℕ → ℕ → Record) where
+module _ {A B : Type 0} (known : A → B) (stands : List B → A → Ruling) (row : A → ℕ → ℕ → ℕ → Record) where
   unfoldable pub judgeFrom : List B → List A → Judgement
   judgeFrom earlier [] = accepted []
   judgeFrom earlier (x ∷ l) =
@@ -96,12 +96,12 @@ module _ {A B : Type 0} (known : A → B) (stands : List B → A → Standing) (
       [ Refuses why ↦ refused (blaming (length earlier) why) | Passes a n i ↦ ahead (row x a n i) (judgeFrom (earlier ++ (known x ∷ [])) l) ]
 
 unfoldable pub judgeEntries : List ℕ → List ℕ → ℕ → Beef → Judgement
-judgeEntries s roots fee b = judgeFrom (paymentOf s) (standing s roots fee (b .bumps)) (entryRow s) [] (b .entries)
+judgeEntries s roots fee b = judgeFrom (paymentOf s) (ruling s roots fee (b .bumps)) (entryRow s) [] (b .entries)
 
 -- "The whole BEEF is read first"
 unfoldable pub judgeRead : List ℕ → List ℕ → ℕ → Parse Beef → Judgement
-judgeRead s roots fee (bad number place) = refused (carrying number place)
-judgeRead s roots fee (got b next) = judgeEntries s roots fee b
+judgeRead s roots fee (fault number place) = refused (carrying number place)
+judgeRead s roots fee (ok b next) = judgeEntries s roots fee b
 
 -- a BEEF, a list of roots, a fee for each transaction, and room for so many records: 1, 21, then fields as they come, with BUMPs of at most so many layers
 unfoldable pub judgeUpTo : ℕ → List ℕ → List ℕ → ℕ → ℕ → Judgement

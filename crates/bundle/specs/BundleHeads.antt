@@ -5,7 +5,7 @@ use mathlib.Core.Bool.{Bool, true, false}
 use mathlib.Core.List.{List, [], _∷_, map}
 use lib.Dec.{ltb}
 use lib.ListN.{length, getD, take}
-use Rattle.format.specs.declared.tx.TxHead.{TxHead}
+use Rattle.format.specs.declared.transaction.TxHead.{TxHead}
 use Rattle.format.specs.declared.bump.BumpHead.{BumpHead}
 use Rattle.format.specs.declared.beef.Anchor.{Anchor}
 use Rattle.format.specs.declared.beef.Anchor.the-variants.{Unanchored, Bump as InBump}
@@ -19,11 +19,11 @@ use Rattle.format.specs.BeefAnswer.{noBump, entryHeadOf}
 use Rattle.format.specs.Id.{spanHash}
 use Rattle.format.specs.Refusals.{BAD-INDEX, SAME-TX, NO-PARENT, MAX-BUMPS}
 use Rattle.bundle.specs.declared.table.Record.{Record}
-use Rattle.bundle.specs.declared.judging.Standing.the-variants.{Refuses, Passes}
-use Rattle.bundle.specs.declared.judging.Standing.{Standing}
+use Rattle.bundle.specs.declared.judge.Ruling.the-variants.{Refuses, Passes}
+use Rattle.bundle.specs.declared.judge.Ruling.{Ruling}
 use Rattle.spv.specs.Result.{Result, carrying}
 use Rattle.bundle.specs.Table.{flatHead}
-use Rattle.spv.specs.Compare.{prove, Proof}
+use Rattle.spv.specs.Prove.{prove, Proof}
 use Rattle.spv.specs.Readings.{pathReading}
 use Rattle.spv.specs.Hashes.{hashesOf, among}
 use Rattle.bundle.specs.Amounts.{isAnchored}
@@ -58,19 +58,19 @@ unfoldable pub headProving : List ℕ → BumpHead → List ℕ → Result Proof
 headProving s b id = prove (pathReading s (bumpPathOf s b) id)
 
 module _ (s roots : List ℕ) (bumps : List BumpHead) where
-  unfoldable pub headAnchoring : List (List ℕ) → List ℕ → TxHead → Anchor → Standing
+  unfoldable pub headAnchoring : List (List ℕ) → List ℕ → TxHead → Anchor → Ruling
   headAnchoring earlier id t (InBump n) = pick (ltb n MAX-BUMPS) (trusted roots n (headProving s (getD bumps n noBump) id)) (Refuses (carrying BAD-INDEX 0))
   headAnchoring earlier id t Unanchored = pick (restsFrom s earlier (t .inputs .count) (t .inputs .at .at)) (Passes 0 0 0) (Refuses (carrying NO-PARENT 0))
 
-  unfoldable pub headStanding : List (List ℕ) → List ℕ → EntryHead → Standing
-  headStanding earlier id e = pick (among id earlier) (Refuses (carrying SAME-TX 0)) (headAnchoring earlier id (e .transaction) (e .anchor))
+  unfoldable pub headRuling : List (List ℕ) → List ℕ → EntryHead → Ruling
+  headRuling earlier id e = pick (among id earlier) (Refuses (carrying SAME-TX 0)) (headAnchoring earlier id (e .transaction) (e .anchor))
 
 -- what is judged, by an entry's head
 abbrev pub headId : List ℕ → EntryHead → List ℕ
 headId s e = spanHash s (e .transaction .start) (e .transaction .end)
 
-abbrev pub headStands : List ℕ → List ℕ → List BumpHead → List (List ℕ) → EntryHead → Standing
-headStands s roots bumps earlier e = headStanding s roots bumps earlier (headId s e) e
+abbrev pub headStands : List ℕ → List ℕ → List BumpHead → List (List ℕ) → EntryHead → Ruling
+headStands s roots bumps earlier e = headRuling s roots bumps earlier (headId s e) e
 
 abbrev pub headRow : List ℕ → EntryHead → ℕ → ℕ → ℕ → Record
 headRow s e a n i = flatHead (headId s e) (numbersOf (e .transaction) (headTotal s (e .transaction)) a n i)

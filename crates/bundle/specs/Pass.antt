@@ -8,7 +8,7 @@ use lib.ListN.{length, getD, take, drop}
 use Rattle.format.specs.Parse.{pick}
 use Rattle.spv.specs.Result.{accepted, refused, carrying, blaming, Result}
 use Rattle.bundle.specs.declared.pass.Fault.{Fault}
-use Rattle.bundle.specs.Amounts.{Payment, Standing, fresh, spends, worths, total}
+use Rattle.bundle.specs.Amounts.{Payment, AmountRuling, fresh, spends, worths, total}
 use Rattle.bundle.specs.Payments.{noPayment}
 use Rattle.format.specs.Refusals.{U32}
 use Rattle.bundle.specs.declared.sums.Walk.{Walk}
@@ -23,7 +23,7 @@ use Rattle.bundle.specs.Bundle.{Judgement}
 abbrev pub WINDOW : ℕ
 WINDOW = 65536
 
-unfoldable pub faultOf : Fault → Standing
+unfoldable pub faultOf : Fault → AmountRuling
 faultOf f = pick (eqb (f .number) 0) (accepted tt) (refused (blaming (f .entry) (carrying (f .number) 0)))
 
 unfoldable pub isEnough : ℕ → ℕ → ℕ → ℕ → Bool

@@ -5,7 +5,7 @@ use mathlib.Core.Bool.{true}
 use mathlib.Core.List.{List, _++_}
 use lib.Dec.{ltb, leb, eqb}
 use lib.ListN.{length, getD, take}
-use Rattle.format.specs.Parse.{got, pick, many}
+use Rattle.format.specs.Parse.{ok, pick, many}
 use Rattle.format.specs.Transaction.{takes, outputField, outputsField}
 use Rattle.bundle.specs.declared.sums.Walk.{Walk}
 use Rattle.bundle.specs.Amounts.{Payment, total}
@@ -30,7 +30,7 @@ pub record Counted (s numbers : List ℕ) (l : List Payment) : Type 0 where
   pub long : 10 * length l ≤ length numbers
   pub outputs : (k : ℕ) → k < length l → column numbers 5 k ≡ length (getD l k noPayment .outputs)
   pub some : (k : ℕ) → k < length l → 1 ≤ length (getD l k noPayment .outputs)
-  pub read : (k : ℕ) → k < length l → (q : ℕ) × (outputsField true (length (getD l k noPayment .outputs)) s (column numbers 9 k) ≡ got (getD l k noPayment .outputs) q)
+  pub read : (k : ℕ) → k < length l → (q : ℕ) × (outputsField true (length (getD l k noPayment .outputs)) s (column numbers 9 k) ≡ ok (getD l k noPayment .outputs) q)
   pub modest : (k : ℕ) → k < length l → total (getD l k noPayment .outputs) ≤ 2_100_000_000_000_000
 
 -- the walk stands before the output m
@@ -41,7 +41,7 @@ pub record Here (s : List ℕ) (l : List Payment) (w : Walk) (m : ℕ) : Type 0 
   pub parts : done ++ rest ≡ getD l (w .entry) noPayment .outputs
   pub left-is : w .left ≡ length rest
   pub end : ℕ
-  pub read : many (λ t. outputField (takes true t)) _+_ (length rest) (total done) s (w .next .at) ≡ got rest end
+  pub read : many (λ t. outputField (takes true t)) _+_ (length rest) (total done) s (w .next .at) ≡ ok rest end
   pub number : outputCount (take (w .entry) l) + length done ≡ m
 
 -- marks that name the spenders of so many outputs from m on

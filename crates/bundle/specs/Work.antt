@@ -5,18 +5,18 @@ use lib.Dec.{leb, eqb}
 use lib.ListN.{length, getD}
 use Rattle.format.specs.declared.beef.Anchor.{Anchor}
 use Rattle.format.specs.declared.beef.Anchor.the-variants.{Unanchored, Bump as InBump}
-use Rattle.format.specs.Parse.{Parse, got, bad, pick}
+use Rattle.format.specs.Parse.{Parse, ok, fault, pick}
 use Rattle.format.specs.Bump.{Bump}
-use Rattle.format.specs.Beef.{Entry, Beef, beefWhole}
+use Rattle.format.specs.Beef.{BeefEntry, Beef, beefWhole}
 use Rattle.format.specs.Refusals.{MAX-INPUT}
 use Rattle.path.specs.Search.{leastOffset}
 use Rattle.spv.specs.Siblings.{writtenBy, findIn}
 use Rattle.spv.specs.Hashes.{among}
 use Rattle.climbs.specs.Count.{startCost}
 use Rattle.bundle.specs.Amounts.{Payment, paymentOf, idsOf}
-use Rattle.bundle.specs.declared.judging.Standing.{Standing}
-use Rattle.bundle.specs.declared.judging.Standing.the-variants.{Refuses, Passes}
-use Rattle.bundle.specs.Bundle.{nthBump, entryId, standing}
+use Rattle.bundle.specs.declared.judge.Ruling.{Ruling}
+use Rattle.bundle.specs.declared.judge.Ruling.the-variants.{Refuses, Passes}
+use Rattle.bundle.specs.Bundle.{nthBump, entryId, ruling}
 
 -- "for a transaction of n bytes, (n + 72) / 64 rounded down, plus 1"
 unfoldable pub idWork : ℕ → ℕ
@@ -31,7 +31,7 @@ sumOf f [] = 0
 sumOf f (x ∷ l) = f x + sumOf f l
 
 -- "Ids of all transactions are worked out before judging, each once"
-unfoldable pub idsWork : List Entry → ℕ
+unfoldable pub idsWork : List BeefEntry → ℕ
 idsWork = sumOf (λ e. idWork (e .transaction .end - e .transaction .start))
 
 -- the joins of an id's climb in a BUMP of the bundle; one that is not listed (13) makes none
@@ -44,22 +44,22 @@ module _ (s : List ℕ) (bumps : List Bump) where
   anchorCost id Unanchored = 0
 
   -- an id equal to an earlier one (19) makes no climb
-  unfoldable pub standingCost : List Payment → Entry → ℕ
-  standingCost earlier e = pick (among (entryId s e) (idsOf earlier)) 0 (anchorCost (entryId s e) (e .anchor))
+  unfoldable pub rulingCost : List Payment → BeefEntry → ℕ
+  rulingCost earlier e = pick (among (entryId s e) (idsOf earlier)) 0 (anchorCost (entryId s e) (e .anchor))
 
 -- the climbs up to the first refusal, as `judgeFrom` makes them
-module _ {A B : Type 0} (known : A → B) (stands : List B → A → Standing) (cost : List B → A → ℕ) where
+module _ {A B : Type 0} (known : A → B) (stands : List B → A → Ruling) (cost : List B → A → ℕ) where
   unfoldable pub costFrom : List B → List A → ℕ
   costFrom earlier [] = 0
   costFrom earlier (x ∷ l) = cost earlier x + elim (stands earlier x) [ Refuses why ↦ 0 | Passes a n i ↦ costFrom (earlier ++ (known x ∷ [])) l ]
 
 unfoldable pub entriesWork : List ℕ → List ℕ → ℕ → Beef → ℕ
-entriesWork s roots fee b = idsWork (b .entries) + JOIN * costFrom (paymentOf s) (standing s roots fee (b .bumps)) (standingCost s (b .bumps)) [] (b .entries)
+entriesWork s roots fee b = idsWork (b .entries) + JOIN * costFrom (paymentOf s) (ruling s roots fee (b .bumps)) (rulingCost s (b .bumps)) [] (b .entries)
 
 -- "1, 21 and a refusal in reading report 0"
 unfoldable pub readWork : List ℕ → List ℕ → ℕ → Parse Beef → ℕ
-readWork s roots fee (bad number place) = 0
-readWork s roots fee (got b next) = entriesWork s roots fee b
+readWork s roots fee (fault number place) = 0
+readWork s roots fee (ok b next) = entriesWork s roots fee b
 
 unfoldable pub judgeWork : List ℕ → List ℕ → ℕ → ℕ → ℕ
 judgeWork s roots fee room = pick (leb (length s) MAX-INPUT) (pick (eqb (length roots % 32) 0) (readWork s roots fee (beefWhole room s)) 0) 0

@@ -9,8 +9,8 @@ use Rattle.spv.specs.declared.rejection.Rejection.{Rejection}
 use Rattle.bundle.specs.Windows.{sumTo}
 use Rattle.bundle.specs.declared.ids.NamedSpan.{NamedSpan}
 use Rattle.bundle.specs.declared.ids.Spans.{Spans}
-use Rattle.bundle.specs.declared.judging.Verdict.{Verdict}
-use Rattle.bundle.specs.declared.judging.Verdict.the-variants.{Accepted, Refused}
+use Rattle.bundle.specs.declared.judge.Verdict.{Verdict}
+use Rattle.bundle.specs.declared.judge.Verdict.the-variants.{Accepted, Refused}
 use Rattle.bundle.specs.Ahead.{spanAt}
 use Rattle.bundle.specs.Anchored.{joinsAt}
 use Rattle.bundle.specs.Work.{idWork}

@@ -1,7 +1,7 @@
 // The transactions that name one BUMP climb in it together, before any is judged (specs/Anchored.antt). What each comes to is kept in four numbers: the number of its
 // refusal, the layer and the sibling, or 0, 0 and its position; then the joins of its climb.
-use super::judging::IDS_ROOM;
-use super::judging::Standing;
+use super::judge::IDS_ROOM;
+use super::judge::Ruling;
 use super::parents::is_among;
 use format::Beef;
 use format::BumpHead;
@@ -17,10 +17,10 @@ ghost use lib.ListN.{length, getD};
 ghost use Rattle.format.specs.Refusals.{MAX-TXS, MAX-BUMPS};
 ghost use Rattle.path.specs.Path.{bumpPathOf};
 ghost use Rattle.spv.specs.Result.{Result};
-ghost use Rattle.spv.specs.Compare.{Proof};
+ghost use Rattle.spv.specs.Prove.{Proof};
 ghost use Rattle.spv.specs.Shapes.{provedOf};
 ghost use Rattle.bundle.specs.Bundle.{trusted};
-ghost use Rattle.bundle.specs.Anchored.{ENDS-ROOM, standingAt, putFour, putEnd, Unnamed, Gathered, Right, HoldIds, Settled, SettlesRows, Risen};
+ghost use Rattle.bundle.specs.Anchored.{ENDS-ROOM, rulingAt, putFour, putEnd, Unnamed, Gathered, Right, HoldIds, Settled, SettlesRows, Risen};
 
 // Room for what the most transactions that a bundle has come to.
 pub(crate) const ENDS_ROOM: usize = 1024;
@@ -39,13 +39,13 @@ fn put_four(ends: &mut [u64], i: usize, number: u64, layer: u64, place: u64, joi
 }
 
 // What the i-th transaction comes to by its BUMP is kept, and the joins of its climb.
-fn put_end(ends: &mut [u64], i: usize, standing: Standing, joins: u64)
+fn put_end(ends: &mut [u64], i: usize, ruling: Ruling, joins: u64)
     requires { ⌜ i < MAX-TXS ⌝ }
     requires { ⌜ ENDS-ROOM ≤ length (now ends) ⌝ }
-    ensures { λ _. ⌜ now (ends .exit) ≡ putEnd (now (ends .entry)) i standing joins ⌝ }
+    ensures { λ _. ⌜ now (ends .exit) ≡ putEnd (now (ends .entry)) i ruling joins ⌝ }
 {
-    match standing {
-        Standing::Refuses(rejection) => {
+    match ruling {
+        Ruling::Refuses(rejection) => {
             put_four(
                 ends,
                 i,
@@ -55,7 +55,7 @@ fn put_end(ends: &mut [u64], i: usize, standing: Standing, joins: u64)
                 joins,
             );
         }
-        Standing::Passes {
+        Ruling::Passes {
             anchored,
             bump,
             position,
@@ -66,21 +66,21 @@ fn put_end(ends: &mut [u64], i: usize, standing: Standing, joins: u64)
 }
 
 // What the i-th transaction came to by the BUMP that it names.
-pub(crate) fn end_at(ends: &[u64], bump: u64, i: usize) -> Standing
+pub(crate) fn end_at(ends: &[u64], bump: u64, i: usize) -> Ruling
     requires { ⌜ i < MAX-TXS ⌝ }
     requires { ⌜ ENDS-ROOM ≤ length (now ends) ⌝ }
-    ensures { λ r. ⌜ r ≡ standingAt (now (ends .entry)) bump i ⌝ }
+    ensures { λ r. ⌜ r ≡ rulingAt (now (ends .entry)) bump i ⌝ }
 {
     let at = 4 * i;
     let number = (ends[at] % 256) as u8;
     if number == 0 {
-        return Standing::Passes {
+        return Ruling::Passes {
             anchored: 1,
             bump,
             position: ends[at + 2],
         };
     }
-    Standing::Refuses(Rejection {
+    Ruling::Refuses(Rejection {
         number,
         carried: 0,
         layer: ends[at + 1] as usize,
@@ -89,18 +89,18 @@ pub(crate) fn end_at(ends: &[u64], bump: u64, i: usize) -> Standing
 }
 
 // An anchored transaction, by what proving it answers: its root must be one of the list.
-fn trust(roots: &[u8], bump: u64, proved: Proved) -> Standing
+fn trust(roots: &[u8], bump: u64, proved: Proved) -> Ruling
     ensures { λ r. ⌜ ((v : Result Proof) → proved ≡ provedOf v → r ≡ trusted (now (roots .entry)) bump v) ⌝ }
 {
     let outcome = proved.outcome;
     let root = proved.root;
     match outcome {
-        Outcome::Refused(rejection) => Standing::Refuses(rejection),
+        Outcome::Refused(rejection) => Ruling::Refuses(rejection),
         Outcome::Accepted { position, layers } => {
             if !is_among(root, roots) {
-                return Standing::Refuses(reject(UNTRUSTED));
+                return Ruling::Refuses(reject(UNTRUSTED));
             }
-            Standing::Passes {
+            Ruling::Passes {
                 anchored: 1,
                 bump,
                 position,
@@ -179,8 +179,8 @@ fn settle_rows(
         let i = slots[r] as usize;
         let id = format::hash_at(ids, 32 * i);
         let proved = climbs::proved_at(layers, id, starts, states, hashes, r);
-        let standing = trust(roots, bump, proved);
-        put_end(ends, i, standing, costs[r]);
+        let ruling = trust(roots, bump, proved);
+        put_end(ends, i, ruling, costs[r]);
         r += 1;
     }
 }

@@ -1,7 +1,7 @@
 // Judging a BEEF against a list of trusted roots, into a table that the caller lends.
 mod anchored;
 mod ids;
-mod judging;
+mod judge;
 mod marks;
 mod outputs;
 mod parents;
@@ -10,8 +10,8 @@ mod sums;
 mod table;
 mod work;
 
-pub use judging::Judged;
-pub use judging::Verdict;
+pub use judge::Judged;
+pub use judge::Verdict;
 pub use table::Record;
 pub use table::Row;
 pub use table::blank;

@@ -73,7 +73,8 @@ fn mark_inputs(
     base: u64,
     marks: &mut [u8],
 ) -> bool
-    ensures { λ r. ⌜ (Distinct (hashesOf (now (ids .entry))) → (now (marks .exit) ≡ markAll base (length (now (marks .entry))) k (now (marks .entry)) (spentFrom (now (s .entry)) (hashesOf (now (ids .entry))) (now (firsts .entry)) count (start .at))) × (r ≡ twice base (length (now (marks .entry))) k (now (marks .entry)) (spentFrom (now (s .entry)) (hashesOf (now (ids .entry))) (now (firsts .entry)) count (start .at)))) ⌝ }
+    ensures { λ r. ⌜ (Distinct (hashesOf (now (ids .entry))) → (now (marks .exit) ≡ markAll base (length (now (marks .entry))) k (now (marks .entry)) (spentFrom (now (s .entry)) (hashesOf (now (ids .entry))) (now (firsts .entry)) count (start .at)))
+        × (r ≡ twice base (length (now (marks .entry))) k (now (marks .entry)) (spentFrom (now (s .entry)) (hashesOf (now (ids .entry))) (now (firsts .entry)) count (start .at)))) ⌝ }
 {
     let mut next = start;
     let mut parent: usize = 0;
@@ -141,7 +142,9 @@ pub(crate) fn mark_entries(
 ) -> usize
     requires { ⌜ n ≤ 256 ⌝ }
     requires { ⌜ 10 * n ≤ length (now numbers) ⌝ }
-    ensures { λ r. ⌜ (Distinct (hashesOf (now (ids .entry))) → (now (marks .exit) ≡ marksIn base (length (now (marks .entry))) 1 (now (marks .entry)) (listsFrom (now (s .entry)) (hashesOf (now (ids .entry))) (now (numbers .entry)) (now (firsts .entry)) 1 (n - 1))) × (r ≡ firstIn base (length (now (marks .entry))) 1 (now (marks .entry)) first (listsFrom (now (s .entry)) (hashesOf (now (ids .entry))) (now (numbers .entry)) (now (firsts .entry)) 1 (n - 1)))) ⌝ }
+    ensures { λ r. ⌜ (Distinct (hashesOf (now (ids .entry)))
+        → (now (marks .exit) ≡ marksIn base (length (now (marks .entry))) 1 (now (marks .entry)) (listsFrom (now (s .entry)) (hashesOf (now (ids .entry))) (now (numbers .entry)) (now (firsts .entry)) 1 (n - 1)))
+        × (r ≡ firstIn base (length (now (marks .entry))) 1 (now (marks .entry)) first (listsFrom (now (s .entry)) (hashesOf (now (ids .entry))) (now (numbers .entry)) (now (firsts .entry)) 1 (n - 1)))) ⌝ }
 {
     let mut first = first;
     let mut k: usize = 1;

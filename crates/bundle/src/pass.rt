@@ -117,7 +117,13 @@ fn one_window(
     requires { ⌜ n ≤ 256 ⌝ }
     requires { ⌜ 10 * n ≤ length (now numbers) ⌝ }
     requires { ⌜ count ≤ WINDOW ⌝ }
-    ensures { λ r. ⌜ ((l : List Payment) → length l ≡ n → Pictured (now (s .entry)) (now (ids .entry)) (now (numbers .entry)) l → Firsts (now (firsts .entry)) l → base + count ≤ outputCount l → Reached (now (s .entry)) l base first walk (now (sums .entry)) → Reached (now (s .entry)) l (base + count) (r .first) (r .walk) (now (sums .exit))) ⌝ }
+    ensures { λ r. ⌜ ((l : List Payment)
+        → length l ≡ n
+        → Pictured (now (s .entry)) (now (ids .entry)) (now (numbers .entry)) l
+        → Firsts (now (firsts .entry)) l
+        → base + count ≤ outputCount l
+        → Reached (now (s .entry)) l base first walk (now (sums .entry))
+        → Reached (now (s .entry)) l (base + count) (r .first) (r .walk) (now (sums .exit))) ⌝ }
 {
     let mut marks = no_marks();
     let first = mark_entries(s, ids, order, numbers, firsts, n, base, &mut marks, first);

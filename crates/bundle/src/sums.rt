@@ -112,7 +112,16 @@ pub(crate) fn add_outputs(
     walk: Walk,
     sums: &mut [u64],
 ) -> Walk
-    ensures { λ r. ⌜ ((l : List Payment) → (spender : ℕ → ℕ) → (m : ℕ) → Counted (now (s .entry)) (now (numbers .entry)) l → Here (now (s .entry)) l walk m → m + count ≤ outputCount l → Says (now (marks .entry)) count spender m → Sums l spender m (now (sums .entry)) → Sums l spender (m + count) (now (sums .exit)) × Here (now (s .entry)) l r (m + count)) ⌝ }
+    ensures { λ r. ⌜ ((l : List Payment)
+        → (spender : ℕ → ℕ)
+        → (m : ℕ)
+        → Counted (now (s .entry)) (now (numbers .entry)) l
+        → Here (now (s .entry)) l walk m
+        → m + count ≤ outputCount l
+        → Says (now (marks .entry)) count spender m
+        → Sums l spender m (now (sums .entry))
+        → Sums l spender (m + count) (now (sums .exit))
+        × Here (now (s .entry)) l r (m + count)) ⌝ }
 {
     let mut walk = walk;
     let mut j = 0;

@@ -1,5 +1,5 @@
 // Hash work, counted (paper 02, Item 11; specs/Work.antt): the ids of all transactions, and the climbs that were made before the verdict.
-use super::judging::Verdict;
+use super::judge::Verdict;
 use format::Beef;
 use format::refusal::SAME_TX;
 use spv::Rejection;

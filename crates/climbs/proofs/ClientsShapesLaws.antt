@@ -1,7 +1,7 @@
 -- Laws of what the answers of the all-clients check say.
 use mathlib.Core.Path.{_≡_, ap, sym}
 use Rattle.spv.specs.Result.{Result, accepted, refused, follow}
-use Rattle.spv.specs.Compare.{targetOf, Target}
+use Rattle.spv.specs.Prove.{targetOf, Target}
 use Rattle.climbs.specs.ClientsShapes.{wantBy, wantSays}
 use Rattle.spv.specs.declared.rejection.Rejection.{Rejection}
 use Rattle.spv.specs.declared.prove.Status.the-variants.{Read, Unread}

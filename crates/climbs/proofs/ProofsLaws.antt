@@ -26,7 +26,6 @@ use Rattle.path.specs.Path.{leafIn, startIn}
 use Rattle.spv.specs.Result.{Result, accepted, refused, carrying, atSibling}
 use Rattle.spv.specs.Climb.{Siblings, siblingPosition, odd, Step, joins, fails, step, Ascent, ascendBy, ascend, endBy, endOf}
 use Rattle.spv.proofs.ClimbLaws.{ascend-joins, ascend-fails, ascend-same}
-use Rattle.spv.specs.Compare.{any, hits, proofOf, settle, proveBy, prove}
 use Rattle.spv.proofs.Stored.{stored-here, stored-other}
 use Rattle.spv.specs.Readings.{starting, pathReading}
 use Rattle.spv.specs.Rows.{rows}
@@ -46,6 +45,7 @@ use Rattle.climbs.specs.Count.{startCost}
 use Rattle.climbs.specs.Spent.{U64, owes, owesAt, Settled}
 use Rattle.climbs.proofs.CountLaws.{start-same}
 use Rattle.climbs.proofs.SpentLaws.{owes-start, start-fits}
+use Rattle.spv.specs.Prove.{hits, proofOf, settle, proveBy, prove, any}
 
 -- ---- lists by their rows
 

@@ -7,20 +7,20 @@ use native.Mathlib.Omega.{arith}
 use lib.Dec.{leb}
 use borrow.Author.Tests.{leb-true}
 use Rattle.format.proofs.Basics.{and-true}
-use Rattle.format.specs.Parse.{got, bad, otherwise}
+use Rattle.format.specs.Parse.{ok, fault, otherwise}
 use Rattle.format.specs.Field.{varint}
 use Rattle.path.specs.declared.path.Form.{Form}
 use Rattle.path.specs.declared.path.Path.{Path}
 use Rattle.path.specs.Path.{LAYERS}
 use Rattle.spv.specs.Result.{Result, accepted, refused, follow}
 use Rattle.spv.specs.Climb.{Siblings}
-use Rattle.spv.specs.Compare.{Target, bound}
 use Rattle.spv.specs.Values.{workedOut}
 use Rattle.climbs.specs.ClientsShapes.{clientsIn, refusedCheck, checkedOf}
 use Rattle.climbs.specs.LookUp.{lookedUp}
 use Rattle.climbs.specs.Proofs.{isBump}
 use Rattle.climbs.specs.Together.{Levels}
 use Rattle.climbs.specs.Reach.{isAccepted, agrees, levelReaches, bothReach}
+use Rattle.spv.specs.Prove.{Target, bound}
 
 checked-agrees : (v : Result (List ℕ)) → agrees (checkedOf v) ≡ isAccepted v
 unfolding agrees checkedOf refusedCheck isAccepted
@@ -28,11 +28,11 @@ checked-agrees (accepted r) = refl
 checked-agrees (refused why) = refl
 
 module _ (σ : Siblings) (h : ℕ) (s r : List ℕ) (at : ℕ) where
-  pub reaches-short : {k q : ℕ} → varint s at ≡ bad k q → false ≡ levelReaches σ h s r at
+  pub reaches-short : {k q : ℕ} → varint s at ≡ fault k q → false ≡ levelReaches σ h s r at
   unfolding levelReaches isAccepted
   reaches-short e = rw e refl
 
-  pub reaches-read : (n next : ℕ) → varint s at ≡ got n next → (x : Result Target) → x ≡ accepted (bound r) → agrees (checkedOf (follow x (λ w. clientsIn σ h s n next w))) ≡ levelReaches σ h s r at
+  pub reaches-read : (n next : ℕ) → varint s at ≡ ok n next → (x : Result Target) → x ≡ accepted (bound r) → agrees (checkedOf (follow x (λ w. clientsIn σ h s n next w))) ≡ levelReaches σ h s r at
   unfolding levelReaches
   reaches-read n next e x f = rw (f, e) (checked-agrees (clientsIn σ h s n next (bound r)))
 

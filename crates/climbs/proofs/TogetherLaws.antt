@@ -18,7 +18,7 @@ use Rattle.spv.specs.Climb.{Sibling, copied, Siblings}
 use Rattle.spv.specs.Values.{valueBy, valueOf, workedOut}
 use Rattle.spv.specs.Siblings.{sibling, writtenBy, findAt, pathSiblings}
 use Rattle.spv.proofs.SiblingsLaws.{join-bump}
-use Rattle.spv.specs.Low.{Low}
+use Rattle.spv.specs.PositionFits.{PositionFits}
 use Rattle.climbs.specs.Row.{startOf, leadsAt, cameAt, Under, Reached, Moved}
 use Rattle.climbs.specs.Order.{Placed}
 use Rattle.climbs.specs.Pass.{Spot}
@@ -34,11 +34,11 @@ all-climbed σ h starts order states hashes states′ hashes′ placed len moved
     let r′ : h ≤ getD states′ i 0 = subst (λ (n : ℕ). h ≤ getD states′ n 0) (o .2) r in
     sym (leads-end σ h (getD starts i 0) (getD states′ i 0) (hashAt hashes′ (32 * i)) r′) ∙ moved .leads h i (le-refl h)
 
-pub low-above : (x h : ℕ) → h ≤ 64 → x < 2 ^ 64 → Low h (x / 2 ^ h)
-unfolding Low
+pub low-above : (x h : ℕ) → h ≤ 64 → x < 2 ^ 64 → PositionFits h (x / 2 ^ h)
+unfolding PositionFits
 low-above x h b l = let e : 64 - h + h ≡ 64 = omega arith in shr-lt (64 - h) h (subst (λ (n : ℕ). x < 2 ^ n) (sym e) l)
 
-pub spot-tree : (starts order : List ℕ) (h q lo hi : ℕ) → h ≤ 64 → Low h q → lo ≤ hi → hi ≤ length order → Under starts order h q lo hi → Spot starts order h q lo hi false
+pub spot-tree : (starts order : List ℕ) (h q lo hi : ℕ) → h ≤ 64 → PositionFits h q → lo ≤ hi → hi ≤ length order → Under starts order h q lo hi → Spot starts order h q lo hi false
 spot-tree starts order h q lo hi b low s w u = record { layers = b; below = λ e. let z : _≡_ {A = ℕ} 0 1 = cc in absurd (omega arith); low = low; span = s; within = w; under = u }
 
 -- the rows of a tree are one at least

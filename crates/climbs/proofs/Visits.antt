@@ -12,7 +12,7 @@ use Rattle.spv.specs.Climb.{Sibling, Siblings}
 use Rattle.spv.specs.Values.{hasValue, joinOf, workedOut}
 use Rattle.spv.proofs.ValuesLaws.{join-zero}
 use Rattle.spv.specs.Shapes.{siblingOf}
-use Rattle.spv.proofs.LowLaws.{low-left, low-right}
+use Rattle.spv.proofs.PositionFitsLaws.{low-left, low-right}
 use Rattle.climbs.specs.declared.pass.Known.{Known}
 use Rattle.climbs.specs.Row.{startOf, stateOf, Rows, Sorted, Under, NotAt, Reached, Moved}
 use Rattle.climbs.proofs.RowLaws.{moved-none, moved-on, moved-up}

@@ -16,14 +16,13 @@ use Rattle.format.specs.declared.level.Leaf.{Leaf}
 use Rattle.format.specs.declared.bump.BumpHead.{BumpHead}
 use Rattle.format.specs.Bytes.{setHash, hashAt}
 use Rattle.format.proofs.BytesLaws.{set-inside, hash-at-length}
-use Rattle.format.specs.Parse.{pick, got, bad}
+use Rattle.format.specs.Parse.{pick, ok, fault}
 use Rattle.format.specs.Refusals.{NOT-LISTED, ROOTS-DIFFER}
 use Rattle.path.specs.declared.path.Path.{Path}
-use Rattle.path.specs.Loose.{looseLeaf}
+use Rattle.path.specs.Unchecked.{uncheckedLeaf}
 use Rattle.path.specs.Path.{bumpPathOf}
 use Rattle.spv.specs.Result.{Result, accepted, refused, carrying, follow}
 use Rattle.spv.specs.Climb.{Siblings, ascend, endOf}
-use Rattle.spv.specs.Compare.{Target, any, bound, hits, settle, proofOf, proveBy}
 use Rattle.spv.specs.Clients.{wantedBy, afterKind, afterLeaf, closing}
 use Rattle.spv.specs.Shapes.{climbedOf}
 use Rattle.spv.specs.Siblings.{writtenBy, findAt, pathSiblings}
@@ -47,6 +46,7 @@ use Rattle.climbs.proofs.LookUpLaws.{one-path}
 use Rattle.climbs.proofs.TogetherLaws.{path-worked}
 use Rattle.climbs.proofs.ClientsShapesLaws.{told-halts}
 use Rattle.climbs.proofs.ClientsLaws.{follow-same, follow-twice, turn-leaf, turn-short, turn-last, clients-in-same}
+use Rattle.spv.specs.Prove.{Target, hits, settle, proofOf, proveBy, any, bound}
 
 -- ---- one climb
 
@@ -247,11 +247,11 @@ module _ (σ : Siblings) (h : ℕ) (s : List ℕ) (n start : ℕ) (x₀ : Result
     checking-halts f e = ap checkedOf (sym (ap (λ (y : Result Target). follow y (λ w. clientsIn σ h s (n - m) at w)) e) ∙ v .kept)
 
     module _ (b : m < n) where
-      pub checking-short : (number place : ℕ) → looseLeaf Layout.Bump s at ≡ bad number place → follow x (λ w. refused (carrying NOT-LISTED 0)) ≡ follow x₀ (λ w. clientsIn σ h s n start w)
+      pub checking-short : (number place : ℕ) → uncheckedLeaf Layout.Bump s at ≡ fault number place → follow x (λ w. refused (carrying NOT-LISTED 0)) ≡ follow x₀ (λ w. clientsIn σ h s n start w)
       checking-short number place e =
           follow-same x (λ w. refused (carrying NOT-LISTED 0)) (λ w. clientsIn σ h s (n - m) at w) (λ w. sym (turn-short σ h s n m at w b number place e)) ∙ v .kept
 
-      pub checking-goes : (leaf : Leaf) (next : ℕ) → looseLeaf Layout.Bump s at ≡ got leaf next → (y : Result Target) → y ≡ follow x (λ w. afterLeaf σ h s w leaf) → Checking σ h s n start x₀ (m + 1) next y
+      pub checking-goes : (leaf : Leaf) (next : ℕ) → uncheckedLeaf Layout.Bump s at ≡ ok leaf next → (y : Result Target) → y ≡ follow x (λ w. afterLeaf σ h s w leaf) → Checking σ h s n start x₀ (m + 1) next y
       checking-goes leaf next e y f =
           record {
             done = omega arith;

@@ -6,10 +6,9 @@ use Rattle.format.specs.declared.level.Layout.{Layout}
 use Rattle.format.specs.Parse.{pick, otherwise}
 use Rattle.format.specs.Field.{varint}
 use Rattle.format.specs.Refusals.{NOT-LISTED, ROOTS-DIFFER}
-use Rattle.path.specs.Loose.{looseLeaf}
+use Rattle.path.specs.Unchecked.{uncheckedLeaf}
 use Rattle.spv.specs.Result.{Result, accepted, refused, carrying, follow}
 use Rattle.spv.specs.Climb.{Siblings}
-use Rattle.spv.specs.Compare.{targetOf, Target, any, bound, hits}
 use Rattle.spv.specs.Clients.{afterLeaf, closing}
 use Rattle.spv.specs.declared.climb.Climbed.{Climbed}
 use Rattle.spv.specs.declared.climb.End.{End}
@@ -20,6 +19,7 @@ use Rattle.spv.specs.declared.prove.Status.the-variants.{Read, Unread}
 use Rattle.climbs.specs.declared.want.Agreement.{Agreement}
 use Rattle.climbs.specs.declared.want.Checked.{Checked}
 use Rattle.climbs.specs.declared.want.Want.{Want}
+use Rattle.spv.specs.Prove.{targetOf, Target, hits, any, bound}
 
 unfoldable pub refusedCheck : Rejection → Checked
 refusedCheck why = record { agreement = Agreement.Refused why; root = replicate 32 0 }
@@ -61,7 +61,7 @@ pending v (suc m) x = follow (pending v m x) (λ w. wantedTo w (v m))
 unfoldable pub clientsIn : Siblings → ℕ → List ℕ → ℕ → ℕ → Target → Result (List ℕ)
 clientsIn σ h s zero at w = closing w
 clientsIn σ h s (suc n) at w =
-    otherwise (looseLeaf Layout.Bump s at) (refused (carrying NOT-LISTED 0)) (λ leaf next. follow (afterLeaf σ h s w leaf) (λ w′. clientsIn σ h s n next w′))
+    otherwise (uncheckedLeaf Layout.Bump s at) (refused (carrying NOT-LISTED 0)) (λ leaf next. follow (afterLeaf σ h s w leaf) (λ w′. clientsIn σ h s n next w′))
 
 unfoldable pub clientsOfLevel : Siblings → ℕ → List ℕ → ℕ → Result (List ℕ)
 clientsOfLevel σ h s at = otherwise (varint s at) (refused (carrying NOT-LISTED 0)) (λ n next. clientsIn σ h s n next any)

@@ -12,7 +12,7 @@ use Rattle.path.specs.declared.path.Start.{Start}
 use Rattle.path.specs.declared.path.Start.the-variants.{At, Nowhere}
 use Rattle.path.specs.Path.{LAYERS, leafIn, startIn}
 use Rattle.spv.specs.Result.{Result, accepted, refused}
-use Rattle.spv.specs.Compare.{Proof, prove}
+use Rattle.spv.specs.Prove.{Proof, prove}
 use Rattle.spv.specs.Readings.{pathReading}
 use Rattle.spv.specs.Rows.{rows}
 use Rattle.spv.specs.Siblings.{writtenBy}

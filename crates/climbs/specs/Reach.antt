@@ -11,7 +11,7 @@ use Rattle.path.specs.declared.path.Path.{Path}
 use Rattle.path.specs.Path.{LAYERS}
 use Rattle.spv.specs.Result.{Result, accepted, refused, carrying}
 use Rattle.spv.specs.Climb.{Siblings}
-use Rattle.spv.specs.Compare.{bound}
+use Rattle.spv.specs.Prove.{bound}
 use Rattle.spv.specs.Values.{workedOut}
 use Rattle.climbs.specs.declared.want.Agreement.{Agreement}
 use Rattle.climbs.specs.declared.want.Checked.{Checked}

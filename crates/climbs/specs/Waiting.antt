@@ -6,7 +6,7 @@ use lib.ListN.{length, getD}
 use Rattle.format.specs.Bytes.{hashAt}
 use Rattle.spv.specs.Result.{Result}
 use Rattle.spv.specs.Climb.{Siblings, ascend, endOf}
-use Rattle.spv.specs.Compare.{Target}
+use Rattle.spv.specs.Prove.{Target}
 use Rattle.climbs.specs.ClientsShapes.{pending}
 
 -- what the climb of a row comes to

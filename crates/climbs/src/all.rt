@@ -30,7 +30,9 @@ fn visit_trees(
     costs: &mut [u64],
 )
     requires { ⌜ (layers ≤ 64) × Setting (now places) (now starts) (now order) (now states) (now hashes) ⌝ }
-    ensures { λ _. ⌜ (Moved (workedOut (lookedUp (now (s .entry)) (now (places .entry)) (now (t .entry)) (now (others .entry)))) layers (now (starts .entry)) (now (states .entry)) (now (hashes .entry)) (now (states .exit)) (now (hashes .exit))) × (Reached (now (order .entry)) (now (states .exit)) layers 0 (length (now (order .entry)))) × Spent (lookedUp (now (s .entry)) (now (places .entry)) (now (t .entry)) (now (others .entry))) layers (now (starts .entry)) (now (states .entry)) (now (hashes .entry)) (now (costs .entry)) (now (states .exit)) (now (hashes .exit)) (now (costs .exit)) ⌝ }
+    ensures { λ _. ⌜ (Moved (workedOut (lookedUp (now (s .entry)) (now (places .entry)) (now (t .entry)) (now (others .entry)))) layers (now (starts .entry)) (now (states .entry)) (now (hashes .entry)) (now (states .exit)) (now (hashes .exit)))
+        × (Reached (now (order .entry)) (now (states .exit)) layers 0 (length (now (order .entry))))
+        × Spent (lookedUp (now (s .entry)) (now (places .entry)) (now (t .entry)) (now (others .entry))) layers (now (starts .entry)) (now (states .entry)) (now (hashes .entry)) (now (costs .entry)) (now (states .exit)) (now (hashes .exit)) (now (costs .exit)) ⌝ }
 {
     let mut lo = 0;
     while lo < order.len() {
@@ -71,7 +73,8 @@ pub(crate) fn climb_both(
     costs: &mut [u64],
 )
     requires { ⌜ (layers ≤ 64) × (length (now places) ≡ 64) × Roomy (now starts) (now order) (now states) (now hashes) ⌝ }
-    ensures { λ _. ⌜ Climbed (workedOut (lookedUp (now (s .entry)) (now (places .entry)) (now (t .entry)) (now (others .entry)))) layers (now (starts .entry)) (now (states .entry)) (now (hashes .entry)) (now (states .exit)) (now (hashes .exit)) × Settled (lookedUp (now (s .entry)) (now (places .entry)) (now (t .entry)) (now (others .entry))) layers (now (starts .entry)) (now (states .entry)) (now (hashes .entry)) (now (costs .entry)) (now (costs .exit)) ⌝ }
+    ensures { λ _. ⌜ Climbed (workedOut (lookedUp (now (s .entry)) (now (places .entry)) (now (t .entry)) (now (others .entry)))) layers (now (starts .entry)) (now (states .entry)) (now (hashes .entry)) (now (states .exit)) (now (hashes .exit))
+        × Settled (lookedUp (now (s .entry)) (now (places .entry)) (now (t .entry)) (now (others .entry))) layers (now (starts .entry)) (now (states .entry)) (now (hashes .entry)) (now (costs .entry)) (now (costs .exit)) ⌝ }
 {
     rise_rows(s, places, starts, states, hashes, t, others, layers, costs);
     order_rows(starts, order);
@@ -101,7 +104,8 @@ pub(crate) fn climb_rows(
     costs: &mut [u64],
 )
     requires { ⌜ (layers ≤ 64) × (length (now places) ≡ 64) × Roomy (now starts) (now order) (now states) (now hashes) ⌝ }
-    ensures { λ _. ⌜ Climbed (workedOut (writtenBy (now (s .entry)) (findAt Layout.Bump (now (s .entry)) (now (places .entry))))) layers (now (starts .entry)) (now (states .entry)) (now (hashes .entry)) (now (states .exit)) (now (hashes .exit)) × Settled (writtenBy (now (s .entry)) (findAt Layout.Bump (now (s .entry)) (now (places .entry)))) layers (now (starts .entry)) (now (states .entry)) (now (hashes .entry)) (now (costs .entry)) (now (costs .exit)) ⌝ }
+    ensures { λ _. ⌜ Climbed (workedOut (writtenBy (now (s .entry)) (findAt Layout.Bump (now (s .entry)) (now (places .entry))))) layers (now (starts .entry)) (now (states .entry)) (now (hashes .entry)) (now (states .exit)) (now (hashes .exit))
+        × Settled (writtenBy (now (s .entry)) (findAt Layout.Bump (now (s .entry)) (now (places .entry)))) layers (now (starts .entry)) (now (states .entry)) (now (hashes .entry)) (now (costs .entry)) (now (costs .exit)) ⌝ }
 {
     let none = [0usize; 0];
     climb_both(

@@ -26,7 +26,6 @@ ghost use Prim.Native.Nat.{ℕ, _+_, _*_, _≤_, _<_};
 ghost use lib.ListN.{length};
 ghost use Rattle.spv.specs.Result.{Result, follow};
 ghost use Rattle.spv.specs.Climb.{Siblings};
-ghost use Rattle.spv.specs.Compare.{Target, any};
 ghost use Rattle.spv.specs.Siblings.{pathSiblings};
 ghost use Rattle.spv.specs.Values.{workedOut};
 ghost use Rattle.climbs.specs.LookUp.{lookedUp};
@@ -36,6 +35,7 @@ ghost use Rattle.climbs.specs.Row.{cameAt};
 ghost use Rattle.climbs.specs.Waiting.{rowsSay, Lent};
 ghost use Rattle.climbs.specs.Together.{Levels};
 ghost use Rattle.climbs.specs.Begun.{First};
+ghost use Rattle.spv.specs.Prove.{Target, any};
 
 // The bytes of the hashes of so many rows.
 const ROWS_ROOM: usize = 8192;
@@ -135,7 +135,9 @@ fn make_room(
     hashes: &mut [u8],
 ) -> Waiting
     requires { ⌜ (count ≤ length (now starts)) × Lent (now starts) (now order) (now states) (now hashes) × Levels path ⌝ }
-    ensures { λ r. ⌜ (r .count < length (now (starts .entry))) × (rowsSay (workedOut (lookedUp (now (s .entry)) (path .at) (now (t .entry)) (now (others .entry)))) (path .layers) (now (starts .entry)) (now (hashes .exit)) (r .count) (wantSays (r .want)) ≡ rowsSay (workedOut (lookedUp (now (s .entry)) (path .at) (now (t .entry)) (now (others .entry)))) (path .layers) (now (starts .entry)) (now (hashes .entry)) count (wantSays want)) ⌝ }
+    ensures { λ r. ⌜ (r .count < length (now (starts .entry)))
+        × (rowsSay (workedOut (lookedUp (now (s .entry)) (path .at) (now (t .entry)) (now (others .entry)))) (path .layers) (now (starts .entry)) (now (hashes .exit)) (r .count) (wantSays (r .want))
+        ≡ rowsSay (workedOut (lookedUp (now (s .entry)) (path .at) (now (t .entry)) (now (others .entry)))) (path .layers) (now (starts .entry)) (now (hashes .entry)) count (wantSays want)) ⌝ }
 {
     if count < starts.len() {
         return Waiting { want, count };

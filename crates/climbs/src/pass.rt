@@ -185,7 +185,8 @@ fn step_row(
     costs: &mut [u64],
 )
     requires { ⌜ (row < length (now starts)) × (length (now starts) ≤ length (now states)) × (32 * length (now starts) ≤ length (now hashes)) × (layer < 64) ⌝ }
-    ensures { λ _. ⌜ Stepped (now (starts .entry)) (now (states .entry)) (now (hashes .entry)) (now (states .exit)) (now (hashes .exit)) row layer left l r × Charged (now (starts .entry)) (now (states .entry)) (now (hashes .entry)) (now (costs .entry)) (now (states .exit)) (now (hashes .exit)) (now (costs .exit)) layer left l r ⌝ }
+    ensures { λ _. ⌜ Stepped (now (starts .entry)) (now (states .entry)) (now (hashes .entry)) (now (states .exit)) (now (hashes .exit)) row layer left l r
+        × Charged (now (starts .entry)) (now (states .entry)) (now (hashes .entry)) (now (costs .entry)) (now (states .exit)) (now (hashes .exit)) (now (costs .exit)) layer left l r ⌝ }
 {
     let state = states[row] as usize;
     if state != layer {
@@ -222,7 +223,8 @@ fn step_rows(
     costs: &mut [u64],
 )
     requires { ⌜ (lo ≤ hi) × (hi ≤ length (now order)) × Rows (now order) (length (now starts)) × (length (now starts) ≤ length (now states)) × (32 * length (now starts) ≤ length (now hashes)) × (layer < 64) ⌝ }
-    ensures { λ _. ⌜ AllStepped (now (starts .entry)) (now (order .entry)) (now (states .entry)) (now (hashes .entry)) (now (states .exit)) (now (hashes .exit)) layer left lo hi l r × Charged (now (starts .entry)) (now (states .entry)) (now (hashes .entry)) (now (costs .entry)) (now (states .exit)) (now (hashes .exit)) (now (costs .exit)) layer left l r ⌝ }
+    ensures { λ _. ⌜ AllStepped (now (starts .entry)) (now (order .entry)) (now (states .entry)) (now (hashes .entry)) (now (states .exit)) (now (hashes .exit)) layer left lo hi l r
+        × Charged (now (starts .entry)) (now (states .entry)) (now (hashes .entry)) (now (costs .entry)) (now (states .exit)) (now (hashes .exit)) (now (costs .exit)) layer left l r ⌝ }
 {
     let mut i = lo;
     while i < hi {
@@ -249,7 +251,9 @@ fn step_children(
     costs: &mut [u64],
 ) -> Known
     requires { ⌜ (lo ≤ hi) × (hi ≤ length (now order)) × Rows (now order) (length (now starts)) × (length (now starts) ≤ length (now states)) × (32 * length (now starts) ≤ length (now hashes)) × (layer < 64) ⌝ }
-    ensures { λ x. ⌜ AllStepped (now (starts .entry)) (now (order .entry)) (now (states .entry)) (now (hashes .entry)) (now (states .exit)) (now (hashes .exit)) layer left lo hi l r × Charged (now (starts .entry)) (now (states .entry)) (now (hashes .entry)) (now (costs .entry)) (now (states .exit)) (now (hashes .exit)) (now (costs .exit)) layer left l r × (need ≡ true → Made l r x) ⌝ }
+    ensures { λ x. ⌜ AllStepped (now (starts .entry)) (now (order .entry)) (now (states .entry)) (now (hashes .entry)) (now (states .exit)) (now (hashes .exit)) layer left lo hi l r
+        × Charged (now (starts .entry)) (now (states .entry)) (now (hashes .entry)) (now (costs .entry)) (now (states .exit)) (now (hashes .exit)) (now (costs .exit)) layer left l r
+        × (need ≡ true → Made l r x) ⌝ }
 {
     step_rows(
         starts,
@@ -289,7 +293,8 @@ pub(crate) fn visit(
 ) -> Known
     requires { ⌜ Setting (now places) (now starts) (now order) (now states) (now hashes) ⌝ }
     requires { ⌜ Spot (now starts) (now order) layer position lo hi want ⌝ }
-    ensures { λ r. ⌜ Visited (lookedUp (now (s .entry)) (now (places .entry)) (now (t .entry)) (now (others .entry))) (now (starts .entry)) (now (order .entry)) (now (states .entry)) (now (hashes .entry)) (now (states .exit)) (now (hashes .exit)) layer position lo hi want r × VisitedCost (lookedUp (now (s .entry)) (now (places .entry)) (now (t .entry)) (now (others .entry))) (now (starts .entry)) (now (states .entry)) (now (hashes .entry)) (now (costs .entry)) (now (states .exit)) (now (hashes .exit)) (now (costs .exit)) layer position want r ⌝ }
+    ensures { λ r. ⌜ Visited (lookedUp (now (s .entry)) (now (places .entry)) (now (t .entry)) (now (others .entry))) (now (starts .entry)) (now (order .entry)) (now (states .entry)) (now (hashes .entry)) (now (states .exit)) (now (hashes .exit)) layer position lo hi want r
+        × VisitedCost (lookedUp (now (s .entry)) (now (places .entry)) (now (t .entry)) (now (others .entry))) (now (starts .entry)) (now (states .entry)) (now (hashes .entry)) (now (costs .entry)) (now (states .exit)) (now (hashes .exit)) (now (costs .exit)) layer position want r ⌝ }
 {
     let here = written_at(s, places, t, others, layer, position, want);
     let need = both(want, !here.known);

@@ -76,7 +76,8 @@ fn begun_row(start: Start) -> u16
 // The rows of ids begin where these stand.
 fn begin_rows(s: &[u8], path: Path, starts: &mut [u64], states: &mut [u16], hashes: &[u8])
     requires { ⌜ (length (now starts) ≤ 256) × (length (now states) ≡ length (now starts)) ⌝ }
-    ensures { λ _. ⌜ First (λ i. startRow (startIn (now (s .entry)) path (idAt (now (hashes .entry)) i))) (length (now (starts .entry))) (now (starts .exit)) × First (λ i. begunRow (startIn (now (s .entry)) path (idAt (now (hashes .entry)) i))) (length (now (starts .entry))) (now (states .exit)) ⌝ }
+    ensures { λ _. ⌜ First (λ i. startRow (startIn (now (s .entry)) path (idAt (now (hashes .entry)) i))) (length (now (starts .entry))) (now (starts .exit))
+        × First (λ i. begunRow (startIn (now (s .entry)) path (idAt (now (hashes .entry)) i))) (length (now (starts .entry))) (now (states .exit)) ⌝ }
 {
     let mut i: usize = 0;
     while i < starts.len() {
@@ -122,7 +123,10 @@ fn prove_rows(
     costs: &mut [u64],
 )
     requires { ⌜ Levels path × (length (now starts) ≤ 256) × (length (now states) ≡ length (now starts)) × (length (now hashes) ≡ 32 * length (now starts)) × (length (now order) ≡ 256) × (length (now costs) ≤ length (now starts)) ⌝ }
-    ensures { λ _. ⌜ (now (starts .exit) ≡ rows (λ i. startRow (startIn (now (s .entry)) path (idAt (now (hashes .entry)) i))) (length (now (starts .entry)))) × (now (states .exit) ≡ rows (λ i. stateRow (rootIn (now (s .entry)) path (idAt (now (hashes .entry)) i))) (length (now (starts .entry)))) × (now (hashes .exit) ≡ endToEnd (λ i. rootRow (rootIn (now (s .entry)) path (idAt (now (hashes .entry)) i))) (length (now (starts .entry)))) × (now (costs .exit) ≡ rows (λ i. joinsIn (now (s .entry)) path (idAt (now (hashes .entry)) i)) (length (now (costs .entry)))) ⌝ }
+    ensures { λ _. ⌜ (now (starts .exit) ≡ rows (λ i. startRow (startIn (now (s .entry)) path (idAt (now (hashes .entry)) i))) (length (now (starts .entry))))
+        × (now (states .exit) ≡ rows (λ i. stateRow (rootIn (now (s .entry)) path (idAt (now (hashes .entry)) i))) (length (now (starts .entry))))
+        × (now (hashes .exit) ≡ endToEnd (λ i. rootRow (rootIn (now (s .entry)) path (idAt (now (hashes .entry)) i))) (length (now (starts .entry))))
+        × (now (costs .exit) ≡ rows (λ i. joinsIn (now (s .entry)) path (idAt (now (hashes .entry)) i)) (length (now (costs .entry)))) ⌝ }
 {
     begin_rows(s, path, starts, states, hashes);
     clear_costs(costs);
@@ -150,7 +154,10 @@ fn prove_ordered(
     costs: &mut [u64],
 )
     requires { ⌜ Levels path × (length (now starts) ≤ 256) × (length (now states) ≡ length (now starts)) × (length (now hashes) ≡ 32 * length (now starts)) × (length (now costs) ≤ length (now starts)) ⌝ }
-    ensures { λ _. ⌜ (now (starts .exit) ≡ rows (λ i. startRow (startIn (now (s .entry)) path (idAt (now (hashes .entry)) i))) (length (now (starts .entry)))) × (now (states .exit) ≡ rows (λ i. stateRow (rootIn (now (s .entry)) path (idAt (now (hashes .entry)) i))) (length (now (starts .entry)))) × (now (hashes .exit) ≡ endToEnd (λ i. rootRow (rootIn (now (s .entry)) path (idAt (now (hashes .entry)) i))) (length (now (starts .entry)))) × (now (costs .exit) ≡ rows (λ i. joinsIn (now (s .entry)) path (idAt (now (hashes .entry)) i)) (length (now (costs .entry)))) ⌝ }
+    ensures { λ _. ⌜ (now (starts .exit) ≡ rows (λ i. startRow (startIn (now (s .entry)) path (idAt (now (hashes .entry)) i))) (length (now (starts .entry))))
+        × (now (states .exit) ≡ rows (λ i. stateRow (rootIn (now (s .entry)) path (idAt (now (hashes .entry)) i))) (length (now (starts .entry))))
+        × (now (hashes .exit) ≡ endToEnd (λ i. rootRow (rootIn (now (s .entry)) path (idAt (now (hashes .entry)) i))) (length (now (starts .entry))))
+        × (now (costs .exit) ≡ rows (λ i. joinsIn (now (s .entry)) path (idAt (now (hashes .entry)) i)) (length (now (costs .entry)))) ⌝ }
 {
     let mut order = [0u16; ROWS];
     prove_rows(s, path, starts, states, hashes, &mut order, costs);
@@ -176,7 +183,10 @@ pub fn prove_all(
     hashes: &mut [u8],
     costs: &mut [u64],
 )
-    ensures { λ _. ⌜ (now (starts .exit) ≡ startsOf (now (s .entry)) path (now (starts .entry)) (now (states .entry)) (now (hashes .entry))) × (now (states .exit) ≡ statesOf (now (s .entry)) path (now (starts .entry)) (now (states .entry)) (now (hashes .entry))) × (now (hashes .exit) ≡ rootsOf (now (s .entry)) path (now (starts .entry)) (now (states .entry)) (now (hashes .entry))) × (now (costs .exit) ≡ costsOf (now (s .entry)) path (now (starts .entry)) (now (states .entry)) (now (hashes .entry)) (now (costs .entry))) ⌝ }
+    ensures { λ _. ⌜ (now (starts .exit) ≡ startsOf (now (s .entry)) path (now (starts .entry)) (now (states .entry)) (now (hashes .entry)))
+        × (now (states .exit) ≡ statesOf (now (s .entry)) path (now (starts .entry)) (now (states .entry)) (now (hashes .entry)))
+        × (now (hashes .exit) ≡ rootsOf (now (s .entry)) path (now (starts .entry)) (now (states .entry)) (now (hashes .entry)))
+        × (now (costs .exit) ≡ costsOf (now (s .entry)) path (now (starts .entry)) (now (states .entry)) (now (hashes .entry)) (now (costs .entry))) ⌝ }
 {
     let count = starts.len();
     if rows_fit(path, count, states.len(), hashes.len()) {

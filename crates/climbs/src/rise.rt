@@ -105,7 +105,9 @@ fn advance_if(
     costs: &mut [u64],
 )
     requires { ⌜ (row < length (now states)) × (layer < 64) ⌝ }
-    ensures { λ _. ⌜ (now (states .exit) ≡ pick (t .moves) (statesAfter (now (states .entry)) row layer (t .joined .kind)) (now (states .entry))) × (now (hashes .exit) ≡ pick (t .moves) (hashesAfter (now (states .entry)) (now (hashes .entry)) row layer (t .joined .kind) parent) (now (hashes .entry))) × (now (costs .exit) ≡ pick (t .moves) (costsAfter (now (states .entry)) (now (costs .entry)) row layer (t .joined .kind) 0) (now (costs .entry))) ⌝ }
+    ensures { λ _. ⌜ (now (states .exit) ≡ pick (t .moves) (statesAfter (now (states .entry)) row layer (t .joined .kind)) (now (states .entry)))
+        × (now (hashes .exit) ≡ pick (t .moves) (hashesAfter (now (states .entry)) (now (hashes .entry)) row layer (t .joined .kind) parent) (now (hashes .entry)))
+        × (now (costs .exit) ≡ pick (t .moves) (costsAfter (now (states .entry)) (now (costs .entry)) row layer (t .joined .kind) 0) (now (costs .entry))) ⌝ }
 {
     let moves = t.moves;
     let joined = t.joined;
@@ -194,7 +196,8 @@ fn layer4(
     costs: &mut [u64],
 ) -> bool
     requires { ⌜ (a < length (now starts)) × (b < length (now starts)) × (c < length (now starts)) × (d < length (now starts)) × (layer < 64) × Held (now places) (now starts) (now states) (now hashes) ⌝ }
-    ensures { λ _. ⌜ Moved (workedOut (lookedUp (now (s .entry)) (now (places .entry)) (now (t .entry)) (now (others .entry)))) (layer + 1) (now (starts .entry)) (now (states .entry)) (now (hashes .entry)) (now (states .exit)) (now (hashes .exit)) × Spent (lookedUp (now (s .entry)) (now (places .entry)) (now (t .entry)) (now (others .entry))) (layer + 1) (now (starts .entry)) (now (states .entry)) (now (hashes .entry)) (now (costs .entry)) (now (states .exit)) (now (hashes .exit)) (now (costs .exit)) ⌝ }
+    ensures { λ _. ⌜ Moved (workedOut (lookedUp (now (s .entry)) (now (places .entry)) (now (t .entry)) (now (others .entry)))) (layer + 1) (now (starts .entry)) (now (states .entry)) (now (hashes .entry)) (now (states .exit)) (now (hashes .exit))
+        × Spent (lookedUp (now (s .entry)) (now (places .entry)) (now (t .entry)) (now (others .entry))) (layer + 1) (now (starts .entry)) (now (states .entry)) (now (hashes .entry)) (now (costs .entry)) (now (states .exit)) (now (hashes .exit)) (now (costs .exit)) ⌝ }
 {
     let ta = written_turn(s, places, starts, states, hashes, t, others, a, layer);
     let tb = written_turn(s, places, starts, states, hashes, t, others, b, layer);
@@ -228,7 +231,8 @@ fn layer1(
     costs: &mut [u64],
 ) -> bool
     requires { ⌜ (row < length (now starts)) × (layer < 64) × Held (now places) (now starts) (now states) (now hashes) ⌝ }
-    ensures { λ _. ⌜ Moved (workedOut (lookedUp (now (s .entry)) (now (places .entry)) (now (t .entry)) (now (others .entry)))) (layer + 1) (now (starts .entry)) (now (states .entry)) (now (hashes .entry)) (now (states .exit)) (now (hashes .exit)) × Spent (lookedUp (now (s .entry)) (now (places .entry)) (now (t .entry)) (now (others .entry))) (layer + 1) (now (starts .entry)) (now (states .entry)) (now (hashes .entry)) (now (costs .entry)) (now (states .exit)) (now (hashes .exit)) (now (costs .exit)) ⌝ }
+    ensures { λ _. ⌜ Moved (workedOut (lookedUp (now (s .entry)) (now (places .entry)) (now (t .entry)) (now (others .entry)))) (layer + 1) (now (starts .entry)) (now (states .entry)) (now (hashes .entry)) (now (states .exit)) (now (hashes .exit))
+        × Spent (lookedUp (now (s .entry)) (now (places .entry)) (now (t .entry)) (now (others .entry))) (layer + 1) (now (starts .entry)) (now (states .entry)) (now (hashes .entry)) (now (costs .entry)) (now (states .exit)) (now (hashes .exit)) (now (costs .exit)) ⌝ }
 {
     let turn = written_turn(s, places, starts, states, hashes, t, others, row, layer);
     if !turn.moves {
@@ -256,7 +260,8 @@ fn layer_rows(
     costs: &mut [u64],
 ) -> bool
     requires { ⌜ (a < length (now starts)) × (b < length (now starts)) × (c < length (now starts)) × (d < length (now starts)) × (layer < 64) × Held (now places) (now starts) (now states) (now hashes) ⌝ }
-    ensures { λ _. ⌜ Moved (workedOut (lookedUp (now (s .entry)) (now (places .entry)) (now (t .entry)) (now (others .entry)))) (layer + 1) (now (starts .entry)) (now (states .entry)) (now (hashes .entry)) (now (states .exit)) (now (hashes .exit)) × Spent (lookedUp (now (s .entry)) (now (places .entry)) (now (t .entry)) (now (others .entry))) (layer + 1) (now (starts .entry)) (now (states .entry)) (now (hashes .entry)) (now (costs .entry)) (now (states .exit)) (now (hashes .exit)) (now (costs .exit)) ⌝ }
+    ensures { λ _. ⌜ Moved (workedOut (lookedUp (now (s .entry)) (now (places .entry)) (now (t .entry)) (now (others .entry)))) (layer + 1) (now (starts .entry)) (now (states .entry)) (now (hashes .entry)) (now (states .exit)) (now (hashes .exit))
+        × Spent (lookedUp (now (s .entry)) (now (places .entry)) (now (t .entry)) (now (others .entry))) (layer + 1) (now (starts .entry)) (now (states .entry)) (now (hashes .entry)) (now (costs .entry)) (now (states .exit)) (now (hashes .exit)) (now (costs .exit)) ⌝ }
 {
     if a == d {
         return layer1(
@@ -306,7 +311,8 @@ fn rise4(
     costs: &mut [u64],
 )
     requires { ⌜ (a < length (now starts)) × (b < length (now starts)) × (c < length (now starts)) × (d < length (now starts)) × (layers ≤ 64) × Held (now places) (now starts) (now states) (now hashes) ⌝ }
-    ensures { λ _. ⌜ Moved (workedOut (lookedUp (now (s .entry)) (now (places .entry)) (now (t .entry)) (now (others .entry)))) layers (now (starts .entry)) (now (states .entry)) (now (hashes .entry)) (now (states .exit)) (now (hashes .exit)) × Spent (lookedUp (now (s .entry)) (now (places .entry)) (now (t .entry)) (now (others .entry))) layers (now (starts .entry)) (now (states .entry)) (now (hashes .entry)) (now (costs .entry)) (now (states .exit)) (now (hashes .exit)) (now (costs .exit)) ⌝ }
+    ensures { λ _. ⌜ Moved (workedOut (lookedUp (now (s .entry)) (now (places .entry)) (now (t .entry)) (now (others .entry)))) layers (now (starts .entry)) (now (states .entry)) (now (hashes .entry)) (now (states .exit)) (now (hashes .exit))
+        × Spent (lookedUp (now (s .entry)) (now (places .entry)) (now (t .entry)) (now (others .entry))) layers (now (starts .entry)) (now (states .entry)) (now (hashes .entry)) (now (costs .entry)) (now (states .exit)) (now (hashes .exit)) (now (costs .exit)) ⌝ }
 {
     let mut k: usize = 0;
     while k < layers {
@@ -370,7 +376,8 @@ pub(crate) fn rise_rows(
     costs: &mut [u64],
 )
     requires { ⌜ (layers ≤ 64) × Held (now places) (now starts) (now states) (now hashes) ⌝ }
-    ensures { λ _. ⌜ Moved (workedOut (lookedUp (now (s .entry)) (now (places .entry)) (now (t .entry)) (now (others .entry)))) layers (now (starts .entry)) (now (states .entry)) (now (hashes .entry)) (now (states .exit)) (now (hashes .exit)) × Spent (lookedUp (now (s .entry)) (now (places .entry)) (now (t .entry)) (now (others .entry))) layers (now (starts .entry)) (now (states .entry)) (now (hashes .entry)) (now (costs .entry)) (now (states .exit)) (now (hashes .exit)) (now (costs .exit)) ⌝ }
+    ensures { λ _. ⌜ Moved (workedOut (lookedUp (now (s .entry)) (now (places .entry)) (now (t .entry)) (now (others .entry)))) layers (now (starts .entry)) (now (states .entry)) (now (hashes .entry)) (now (states .exit)) (now (hashes .exit))
+        × Spent (lookedUp (now (s .entry)) (now (places .entry)) (now (t .entry)) (now (others .entry))) layers (now (starts .entry)) (now (states .entry)) (now (hashes .entry)) (now (costs .entry)) (now (states .exit)) (now (hashes .exit)) (now (costs .exit)) ⌝ }
 {
     let n = starts.len();
     let mut row: usize = 0;

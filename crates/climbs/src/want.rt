@@ -10,9 +10,9 @@ use spv::reject;
 ghost use mathlib.Core.Path.{_≡_};
 ghost use Rattle.format.specs.Refusals.{NOT-LISTED};
 ghost use Rattle.spv.specs.Result.{accepted, refused, carrying, follow};
-ghost use Rattle.spv.specs.Compare.{targetOf, any, bound};
 ghost use Rattle.spv.specs.Clients.{closing};
 ghost use Rattle.climbs.specs.ClientsShapes.{wantSays, endSays, wantedTo, refusedCheck, checkedOf};
+ghost use Rattle.spv.specs.Prove.{targetOf, any, bound};
 
 pub enum Agreement {
     Agreed,

@@ -7,7 +7,7 @@ use lib.ListN.{length, getD, take}
 use native.Mathlib.Omega.{arith}
 use mir.Syntax.{w8, w32}
 use mir.Val.{Fits}
-use Rattle.format.specs.Parse.{got}
+use Rattle.format.specs.Parse.{ok}
 use Rattle.format.specs.Refusals.{MAX-BLOCK}
 use Rattle.format.specs.Tsc.{Tsc, tscWhole}
 use Rattle.format.specs.Id.{subjectId}
@@ -15,7 +15,7 @@ use Rattle.encoding.specs.TscBytes.{ID-AND-ROOT}
 use Rattle.spv.specs.declared.prove.Outcome.the-variants.{Accepted}
 use Rattle.spv.specs.declared.prove.Proved.{Proved}
 use Rattle.spv.specs.Result.{Result, accepted}
-use Rattle.spv.specs.Compare.{Proof, prove}
+use Rattle.spv.specs.Prove.{Proof, prove}
 use Rattle.spv.specs.Readings.{bumpReading, tscReading}
 use Rattle.spv.specs.Shapes.{acceptedOf, provedOf}
 use Rattle.block.specs.declared.block.Written.{Written}
@@ -78,7 +78,7 @@ module _ {s : List ℕ} {block : ℕ} {out left : List ℕ} {n : ℕ} (c : ToBum
   to-bump-client = to-bump-rises s block (length out) (take n left) (λ i. c .bytes i .fits) (low-block (c .block-fits)) wrote
 
   -- and back, with room for as many bytes as the TSC proof has: "TSC with id and root target, to BUMP and back, gives the same bytes"
-  pub tsc-back-answered : (t : Tsc) (q : ℕ) → tscWhole s ≡ got t q → t .flags ≡ ID-AND-ROOT → (memory after : List ℕ) (returned : Written)
+  pub tsc-back-answered : (t : Tsc) (q : ℕ) → tscWhole s ≡ ok t q → t .flags ≡ ID-AND-ROOT → (memory after : List ℕ) (returned : Written)
       → ToTscCall (take n left) (subjectId s (t .subject)) memory returned after → length s ≤ length memory → (returned ≡ Bytes (length s)) × (take (length s) after ≡ s)
   tsc-back-answered t q w four memory after returned d enough =
       accepted-told memory s (tsc-round-trip s t q block (length out) (take n left) (λ i. c .bytes i .fits) (low-block (c .block-fits)) w four wrote (length memory) enough) (d .answer) (d .lent)

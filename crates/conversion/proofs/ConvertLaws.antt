@@ -13,14 +13,14 @@ use borrow.Author.Tests.{eq-eqb, ne-eqb}
 use Rattle.format.proofs.Basics.{one-less}
 use Rattle.format.specs.declared.level.Kind.{Kind}
 use Rattle.format.specs.declared.level.Kind.the-variants.{Plain, Copy, Client}
-use Rattle.format.specs.Parse.{pick, times, many, got, bad}
+use Rattle.format.specs.Parse.{pick, times, many, ok, fault}
 use Rattle.format.proofs.ParseLaws.{many-told}
 use Rattle.format.specs.Node.{nodeField}
 use Rattle.format.specs.Bytes.{hashAt}
 use Rattle.format.proofs.BytesLaws.{hash-at-length}
 use Rattle.encoding.specs.Digits.{varintBytes}
-use Rattle.encoding.proofs.VarintSpelling.{varint-length}
-use Rattle.encoding.specs.Spells.{spells}
+use Rattle.encoding.proofs.VarintEncoding.{varint-length}
+use Rattle.encoding.specs.Encode.{encodeAll}
 use Rattle.encoding.specs.Buffer.{Buffer, putOn, writeOn}
 use Rattle.encoding.proofs.BufferLaws.{write-then, write-none, write-one, write-cons, wrote-then}
 use Rattle.encoding.specs.BumpBytes.{Entry, carriedBytes, entryBytes, levelBytes, bumpBytes}
@@ -33,7 +33,6 @@ use Rattle.format.specs.Id.{subjectId}
 use Rattle.format.specs.Refusals.{BAD-HEIGHT, NO-ROOM, MAX-INPUT, MAX-HEIGHT}
 use Rattle.spv.specs.declared.rejection.Rejection.{Rejection}
 use Rattle.spv.specs.Result.{accepted, refused, carrying}
-use Rattle.spv.specs.Compare.{Proof, any, read, prove}
 use Rattle.spv.specs.Readings.{tscTarget, tscReading, bumpReading}
 use Rattle.spv.proofs.ReadingsLaws.{tsc-read}
 use Rattle.spv.specs.Climb.{Sibling, siblingPosition}
@@ -49,6 +48,7 @@ use Rattle.conversion.proofs.Taken.{proof-layers, proof-position, proof
 use Rattle.conversion.proofs.TakenLaws.{bump-climb, trace-fits, trace-count, tsc-siblings}
 use Rattle.conversion.specs.Convert.{clientEntry, siblingEntry, clientLevel, siblingLevels, clientLevels, clientBump, nodeCountAt, tscToBump, idTsc, bumpToTsc}
 use Rattle.conversion.specs.ConvertText.{levelsAt, clientLevelsAt, Proved}
+use Rattle.spv.specs.Prove.{Proof, prove, any, read}
 
 pub varint-low : (n w : ℕ) → w ≡ length (varintBytes n) → w ≤ 9
 varint-low n w e = let l = varint-length n in omega arith
@@ -95,7 +95,7 @@ module _ (p : Buffer) (j : ℕ) (x : Sibling) where
   wrote-sibling {o} e f g = wrote-then p (varintBytes o) (carriedBytes (asCarried x)) f g ∙ ap (λ (n : ℕ). writeOn p (varintBytes n ++ carriedBytes (asCarried x))) e
 
   pub wrote-level : {q r : Buffer} → q ≡ putOn p 1 → r ≡ writeOn q (entryBytes (siblingEntry j x)) → r ≡ writeOn p (levelBytes (siblingEntry j x ∷ []))
-  unfolding levelBytes spells varintBytes
+  unfolding levelBytes encodeAll varintBytes
   wrote-level {q} f g =
       write-cons p 1 (entryBytes (siblingEntry j x) ++ []) f (wrote-then q (entryBytes (siblingEntry j x)) [] g (sym (write-none _)))
 
@@ -104,7 +104,7 @@ unfolding entryBytes clientEntry carriedBytes
 wrote-client-leaf p i id e f g = wrote-hashed p i 2 refl e f g
 
 wrote-two : (p : Buffer) (a b : Entry) {q r t : Buffer} → q ≡ putOn p 2 → r ≡ writeOn q (entryBytes a) → t ≡ writeOn r (entryBytes b) → t ≡ writeOn p (levelBytes (a ∷ b ∷ []))
-unfolding levelBytes spells varintBytes
+unfolding levelBytes encodeAll varintBytes
 wrote-two p a b {q} {r} f g h =
     write-cons p 2 (entryBytes a ++ (entryBytes b ++ [])) f (wrote-then q (entryBytes a) (entryBytes b ++ []) g (wrote-then r (entryBytes b) [] h (sym (write-none _))))
 
@@ -128,11 +128,11 @@ unfolding entryBytes clientEntry carriedBytes
 client-size i id e = length-append (varintBytes i) (2 ∷ id) ∙ omega arith
 
 level-size : (j : ℕ) (x : Sibling) → length (levelBytes (siblingEntry j x ∷ [])) ≡ 1 + (length (varintBytes (siblingPosition j)) + length (carriedBytes (asCarried x)))
-unfolding levelBytes spells varintBytes
+unfolding levelBytes encodeAll varintBytes
 level-size j x = let a = length-append (entryBytes (siblingEntry j x)) [] in let b = sibling-size j x in omega arith
 
 two-size : (a b : Entry) → length (levelBytes (a ∷ b ∷ [])) ≡ 1 + (length (entryBytes a) + length (entryBytes b))
-unfolding levelBytes spells varintBytes
+unfolding levelBytes encodeAll varintBytes
 two-size a b = let x = length-append (entryBytes a) (entryBytes b ++ []) in let y = length-append (entryBytes b) [] in omega arith
 
 pub client-level-size : (i : ℕ) (id : List ℕ) (x : Sibling) → length id ≡ 32
@@ -153,16 +153,16 @@ module _ (s : List ℕ) (n k at j : ℕ) where
   levels-none h = let e : n - k ≡ 0 = omega arith in rw e
 
   module _ (b : k < n) where
-    levels-short : {number place : ℕ} → nodeField s at ≡ bad number place → levelsAt s (n - k) at j ≡ []
+    levels-short : {number place : ℕ} → nodeField s at ≡ fault number place → levelsAt s (n - k) at j ≡ []
     unfolding levelsAt
     levels-short e = rw (one-less n k b, levelsAt, e)
 
-    levels-more : {kind : Kind} {next : ℕ} → nodeField s at ≡ got kind next → levelsAt s (n - k) at j ≡ (siblingEntry j (written s kind) ∷ []) ∷ levelsAt s (n - (k + 1)) next (j / 2)
+    levels-more : {kind : Kind} {next : ℕ} → nodeField s at ≡ ok kind next → levelsAt s (n - k) at j ≡ (siblingEntry j (written s kind) ∷ []) ∷ levelsAt s (n - (k + 1)) next (j / 2)
     unfolding levelsAt
     levels-more e = rw (one-less n k b, levelsAt, e)
 
 abbrev pub levelsText : List ℕ → ℕ → ℕ → ℕ → List ℕ
-levelsText s n at j = spells levelBytes (levelsAt s n at j)
+levelsText s n at j = encodeAll levelBytes (levelsAt s n at j)
 
 module _ (s : List ℕ) (n start i : ℕ) (p₀ : Buffer) where
   -- what is left to write from here comes to what was asked for at the start
@@ -174,20 +174,20 @@ module _ (s : List ℕ) (n start i : ℕ) (p₀ : Buffer) where
 
   module _ (k at j : ℕ) (p : Buffer) (v : Writing k at j p) where
     pub writing-end : n ≤ k → p ≡ writeOn p₀ (levelsText s n start i)
-    unfolding spells
-    writing-end h = sym (ap (λ (l : List (List Entry)). writeOn p (spells levelBytes l)) (levels-none s n k at j h) ∙ write-none p) ∙ v
+    unfolding encodeAll
+    writing-end h = sym (ap (λ (l : List (List Entry)). writeOn p (encodeAll levelBytes l)) (levels-none s n k at j h) ∙ write-none p) ∙ v
 
     module _ (b : k < n) where
-      pub writing-short : {number place : ℕ} → nodeField s at ≡ bad number place → p ≡ writeOn p₀ (levelsText s n start i)
-      unfolding spells
-      writing-short e = sym (ap (λ (l : List (List Entry)). writeOn p (spells levelBytes l)) (levels-short s n k at j b e) ∙ write-none p) ∙ v
+      pub writing-short : {number place : ℕ} → nodeField s at ≡ fault number place → p ≡ writeOn p₀ (levelsText s n start i)
+      unfolding encodeAll
+      writing-short e = sym (ap (λ (l : List (List Entry)). writeOn p (encodeAll levelBytes l)) (levels-short s n k at j b e) ∙ write-none p) ∙ v
 
-      pub writing-on : {kind : Kind} {next : ℕ} → nodeField s at ≡ got kind next → (q : Buffer) → q ≡ writeOn p (levelBytes (siblingEntry j (written s kind) ∷ [])) → Writing (k + 1) next (j / 2) q
-      unfolding spells
+      pub writing-on : {kind : Kind} {next : ℕ} → nodeField s at ≡ ok kind next → (q : Buffer) → q ≡ writeOn p (levelBytes (siblingEntry j (written s kind) ∷ [])) → Writing (k + 1) next (j / 2) q
+      unfolding encodeAll
       writing-on {kind} {next} e q f =
           ap (λ (x : Buffer). writeOn x (levelsText s (n - (k + 1)) next (j / 2))) f
           ∙ sym (write-then p (levelBytes (siblingEntry j (written s kind) ∷ [])) (levelsText s (n - (k + 1)) next (j / 2)))
-          ∙ sym (ap (λ (l : List (List Entry)). writeOn p (spells levelBytes l)) (levels-more s n k at j b e))
+          ∙ sym (ap (λ (l : List (List Entry)). writeOn p (encodeAll levelBytes l)) (levels-more s n k at j b e))
           ∙ v
 
 module _ (s : List ℕ) (n start i : ℕ) where
@@ -201,21 +201,21 @@ module _ (s : List ℕ) (n start i : ℕ) where
   counting-start = record { done = omega arith; low = omega arith; kept = let e : n - 0 ≡ n = sub-zero n in rw e (omega arith) }
 
   module _ (k at j size : ℕ) (v : Counting k at j size) where
-    counted : {l : List (List Entry)} → levelsAt s (n - k) at j ≡ l → size + length (spells levelBytes l) ≡ length (levelsText s n start i)
-    counted e = ap (λ (x : List (List Entry)). size + length (spells levelBytes x)) (sym e) ∙ v .kept
+    counted : {l : List (List Entry)} → levelsAt s (n - k) at j ≡ l → size + length (encodeAll levelBytes l) ≡ length (levelsText s n start i)
+    counted e = ap (λ (x : List (List Entry)). size + length (encodeAll levelBytes x)) (sym e) ∙ v .kept
 
     pub counting-end : n ≤ k → size ≡ length (levelsText s n start i)
-    unfolding spells
+    unfolding encodeAll
     counting-end h = let c = counted (levels-none s n k at j h) in omega arith
 
     module _ (b : k < n) where
-      pub counting-short : {number place : ℕ} → nodeField s at ≡ bad number place → size ≡ length (levelsText s n start i)
-      unfolding spells
+      pub counting-short : {number place : ℕ} → nodeField s at ≡ fault number place → size ≡ length (levelsText s n start i)
+      unfolding encodeAll
       counting-short e = let c = counted (levels-short s n k at j b e) in omega arith
 
-      pub counting-on : {kind : Kind} {next o w m : ℕ} → nodeField s at ≡ got kind next → o ≡ siblingPosition j → w ≡ length (varintBytes o) → m ≡ length (carriedBytes (asCarried (written s kind)))
+      pub counting-on : {kind : Kind} {next o w m : ℕ} → nodeField s at ≡ ok kind next → o ≡ siblingPosition j → w ≡ length (varintBytes o) → m ≡ length (carriedBytes (asCarried (written s kind)))
           → Counting (k + 1) next (j / 2) (size + (1 + w + m))
-      unfolding spells
+      unfolding encodeAll
       counting-on {kind} {next} {o} {w} {m} e f g h =
           let c = counted (levels-more s n k at j b e) in
           let d = length-append (levelBytes (siblingEntry j (written s kind) ∷ [])) (levelsText s (n - (k + 1)) next (j / 2)) in
@@ -228,42 +228,42 @@ module _ (s : List ℕ) (n start i : ℕ) where
 
 -- ---- with the client's leaf
 
-client-short : (s : List ℕ) (n at i : ℕ) (id : List ℕ) {number place : ℕ} → nodeField s at ≡ bad number place → clientLevelsAt s n at i id ≡ []
+client-short : (s : List ℕ) (n at i : ℕ) (id : List ℕ) {number place : ℕ} → nodeField s at ≡ fault number place → clientLevelsAt s n at i id ≡ []
 unfolding clientLevelsAt
 client-short s zero at i id e = refl
 client-short s (suc n) at i id e = rw e
 
-client-more : (s : List ℕ) (n at i : ℕ) (id : List ℕ) (kind : Kind) (next : ℕ) → 0 < n → nodeField s at ≡ got kind next
+client-more : (s : List ℕ) (n at i : ℕ) (id : List ℕ) (kind : Kind) (next : ℕ) → 0 < n → nodeField s at ≡ ok kind next
     → clientLevelsAt s n at i id ≡ clientLevel i id (written s kind) ∷ levelsAt s (n - 1) next (i / 2)
 unfolding clientLevelsAt
 client-more s zero at i id kind next b e = absurd (omega arith)
 client-more s (suc n) at i id kind next b e = let f : suc n - 1 ≡ n = omega arith in rw (e, f)
 
 abbrev pub clientText : List ℕ → ℕ → ℕ → ℕ → List ℕ → List ℕ
-clientText s n at i id = spells levelBytes (clientLevelsAt s n at i id)
+clientText s n at i id = encodeAll levelBytes (clientLevelsAt s n at i id)
 
 module _ (s : List ℕ) (n at i : ℕ) (id : List ℕ) where
-  pub client-short-wrote : {number place : ℕ} → nodeField s at ≡ bad number place → (p : Buffer) → p ≡ writeOn p (clientText s n at i id)
-  unfolding spells
-  client-short-wrote e p = sym (ap (λ (l : List (List Entry)). writeOn p (spells levelBytes l)) (client-short s n at i id e) ∙ write-none p)
+  pub client-short-wrote : {number place : ℕ} → nodeField s at ≡ fault number place → (p : Buffer) → p ≡ writeOn p (clientText s n at i id)
+  unfolding encodeAll
+  client-short-wrote e p = sym (ap (λ (l : List (List Entry)). writeOn p (encodeAll levelBytes l)) (client-short s n at i id e) ∙ write-none p)
 
-  pub client-wrote : {kind : Kind} {next : ℕ} → 0 < n → nodeField s at ≡ got kind next → (p : Buffer) {q r : Buffer}
+  pub client-wrote : {kind : Kind} {next : ℕ} → 0 < n → nodeField s at ≡ ok kind next → (p : Buffer) {q r : Buffer}
       → q ≡ writeOn p (levelBytes (clientLevel i id (written s kind))) → r ≡ writeOn q (levelsText s (n - 1) next (i / 2)) → r ≡ writeOn p (clientText s n at i id)
-  unfolding spells
+  unfolding encodeAll
   client-wrote {kind} {next} b e p f g =
       wrote-then p (levelBytes (clientLevel i id (written s kind))) (levelsText s (n - 1) next (i / 2)) f g
-      ∙ sym (ap (λ (l : List (List Entry)). writeOn p (spells levelBytes l)) (client-more s n at i id kind next b e))
+      ∙ sym (ap (λ (l : List (List Entry)). writeOn p (encodeAll levelBytes l)) (client-more s n at i id kind next b e))
 
-  pub client-short-counted : {number place : ℕ} → nodeField s at ≡ bad number place → 0 ≡ length (clientText s n at i id)
-  unfolding spells
-  client-short-counted e = sym (ap (λ (l : List (List Entry)). length (spells levelBytes l)) (client-short s n at i id e))
+  pub client-short-counted : {number place : ℕ} → nodeField s at ≡ fault number place → 0 ≡ length (clientText s n at i id)
+  unfolding encodeAll
+  client-short-counted e = sym (ap (λ (l : List (List Entry)). length (encodeAll levelBytes l)) (client-short s n at i id e))
 
-  pub client-counted : {kind : Kind} {next o v w m z : ℕ} → 0 < n → nodeField s at ≡ got kind next → length id ≡ 32
+  pub client-counted : {kind : Kind} {next o v w m z : ℕ} → 0 < n → nodeField s at ≡ ok kind next → length id ≡ 32
       → v ≡ length (varintBytes i) → o ≡ siblingPosition i → w ≡ length (varintBytes o) → m ≡ length (carriedBytes (asCarried (written s kind))) → z ≡ length (levelsText s (n - 1) next (i / 2))
       → 1 + (v + 33) + (w + m) + z ≡ length (clientText s n at i id)
-  unfolding spells
+  unfolding encodeAll
   client-counted {kind} {next} b e l ev eo ew em ez =
-      let c = ap (λ (x : List (List Entry)). length (spells levelBytes x)) (client-more s n at i id kind next b e) in
+      let c = ap (λ (x : List (List Entry)). length (encodeAll levelBytes x)) (client-more s n at i id kind next b e) in
       let d = length-append (levelBytes (clientLevel i id (written s kind))) (levelsText s (n - 1) next (i / 2)) in
       let f = client-level-size i id (written s kind) l in
       let u = ew ∙ ap (λ (x : ℕ). length (varintBytes x)) eo in
@@ -272,36 +272,36 @@ module _ (s : List ℕ) (n at i : ℕ) (id : List ℕ) where
 -- ---- nodes that were read
 
 -- the siblings beside j, j / 2, ..., of nodes that were read
-levels-read : (s : List ℕ) (n at j : ℕ) (nodes : List Kind) (q : ℕ) → times nodeField n s at ≡ got nodes q → levelsAt s n at j ≡ siblingLevels j (map (written s) nodes)
+levels-read : (s : List ℕ) (n at j : ℕ) (nodes : List Kind) (q : ℕ) → times nodeField n s at ≡ ok nodes q → levelsAt s n at j ≡ siblingLevels j (map (written s) nodes)
 unfolding levelsAt many siblingLevels
 levels-read s zero at j nodes q e = let f : [] ≡ nodes = cc in rw (← f)
 levels-read s (suc n) at j nodes q e =
     let x = many-told {S = Unit {0}} (λ _. nodeField) (λ u _. u) n tt s at e in
     rw (← x .5) (more (x .0) (x .1) (x .2) (x .3) (levels-read s n (x .1) (j / 2) (x .2) q (x .4)))
   where
-    more : (a : Kind) (r : ℕ) (rest : List Kind) → nodeField s at ≡ got a r → levelsAt s n r (j / 2) ≡ siblingLevels (j / 2) (map (written s) rest)
+    more : (a : Kind) (r : ℕ) (rest : List Kind) → nodeField s at ≡ ok a r → levelsAt s n r (j / 2) ≡ siblingLevels (j / 2) (map (written s) rest)
         → levelsAt s (suc n) at j ≡ siblingLevels j (map (written s) (a ∷ rest))
     more a r rest f ih = rw (f, ih)
 
-client-levels-read : (s : List ℕ) (n at i : ℕ) (id : List ℕ) (nodes : List Kind) (q : ℕ) → times nodeField n s at ≡ got nodes q → clientLevelsAt s n at i id ≡ clientLevels i id (map (written s) nodes)
+client-levels-read : (s : List ℕ) (n at i : ℕ) (id : List ℕ) (nodes : List Kind) (q : ℕ) → times nodeField n s at ≡ ok nodes q → clientLevelsAt s n at i id ≡ clientLevels i id (map (written s) nodes)
 unfolding clientLevelsAt many clientLevels
 client-levels-read s zero at i id nodes q e = let f : [] ≡ nodes = cc in rw (← f)
 client-levels-read s (suc n) at i id nodes q e =
     let x = many-told {S = Unit {0}} (λ _. nodeField) (λ u _. u) n tt s at e in
     rw (← x .5) (more (x .0) (x .1) (x .2) (x .3) (levels-read s n (x .1) (i / 2) (x .2) q (x .4)))
   where
-    more : (a : Kind) (r : ℕ) (rest : List Kind) → nodeField s at ≡ got a r → levelsAt s n r (i / 2) ≡ siblingLevels (i / 2) (map (written s) rest)
+    more : (a : Kind) (r : ℕ) (rest : List Kind) → nodeField s at ≡ ok a r → levelsAt s n r (i / 2) ≡ siblingLevels (i / 2) (map (written s) rest)
         → clientLevelsAt s (suc n) at i id ≡ clientLevels i id (map (written s) (a ∷ rest))
     more a r rest f ih = rw (f, ih)
 
 -- ---- from a TSC proof, case by case
 
 module _ (s : List ℕ) (block room : ℕ) where
-  pub from-unread : {number place : ℕ} → tscWhole s ≡ bad number place → tscToBump s block room ≡ refused (carrying number place)
+  pub from-unread : {number place : ℕ} → tscWhole s ≡ fault number place → tscToBump s block room ≡ refused (carrying number place)
   unfolding tscToBump
   from-unread e = rw e
 
-  module _ (t : Tsc) (q : ℕ) (e : tscWhole s ≡ got t q) where
+  module _ (t : Tsc) (q : ℕ) (e : tscWhole s ≡ ok t q) where
     pub from-refused : {why : Rejection} → prove (tscReading s) ≡ refused why → tscToBump s block room ≡ refused why
     unfolding tscToBump
     from-refused f = rw (e, f)
@@ -335,7 +335,7 @@ module _ (s : List ℕ) (block room : ℕ) where
       pub from-text : bumpBytes (clientBump block p) ≡ varintBytes block ++ (length (t .nodes) ∷ clientText s (length (t .nodes)) (t .nodesAt) (t .index) (p .id))
       unfolding bumpBytes clientBump
       from-text =
-          ap₂ (λ (h : ℕ) (l : List (List Entry)). varintBytes block ++ (h ∷ spells levelBytes l)) from-layers
+          ap₂ (λ (h : ℕ) (l : List (List Entry)). varintBytes block ++ (h ∷ encodeAll levelBytes l)) from-layers
           (ap₂ (λ (i : ℕ) (l : List Sibling). clientLevels i (p .id) l) from-position (tsc-siblings s t q p f e)
           ∙ sym (client-levels-read s (length (t .nodes)) (t .nodesAt) (t .index) (p .id) (t .nodes) q (tsc-whole-told s e .nodes)))
 

@@ -17,7 +17,7 @@ use Rattle.path.specs.declared.path.Start.the-variants.{At}
 use Rattle.format.specs.Parse.{pick}
 use Rattle.format.proofs.BytesLaws.{same-eq, hash-at-length}
 use Rattle.path.specs.Search.{carries, leastOffset}
-use Rattle.encoding.proofs.Spelling.{part-bytes}
+use Rattle.encoding.proofs.Encoding.{part-bytes}
 use Rattle.encoding.specs.BumpBytes.{HashFit}
 use Rattle.encoding.specs.TscBytes.{NodeFit, NodesFit}
 use Rattle.format.specs.Id.{subjectId}
@@ -31,7 +31,7 @@ use Rattle.spv.specs.Trace.{asCarried}
 use Rattle.format.specs.declared.tsc.Subject.{Subject}
 use Rattle.conversion.proofs.TakenLaws.{Every}
 use Rattle.format.specs.Bytes.{hashAt}
-use Rattle.encoding.specs.Spells.{AllBytes, Fits}
+use Rattle.encoding.specs.Encode.{AllBytes, Fits}
 
 zeros-fit : (n : ℕ) → AllBytes (replicate n 0)
 zeros-fit zero i = omega arith

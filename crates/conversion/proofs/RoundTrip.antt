@@ -6,9 +6,9 @@ use lib.ListN.{length, getD}
 use native.Mathlib.Omega.{arith}
 use borrow.Author.Tests.{ne-eqb}
 use Rattle.path.specs.declared.path.Form.{Form}
-use Rattle.format.specs.Parse.{got}
+use Rattle.format.specs.Parse.{ok}
 use Rattle.format.specs.Refusals.{MAX-BLOCK}
-use Rattle.encoding.specs.Spells.{AllBytes}
+use Rattle.encoding.specs.Encode.{AllBytes}
 use Rattle.format.proofs.BumpLaws.{bump-whole-told}
 use Rattle.encoding.specs.BumpBytes.{bumpBytes}
 use Rattle.encoding.proofs.BumpRoundTrip.{bump-read-back}
@@ -17,7 +17,6 @@ use Rattle.encoding.specs.TscBytes.{ID-AND-ROOT}
 use Rattle.format.specs.Id.{subjectId}
 use Rattle.spv.specs.Result.{accepted}
 use Rattle.spv.specs.Climb.{Siblings}
-use Rattle.spv.specs.Compare.{any, Proof, proofOf, prove}
 use Rattle.spv.proofs.CompareLaws.{prove-accepted}
 use Rattle.spv.proofs.Position.{position-exists}
 use Rattle.spv.specs.Readings.{bumpReading, tscReading, tscReadingUpTo, tscTarget, readingUpTo}
@@ -30,9 +29,10 @@ use Rattle.conversion.proofs.TakenLaws.{bump-climb, siblings-whole}
 use Rattle.conversion.proofs.HashFits.{level-siblings-fit, start-fits}
 use Rattle.conversion.proofs.ToBump.{content-fits, back-proves, to-bump-is, to-bump-proves}
 use Rattle.conversion.proofs.ToTsc.{to-tsc-proves, tsc-round-trip-by}
+use Rattle.spv.specs.Prove.{Proof, proofOf, prove, any}
 
 -- a TSC proof with id and root target, to BUMP and back by its id
-pub tsc-round-trip : (s : List ℕ) (t : Tsc) (q block room : ℕ) (bumped : List ℕ) → AllBytes s → block ≤ MAX-BLOCK → tscWhole s ≡ got t q → t .flags ≡ ID-AND-ROOT
+pub tsc-round-trip : (s : List ℕ) (t : Tsc) (q block room : ℕ) (bumped : List ℕ) → AllBytes s → block ≤ MAX-BLOCK → tscWhole s ≡ ok t q → t .flags ≡ ID-AND-ROOT
     → tscToBump s block room ≡ accepted bumped → (back : ℕ) → length s ≤ back → bumpToTsc bumped (subjectId s (t .subject)) back ≡ accepted s
 tsc-round-trip s t q block room bumped all b w four call back enough =
     let x = to-bump-proves s block room bumped all b call in
@@ -62,7 +62,7 @@ climb-alone s id block p all b e =
     below e f b = rw (← e, ← f) b
 
 -- a TSC proof with nodes becomes the BUMP of its climb wherever that has room
-to-bump-of : (s : List ℕ) (block room : ℕ) (t : Tsc) (q : ℕ) (p : Proof) → tscWhole s ≡ got t q → prove (tscReading s) ≡ accepted p → 1 ≤ p .layers → length (bumpBytes (clientBump block p)) ≤ room
+to-bump-of : (s : List ℕ) (block room : ℕ) (t : Tsc) (q : ℕ) (p : Proof) → tscWhole s ≡ ok t q → prove (tscReading s) ≡ accepted p → 1 ≤ p .layers → length (bumpBytes (clientBump block p)) ≤ room
     → tscToBump s block room ≡ accepted (bumpBytes (clientBump block p))
 unfolding tscToBump
 to-bump-of s block room t q p w e some enough =

@@ -10,8 +10,8 @@ use Rattle.format.specs.Refusals.{MISSING}
 use Rattle.spv.specs.Result.{accepted}
 use Rattle.spv.specs.Climb.{Sibling, absent, Siblings, Step, joins, fails, odd, siblingPosition, step, ascendBy, ascend, endBy, endOf, siblingsOf}
 use Rattle.spv.proofs.ClimbLaws.{ascended}
-use Rattle.spv.specs.Compare.{Target, read, Proof, prove}
 use Rattle.spv.proofs.CompareLaws.{prove-accepted}
+use Rattle.spv.specs.Prove.{Target, Proof, prove, read}
 
 -- beside n layers from position j of layer k on
 unfoldable pub taken : Siblings → ℕ → ℕ → ℕ → List Sibling

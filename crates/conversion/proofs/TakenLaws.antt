@@ -9,10 +9,10 @@ use Rattle.format.specs.declared.level.Kind.{Kind}
 use Rattle.format.specs.declared.level.Kind.the-variants.{Copy}
 use Rattle.path.specs.declared.path.Start.{Start}
 use Rattle.path.specs.declared.path.Start.the-variants.{At, Nowhere}
-use Rattle.format.specs.Parse.{got}
+use Rattle.format.specs.Parse.{ok}
 use Rattle.format.specs.Refusals.{MAX-HEIGHT}
 use Rattle.path.specs.Search.{leastOffset}
-use Rattle.encoding.specs.Spells.{spells}
+use Rattle.encoding.specs.Encode.{encodeAll}
 use Rattle.format.specs.Bump.{Bump, bumpWhole}
 use Rattle.format.proofs.BumpLaws.{bump-whole-told}
 use Rattle.encoding.specs.BumpBytes.{carriedBytes}
@@ -20,7 +20,6 @@ use Rattle.format.specs.Tsc.{Tsc, tscWhole}
 use Rattle.format.specs.Id.{subjectId}
 use Rattle.spv.specs.Result.{accepted}
 use Rattle.spv.specs.Climb.{Sibling, value, copied, absent, Siblings, siblingPosition, siblingPositions}
-use Rattle.spv.specs.Compare.{any, read, Proof, proveBy, prove}
 use Rattle.spv.proofs.Collide.{Whole}
 use Rattle.spv.specs.Siblings.{written, levelSiblings, nodeSiblings}
 use Rattle.spv.proofs.SiblingsLaws.{levelSiblings-whole}
@@ -28,6 +27,7 @@ use Rattle.spv.specs.Readings.{starting, levelsReading, bumpReading, bumpReadin
 use Rattle.spv.proofs.ReadingsLaws.{read-proved, tsc-read}
 use Rattle.spv.specs.Trace.{asCarried, nodesText, TRACE-ROOM}
 use Rattle.conversion.proofs.Taken.{taken, proof-siblings, proof-count, proof-layers}
+use Rattle.spv.specs.Prove.{Proof, proveBy, prove, any, read}
 
 -- ---- an id's climb in a BUMP
 
@@ -35,7 +35,7 @@ use Rattle.conversion.proofs.Taken.{taken, proof-siblings, proof-count,
 pub record BumpClimb (s id : List ℕ) (p : Proof) : Type 0 where
   pub bump : Bump
   pub end : ℕ
-  pub parsed : bumpWhole s ≡ got bump end
+  pub parsed : bumpWhole s ≡ ok bump end
   pub start : ℕ
   pub starts : leastOffset s id (getD (bump .levels) 0 []) ≡ At start
   pub climbs : prove (read (levelSiblings s (bump .levels)) (bump .height) start id any) ≡ accepted p
@@ -46,7 +46,7 @@ bump-climb s id p e =
     let r = read-proved (bumpWhole s) (λ b. levelsReading s (b .height) (b .levels) id) p e in
     go (r .0) (r .1) (r .2) (leastOffset s id (getD (r .0 .levels) 0 [])) refl (r .3)
   where
-    go : (b : Bump) (q : ℕ) → bumpWhole s ≡ got b q → (x : Start) → leastOffset s id (getD (b .levels) 0 []) ≡ x
+    go : (b : Bump) (q : ℕ) → bumpWhole s ≡ ok b q → (x : Start) → leastOffset s id (getD (b .levels) 0 []) ≡ x
         → prove (starting (levelSiblings s (b .levels)) (b .height) id x) ≡ accepted p → BumpClimb s id p
     go b q w (At i) l f = record { bump = b; end = q; parsed = w; start = i; starts = l; climbs = f }
     go b q w Nowhere l f = let z : _≡_ {A = ℕ} 0 1 = cc in absurd (omega arith)
@@ -101,12 +101,12 @@ node-length copied w = omega arith
 node-length absent w = omega arith
 
 nodes-length : (l : List Sibling) → Every Whole l → length (nodesText l) ≤ 33 * length l
-unfolding Every nodesText spells
+unfolding Every nodesText encodeAll
 nodes-length [] f = omega arith
 nodes-length (x ∷ l) f =
     let a = node-length x (f .0) in
     let b = nodes-length l (f .1) in
-    let d = length-append (carriedBytes (asCarried x)) (spells carriedBytes (map asCarried l)) in
+    let d = length-append (carriedBytes (asCarried x)) (encodeAll carriedBytes (map asCarried l)) in
     omega arith
 
 -- they fit the room for a trace
@@ -143,7 +143,7 @@ nodes-taken s nodes j =
     ∙ taken-each (nodeSiblings s nodes) (map (written s) nodes) 0 j (λ m q b. node-at s nodes (0 + m) q ∙ ap (λ (n : ℕ). getD (map (written s) nodes) n copied) (omega arith))
 
 -- they are its nodes
-pub tsc-siblings : (s : List ℕ) (t : Tsc) (q : ℕ) (p : Proof) → prove (tscReading s) ≡ accepted p → tscWhole s ≡ got t q → p .siblings ≡ map (written s) (t .nodes)
+pub tsc-siblings : (s : List ℕ) (t : Tsc) (q : ℕ) (p : Proof) → prove (tscReading s) ≡ accepted p → tscWhole s ≡ ok t q → p .siblings ≡ map (written s) (t .nodes)
 tsc-siblings s t q p e w =
     proof-siblings (nodeSiblings s (t .nodes)) (length (t .nodes)) (t .index) (subjectId s (t .subject)) (tscTarget s t) p (rw (tsc-read s t q w) at e)
     ∙ nodes-taken s (t .nodes) (t .index)

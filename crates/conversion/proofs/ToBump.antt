@@ -10,10 +10,10 @@ use native.Mathlib.Omega.{arith}
 use native.Mathlib.Nat.{zero-add}
 use borrow.Author.Tests.{ltb-true, eqb-false}
 use Rattle.path.specs.declared.path.Start.{Start}
-use Rattle.format.specs.Parse.{Parse, pick, got, bad}
+use Rattle.format.specs.Parse.{Parse, pick, ok, fault}
 use Rattle.format.specs.Refusals.{MAX-BLOCK, MAX-HEIGHT, BAD-HEIGHT}
 use Rattle.path.specs.Search.{lookup}
-use Rattle.encoding.specs.Spells.{AllBytes, Fits}
+use Rattle.encoding.specs.Encode.{AllBytes, Fits}
 use Rattle.format.specs.Bump.{Bump, bumpWhole}
 use Rattle.encoding.specs.BumpBytes.{client, Content, bumpBytes, entryOf, contentOf, HashFit, LevelFit, nextLevel, ContentFit}
 use Rattle.encoding.proofs.BumpRoundTrip.{bump-read-back}
@@ -24,7 +24,6 @@ use Rattle.spv.specs.Result.{Result, accepted, refused, carrying, follow, after
 use Rattle.spv.specs.Climb.{Sibling, absent, Siblings, siblingPosition, ascend, endOf}
 use Rattle.spv.proofs.ClimbLaws.{ascend-agree}
 use Rattle.spv.specs.Values.{workedOut}
-use Rattle.spv.specs.Compare.{any, read, Proof, hits, proofOf, prove}
 use Rattle.spv.proofs.CompareLaws.{prove-climb, prove-root, prove-accepted}
 use Rattle.spv.specs.Siblings.{writtenBy, findIn, levelSiblings, nodeSiblings}
 use Rattle.spv.specs.Readings.{starting, levelsReading, bumpReading, tscTarget, tscReading}
@@ -41,13 +40,14 @@ use Rattle.block.proofs.BlockMeets.{from-rises}
 use Rattle.block.proofs.BlockValues.{asSibling, found-sibling}
 use Rattle.block.proofs.BlockProved.{sibling-positions-at}
 use Rattle.conversion.proofs.ToBumpLaws.{HashValues, node-values, TakenFit, taken-fit, taken-beside, present-at, client-levels-fit, client-levels-length, sibling-there, present-as, taken-stays, client-levels-count, client-levels-rise, only-client, client-there, starts-client}
+use Rattle.spv.specs.Prove.{Proof, hits, proofOf, prove, any, read}
 
 -- bytes that are read as a BUMP of that block height with a level for each layer of the proof: offsets rise, the one client leaf is the proof's id
 -- at its position, beside each node of its climb stands the sibling taken there, a copy as a copy, and there are no other leaves
 pub record OneClient (block : ℕ) (p : Proof) (s : List ℕ) : Type 0 where
   pub bump : Bump
   pub end : ℕ
-  pub read : bumpWhole s ≡ got bump end
+  pub read : bumpWhole s ≡ ok bump end
   pub of-block : bump .block ≡ block
   pub of-layers : bump .height ≡ p .layers
   pub rises : (k : ℕ) → Rising (getD (bump .levels) k [])
@@ -85,7 +85,7 @@ module _ (σ : Siblings) (h i : ℕ) (c r : List ℕ) (end : endOf c (ascend σ 
       fit l e f = rw (← e) (client-levels-fit i c l (rw e inside) g f)
 
   -- what is read of its bytes
-  module _ (s : List ℕ) (bump : Bump) (stop : ℕ) (whole : bumpWhole s ≡ got bump stop) (says : contentOf s bump ≡ clientBump block proof) where
+  module _ (s : List ℕ) (bump : Bump) (stop : ℕ) (whole : bumpWhole s ≡ ok bump stop) (says : contentOf s bump ≡ clientBump block proof) where
     height-back : bump .height ≡ h
     unfolding clientBump
     height-back = ap (λ (x : Content). x .height) says
@@ -145,7 +145,7 @@ record ToBump (s : List ℕ) (block room : ℕ) (bytes : List ℕ) : Type 0 wher
   tsc : Tsc
   end : ℕ
   proof : Proof
-  whole : tscWhole s ≡ got tsc end
+  whole : tscWhole s ≡ ok tsc end
   proves : prove (tscReading s) ≡ accepted proof
   layered : proof .layers ≡ 0 → ⊥
   is : bytes ≡ bumpBytes (clientBump block proof)
@@ -155,14 +155,14 @@ told : (s : List ℕ) (block room : ℕ) (bytes : List ℕ) → tscToBump s bloc
 unfolding tscToBump
 told s block room bytes e = of-tsc (tscWhole s) refl e
   where
-    last : (t : Tsc) (q : ℕ) (p : Proof) → tscWhole s ≡ got t q → prove (tscReading s) ≡ accepted p → (z : Bool) → eqb (p .layers) 0 ≡ z
+    last : (t : Tsc) (q : ℕ) (p : Proof) → tscWhole s ≡ ok t q → prove (tscReading s) ≡ accepted p → (z : Bool) → eqb (p .layers) 0 ≡ z
         → pick z (refused (carrying BAD-HEIGHT (nodeCountAt t))) (roomFor room (bumpBytes (clientBump block p))) ≡ accepted bytes → ToBump s block room bytes
     last t q p w a true h f = let z : _≡_ {A = ℕ} 0 1 = cc in absurd (omega arith)
     last t q p w a false h f =
         let x = room-told room (bumpBytes (clientBump block p)) bytes f in
         record { tsc = t; end = q; proof = p; whole = w; proves = a; layered = eqb-false _ _ h; is = sym (x .0); fits = x .1 }
 
-    of-proof : (t : Tsc) (q : ℕ) → tscWhole s ≡ got t q → (x : Result Proof) → prove (tscReading s) ≡ x
+    of-proof : (t : Tsc) (q : ℕ) → tscWhole s ≡ ok t q → (x : Result Proof) → prove (tscReading s) ≡ x
         → follow x (λ p. pick (eqb (p .layers) 0) (refused (carrying BAD-HEIGHT (nodeCountAt t))) (roomFor room (bumpBytes (clientBump block p)))) ≡ accepted bytes → ToBump s block room bytes
     of-proof t q w (accepted p) a f = last t q p w a (eqb (p .layers) 0) refl f
     of-proof t q w (refused why) a f = let z : _≡_ {A = ℕ} 0 1 = cc in absurd (omega arith)
@@ -170,11 +170,11 @@ told s block room bytes e = of-tsc (tscWhole s) refl e
     of-tsc : (x : Parse Tsc) → tscWhole s ≡ x
         → afterReading x (λ t. follow (prove (tscReading s)) (λ p. pick (eqb (p .layers) 0) (refused (carrying BAD-HEIGHT (nodeCountAt t))) (roomFor room (bumpBytes (clientBump block p))))) ≡ accepted bytes
         → ToBump s block room bytes
-    of-tsc (got t q) w f = of-proof t q w (prove (tscReading s)) refl f
-    of-tsc (bad number place) w f = let z : _≡_ {A = ℕ} 0 1 = cc in absurd (omega arith)
+    of-tsc (ok t q) w f = of-proof t q w (prove (tscReading s)) refl f
+    of-tsc (fault number place) w f = let z : _≡_ {A = ℕ} 0 1 = cc in absurd (omega arith)
 
 pub to-bump-is : (s : List ℕ) (block room : ℕ) (bytes : List ℕ) → tscToBump s block room ≡ accepted bytes
-    → (t : Tsc) × (q : ℕ) × (p : Proof) × (tscWhole s ≡ got t q) × (prove (tscReading s) ≡ accepted p) × (p .layers ≡ 0 → ⊥) × (bytes ≡ bumpBytes (clientBump block p))
+    → (t : Tsc) × (q : ℕ) × (p : Proof) × (tscWhole s ≡ ok t q) × (prove (tscReading s) ≡ accepted p) × (p .layers ≡ 0 → ⊥) × (bytes ≡ bumpBytes (clientBump block p))
 to-bump-is s block room bytes e = let x = told s block room bytes e in (x .tsc, x .end, x .proof, x .whole, x .proves, x .layered, x .is)
 
 pub to-bump-fits : (s : List ℕ) (block room : ℕ) (bytes : List ℕ) → tscToBump s block room ≡ accepted bytes → length bytes ≤ room
@@ -182,7 +182,7 @@ to-bump-fits s block room bytes e = told s block room bytes e .fits
 
 -- ---- the BUMP of a TSC proof
 
-module _ (s : List ℕ) (all : AllBytes s) (t : Tsc) (q : ℕ) (whole : tscWhole s ≡ got t q) (p : Proof) (proves : prove (tscReading s) ≡ accepted p) (layered : 1 ≤ p .layers)
+module _ (s : List ℕ) (all : AllBytes s) (t : Tsc) (q : ℕ) (whole : tscWhole s ≡ ok t q) (p : Proof) (proves : prove (tscReading s) ≡ accepted p) (layered : 1 ≤ p .layers)
     (block : ℕ) (block-fits : block ≤ MAX-BLOCK) where
   abbrev σ : Siblings
   σ = nodeSiblings s (t .nodes)
@@ -213,7 +213,7 @@ module _ (s : List ℕ) (all : AllBytes s) (t : Tsc) (q : ℕ) (whole : tscWhole
   abbrev text : List ℕ
   text = bumpBytes (clientBump block p)
 
-  back : (b : Bump) × (bumpWhole text ≡ got b (length text)) × (contentOf text b ≡ clientBump block p)
+  back : (b : Bump) × (bumpWhole text ≡ ok b (length text)) × (contentOf text b ≡ clientBump block p)
   back = bump-read-back (clientBump block p) client-fit
 
   as-judged : contentOf text (back .0) ≡ clientBump block (proofOf σ h (t .index) c (p .root))

@@ -24,7 +24,7 @@ use Rattle.format.specs.Parse.{pick}
 use Rattle.format.specs.Level.{holds}
 use Rattle.format.specs.Refusals.{TWIN}
 use Rattle.path.specs.Search.{leastOffset}
-use Rattle.encoding.specs.Spells.{AllBytes, Fits}
+use Rattle.encoding.specs.Encode.{AllBytes, Fits}
 use Rattle.encoding.specs.BumpBytes.{plain, copy, client, entryOf, HashFit, CarriedFit, LevelFit, nextLevel}
 use Rattle.spv.specs.Result.{accepted}
 use Rattle.spv.specs.Climb.{Sibling, value, copied, absent, Siblings, Step, joins, fails, odd, siblingPosition, joined, step, ascendBy, ascend, endBy, endOf}

@@ -5,14 +5,13 @@ use mathlib.Core.List.{List, []}
 use lib.ListN.{length, getD}
 use native.Mathlib.Omega.{arith}
 use Rattle.path.specs.declared.path.Form.{Form}
-use Rattle.format.specs.Parse.{got}
-use Rattle.encoding.specs.Spells.{AllBytes}
+use Rattle.format.specs.Parse.{ok}
+use Rattle.encoding.specs.Encode.{AllBytes}
 use Rattle.format.specs.Tsc.{Tsc, tscWhole}
 use Rattle.encoding.specs.TscBytes.{ID-AND-ROOT, tscBytes, TscFit}
 use Rattle.encoding.proofs.TscRoundTrip.{tsc-read-back, tsc-written}
 use Rattle.spv.specs.Result.{Result, accepted, refused, follow}
 use Rattle.spv.specs.Climb.{Siblings}
-use Rattle.spv.specs.Compare.{any, Proof, prove}
 use Rattle.spv.proofs.CompareLaws.{prove-accepted}
 use Rattle.spv.proofs.Position.{position-exists}
 use Rattle.spv.specs.Siblings.{levelSiblings}
@@ -24,6 +23,7 @@ use Rattle.conversion.proofs.TakenLaws.{bump-climb, Every, taken-every,
 use Rattle.conversion.proofs.HashFits.{SiblingFit, level-siblings-fit, nodes-fit, start-fits, root-fits}
 use Rattle.conversion.proofs.ToTscLaws.{content-proves, tsc-content}
 use Rattle.block.proofs.OutputLaws.{room-told, room-enough}
+use Rattle.spv.specs.Prove.{Proof, prove, any}
 
 -- ---- the content is one that the layout can have
 
@@ -83,7 +83,7 @@ to-tsc-proves s id room bytes all e =
 -- ---- "TSC with id and root target, to BUMP and back, gives the same bytes"
 
 -- back from any BUMP that proves the same, of its id
-pub tsc-round-trip-by : (s bumped : List ℕ) (t : Tsc) (q : ℕ) (p : Proof) → AllBytes s → tscWhole s ≡ got t q → t .flags ≡ ID-AND-ROOT → prove (tscReading s) ≡ accepted p
+pub tsc-round-trip-by : (s bumped : List ℕ) (t : Tsc) (q : ℕ) (p : Proof) → AllBytes s → tscWhole s ≡ ok t q → t .flags ≡ ID-AND-ROOT → prove (tscReading s) ≡ accepted p
     → prove (bumpReading bumped (p .id)) ≡ accepted p → (room : ℕ) → length s ≤ room → bumpToTsc bumped (p .id) room ≡ accepted s
 unfolding bumpToTsc
 tsc-round-trip-by s bumped t q p all w four e f room enough =

@@ -8,11 +8,11 @@ use native.Mathlib.Omega.{arith}
 use native.Mathlib.Nat.{zero-add}
 use Rattle.format.specs.declared.level.Kind.{Kind}
 use Rattle.format.specs.declared.level.Kind.the-variants.{Plain, Copy, Client}
-use Rattle.format.specs.Parse.{pick, got}
+use Rattle.format.specs.Parse.{pick, ok}
 use Rattle.format.proofs.BytesLaws.{same-eq, eq-same}
 use Rattle.format.specs.Refusals.{ROOTS-DIFFER}
 use Rattle.format.specs.Bytes.{hashAt}
-use Rattle.encoding.specs.Spells.{AllBytes, Fits}
+use Rattle.encoding.specs.Encode.{AllBytes, Fits}
 use Rattle.encoding.specs.BumpBytes.{carriedOf}
 use Rattle.format.specs.Tsc.{Tsc, tscWhole, tellsRoot, targetRoot}
 use Rattle.encoding.specs.TscBytes.{TscContent, ID-AND-ROOT, tscContentOf, NodeFit, NodesFit}
@@ -21,7 +21,6 @@ use Rattle.format.specs.Id.{subjectId}
 use Rattle.spv.specs.Result.{Result, accepted, refused, carrying}
 use Rattle.spv.specs.Climb.{Sibling, value, copied, absent, Siblings, siblingPositions, ascend, endOf}
 use Rattle.spv.proofs.ClimbLaws.{ascend-agree}
-use Rattle.spv.specs.Compare.{Target, any, bound, targetOf, hits, read, settle, Proof, proofOf, proveBy, prove}
 use Rattle.spv.proofs.CompareLaws.{prove-climb, prove-root, prove-accepted}
 use Rattle.spv.specs.Siblings.{written, levelSiblings, nodeSiblings}
 use Rattle.spv.specs.Readings.{bumpReading, tscTarget, tscReading}
@@ -30,6 +29,7 @@ use Rattle.spv.specs.Trace.{asCarried}
 use Rattle.conversion.specs.Convert.{idTsc}
 use Rattle.conversion.proofs.Taken.{taken, Present, AllPresent, proof-siblings, proof-present, proof-layers, proof-position, proof-id}
 use Rattle.conversion.proofs.TakenLaws.{bump-climb, taken-at, trace-count, node-at, tsc-siblings}
+use Rattle.spv.specs.Prove.{Target, targetOf, hits, settle, Proof, proofOf, proveBy, prove, any, bound, read}
 
 -- ---- one proof by two readings
 
@@ -111,7 +111,7 @@ root-target s t e = rw e
 -- ---- a climb and the content of its TSC proof
 
 -- bytes that are read as the content of an accepted climb prove what the climb proves
-module _ (s id : List ℕ) (p : Proof) (e : prove (bumpReading s id) ≡ accepted p) (bytes : List ℕ) (t : Tsc) (q : ℕ) (w : tscWhole bytes ≡ got t q) (four : t .flags ≡ ID-AND-ROOT) (says : tscContentOf bytes t ≡ idTsc p) where
+module _ (s id : List ℕ) (p : Proof) (e : prove (bumpReading s id) ≡ accepted p) (bytes : List ℕ) (t : Tsc) (q : ℕ) (w : tscWhole bytes ≡ ok t q) (four : t .flags ≡ ID-AND-ROOT) (says : tscContentOf bytes t ≡ idTsc p) where
   same-siblings : map (written bytes) (t .nodes) ≡ p .siblings
   unfolding idTsc
   same-siblings =
@@ -135,7 +135,7 @@ module _ (s id : List ℕ) (p : Proof) (e : prove (bumpReading s id) ≡ accepte
       (λ k j b. node-at bytes (t .nodes) k j ∙ ap (λ (l : List Sibling). getD l k copied) same-siblings)
 
 -- what a TSC proof with id and root target says is what it proves
-pub tsc-content : (s : List ℕ) (t : Tsc) (q : ℕ) (p : Proof) → AllBytes s → tscWhole s ≡ got t q → t .flags ≡ ID-AND-ROOT → prove (tscReading s) ≡ accepted p → tscContentOf s t ≡ idTsc p
+pub tsc-content : (s : List ℕ) (t : Tsc) (q : ℕ) (p : Proof) → AllBytes s → tscWhole s ≡ ok t q → t .flags ≡ ID-AND-ROOT → prove (tscReading s) ≡ accepted p → tscContentOf s t ≡ idTsc p
 unfolding idTsc hits
 tsc-content s t q p all w four e =
     let σ : Siblings = nodeSiblings s (t .nodes) in

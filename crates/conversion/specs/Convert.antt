@@ -9,7 +9,7 @@ use Rattle.encoding.specs.BumpBytes.{client, Entry, Content, bumpBytes}
 use Rattle.encoding.specs.TscBytes.{TscContent, tscBytes}
 use Rattle.spv.specs.Result.{Result, refused, carrying, afterReading, follow}
 use Rattle.spv.specs.Climb.{Sibling, odd, siblingPosition}
-use Rattle.spv.specs.Compare.{Proof, prove}
+use Rattle.spv.specs.Prove.{Proof, prove}
 use Rattle.spv.specs.Readings.{bumpReading, tscReading}
 use Rattle.spv.specs.Trace.{asCarried}
 use Rattle.block.specs.Output.{roomFor}

@@ -2,13 +2,13 @@
 use mathlib.Core.Path.{_≡_}
 use mathlib.Core.List.{List, [], _∷_}
 use Prim.Native.Nat.{ℕ, zero, suc, _/_}
-use Rattle.format.specs.Parse.{got, otherwise}
+use Rattle.format.specs.Parse.{ok, otherwise}
 use Rattle.format.specs.Node.{nodeField}
 use Rattle.encoding.specs.BumpBytes.{Entry}
 use Rattle.format.specs.declared.tsc.TscHead.{TscHead}
 use Rattle.format.specs.Tsc.{Tsc, tscWhole, tscHeadOf}
 use Rattle.spv.specs.Result.{accepted}
-use Rattle.spv.specs.Compare.{Proof, prove}
+use Rattle.spv.specs.Prove.{Proof, prove}
 use Rattle.spv.specs.Readings.{tscReading}
 use Rattle.spv.specs.Siblings.{written}
 use Rattle.conversion.specs.Convert.{siblingEntry, clientLevel}
@@ -28,7 +28,7 @@ pub record Proved (s : List ℕ) (head : TscHead) (id : List ℕ) : Type 0 where
   pub tsc : Tsc
   pub end : ℕ
   pub proof : Proof
-  pub is-read : tscWhole s ≡ got tsc end
+  pub is-read : tscWhole s ≡ ok tsc end
   pub is-head : tscHeadOf tsc ≡ head
   pub is-proved : prove (tscReading s) ≡ accepted proof
   pub is-id : proof .id ≡ id

@@ -22,7 +22,7 @@ ghost use lib.ListN.{length};
 ghost use Rattle.format.specs.Bytes.{hashAt};
 ghost use Rattle.format.specs.Tsc.{Tsc, tscHeadOf};
 ghost use Rattle.encoding.specs.Buffer.{buffer, writeOn};
-ghost use Rattle.encoding.specs.Spells.{spells};
+ghost use Rattle.encoding.specs.Encode.{encodeAll};
 ghost use Rattle.encoding.specs.BumpBytes.{carriedBytes, entryBytes, levelBytes};
 ghost use Rattle.spv.specs.Siblings.{written};
 ghost use Rattle.spv.specs.Trace.{asCarried};
@@ -98,7 +98,7 @@ fn write_client_level(
 
 // The levels of n nodes, from position i on.
 fn write_levels(s: &[u8], c: Cursor, n: u64, i: u64, out: &mut [u8], at: usize) -> usize
-    ensures { λ r. ⌜ buffer (now (out .exit)) r ≡ writeOn (buffer (now (out .entry)) at) (spells levelBytes (levelsAt (now (s .entry)) n (c .at) i)) ⌝ }
+    ensures { λ r. ⌜ buffer (now (out .exit)) r ≡ writeOn (buffer (now (out .entry)) at) (encodeAll levelBytes (levelsAt (now (s .entry)) n (c .at) i)) ⌝ }
 {
     let mut next = at;
     let mut place = c;
@@ -121,7 +121,7 @@ fn write_levels(s: &[u8], c: Cursor, n: u64, i: u64, out: &mut [u8], at: usize) 
 // The bytes that they take.
 fn levels_size(s: &[u8], c: Cursor, n: u64, i: u64) -> usize
     requires { ⌜ n ≤ 64 ⌝ }
-    ensures { λ r. ⌜ (r ≡ length (spells levelBytes (levelsAt (now (s .entry)) n (c .at) i))) × (r ≤ 2752) ⌝ }
+    ensures { λ r. ⌜ (r ≡ length (encodeAll levelBytes (levelsAt (now (s .entry)) n (c .at) i))) × (r ≤ 2752) ⌝ }
 {
     let mut size: usize = 0;
     let mut place = c;
@@ -151,7 +151,7 @@ fn write_client_levels(
     at: usize,
 ) -> usize
     requires { ⌜ 0 < n ⌝ }
-    ensures { λ r. ⌜ buffer (now (out .exit)) r ≡ writeOn (buffer (now (out .entry)) at) (spells levelBytes (clientLevelsAt (now (s .entry)) n (c .at) i id)) ⌝ }
+    ensures { λ r. ⌜ buffer (now (out .exit)) r ≡ writeOn (buffer (now (out .entry)) at) (encodeAll levelBytes (clientLevelsAt (now (s .entry)) n (c .at) i id)) ⌝ }
 {
     let field = read_node(s, c);
     let KindAnswer::Value(kind, after) = field else {
@@ -163,7 +163,7 @@ fn write_client_levels(
 
 fn client_levels_size(s: &[u8], c: Cursor, n: u64, i: u64) -> usize
     requires { ⌜ (0 < n) × (n ≤ 64) ⌝ }
-    ensures { λ r. ⌜ ((id : List ℕ) → length id ≡ 32 → r ≡ length (spells levelBytes (clientLevelsAt (now (s .entry)) n (c .at) i id))) × (r ≤ 2838) ⌝ }
+    ensures { λ r. ⌜ ((id : List ℕ) → length id ≡ 32 → r ≡ length (encodeAll levelBytes (clientLevelsAt (now (s .entry)) n (c .at) i id))) × (r ≤ 2838) ⌝ }
 {
     let field = read_node(s, c);
     let KindAnswer::Value(kind, after) = field else {

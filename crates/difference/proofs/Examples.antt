@@ -10,8 +10,8 @@ use Rattle.encoding.specs.BumpBytes.{Content, Entry, plain, copy, client, carri
 use Rattle.format.specs.Bytes.{same}
 use Rattle.spv.specs.Result.{refused, carrying}
 use Rattle.difference.specs.Differences.{first, second, both, Difference, block, height, leaf, equal, told, tell, offsetsFrom, levelsFrom, unless, higher, differences}
-use Rattle.levels.specs.Standing.{at, standing}
-use Rattle.difference.specs.Listing.{sideWord, whatOf, levelOf, offsetOf, wordsOf, fitting, listing, wordsIn}
+use Rattle.levels.specs.Standing.{standingIn, standing}
+use Rattle.difference.specs.Listing.{sideWord, whatOf, levelOf, offsetOf, wordsOf, fitting, listDifferences, wordsIn}
 
 -- a leaf that holds a short string in place of a hash
 abbrev node : ℕ → ℕ → Entry
@@ -48,7 +48,7 @@ cases =
     []
 
 pub compared : map (λ (c : Case). differences (c .one) (c .other)) cases ≡ map (λ (c : Case). c .comes) cases
-unfolding cases at standing equal same told tell offsetsFrom levelsFrom unless higher differences
+unfolding cases standingIn standing equal same told tell offsetsFrom levelsFrom unless higher differences
 compared = refl
 
 -- inputs, and the words that are left in memory of seven: room for two entries
@@ -56,14 +56,14 @@ abbrev pub seven : List ℕ
 seven = 9 ∷ 9 ∷ 9 ∷ 9 ∷ 9 ∷ 9 ∷ 9 ∷ []
 
 unfoldable pub left : List ℕ → List ℕ → List ℕ
-left a b = wordsIn (listing a b 2) seven
+left a b = wordsIn (listDifferences a b 2) seven
 
 -- nothing to tell; two entries; three, for which there is no room; an input that is refused
 pub listed : (left (0 ∷ 1 ∷ 0 ∷ []) (0 ∷ 1 ∷ 0 ∷ []) ≡ seven)
     × (left (0 ∷ 1 ∷ 0 ∷ []) (7 ∷ 1 ∷ 1 ∷ 1 ∷ 1 ∷ []) ≡ 1 ∷ 0 ∷ 0 ∷ 4 ∷ 0 ∷ 1 ∷ 9 ∷ [])
-    × (listing (0 ∷ 1 ∷ 0 ∷ []) (7 ∷ 2 ∷ 1 ∷ 1 ∷ 1 ∷ 0 ∷ []) 2 ≡ refused (carrying 22 0))
+    × (listDifferences (0 ∷ 1 ∷ 0 ∷ []) (7 ∷ 2 ∷ 1 ∷ 1 ∷ 1 ∷ 0 ∷ []) 2 ≡ refused (carrying 22 0))
     × (left (0 ∷ 1 ∷ 0 ∷ []) (7 ∷ 2 ∷ 1 ∷ 1 ∷ 1 ∷ 0 ∷ []) ≡ seven)
-    × (listing (0 ∷ 0 ∷ []) [] 0 ≡ refused (carrying 4 1))
-    × (listing (0 ∷ 1 ∷ 0 ∷ []) (0 ∷ []) 0 ≡ refused (carrying 2 1))
-unfolding left varint byte bytes many each whole holds offsetField flagField kindField carriedField leafField levelField levelOfTurn blockField heightUpTo bumpUpTo carriedOf same at standing equal told tell offsetsFrom levelsFrom unless higher differences sideWord whatOf levelOf offsetOf wordsOf fitting listing wordsIn
+    × (listDifferences (0 ∷ 0 ∷ []) [] 0 ≡ refused (carrying 4 1))
+    × (listDifferences (0 ∷ 1 ∷ 0 ∷ []) (0 ∷ []) 0 ≡ refused (carrying 2 1))
+unfolding left varint byte bytes many each whole holds offsetField flagField kindField carriedField leafField levelField levelOfTurn blockField heightUpTo bumpUpTo carriedOf same standingIn standing equal told tell offsetsFrom levelsFrom unless higher differences sideWord whatOf levelOf offsetOf wordsOf fitting listDifferences wordsIn
 listed = (refl, refl, refl, refl, refl, refl)

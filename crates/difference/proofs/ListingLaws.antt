@@ -8,8 +8,8 @@ use native.Mathlib.Omega.{arith}
 use borrow.Author.Tests.{le-leb, lt-leb}
 use Rattle.format.specs.declared.refusal.Refusal.{Refusal}
 use Rattle.format.specs.declared.bump.BumpHead.{BumpHead}
-use Rattle.format.specs.Parse.{each, got, bad}
-use Rattle.format.proofs.ParseLaws.{each-got, each-bad}
+use Rattle.format.specs.Parse.{each, ok, fault}
+use Rattle.format.proofs.ParseLaws.{each-ok, each-fault}
 use Rattle.format.specs.Refusals.{NO-ROOM}
 use Rattle.format.specs.Bump.{Bump, bumpWhole, headOf}
 use Rattle.encoding.specs.BumpBytes.{contentOf}
@@ -17,24 +17,24 @@ use Rattle.spv.specs.declared.rejection.Rejection.{Rejection}
 use Rattle.spv.specs.Result.{Result, accepted, refused, carrying, refusedReading}
 use Rattle.difference.specs.declared.listing.Listed.{Listed}
 use Rattle.difference.specs.Differences.{Difference, differences}
-use Rattle.difference.specs.Listing.{wordsOf, fitting, listing, listedOf, wordsIn}
+use Rattle.difference.specs.Listing.{wordsOf, fitting, listDifferences, listedOf, wordsIn}
 use Rattle.difference.specs.Filling.{Filling, filling, putAll}
 use Rattle.difference.proofs.FillingLaws.{counted, written}
 use Rattle.difference.specs.Merge.{walkAll}
 use Rattle.difference.proofs.WalkTheorem.{told-all}
 
 module _ (a b : List ℕ) (room : ℕ) where
-  pub first-unread : (f : Refusal) → each headOf (bumpWhole a) ≡ bad (f .number) (f .place) → refused (refusedReading f) ≡ listing a b room
-  unfolding listing
-  first-unread f e = rw (each-bad headOf (bumpWhole a) e) refl
+  pub first-unread : (f : Refusal) → each headOf (bumpWhole a) ≡ fault (f .number) (f .place) → refused (refusedReading f) ≡ listDifferences a b room
+  unfolding listDifferences
+  first-unread f e = rw (each-fault headOf (bumpWhole a) e) refl
 
-  pub second-unread : {x : BumpHead} {q : ℕ} (f : Refusal) → each headOf (bumpWhole a) ≡ got x q → each headOf (bumpWhole b) ≡ bad (f .number) (f .place)
-      → refused (refusedReading f) ≡ listing a b room
-  unfolding listing
-  second-unread f e g = rw (each-got headOf (bumpWhole a) e .1, each-bad headOf (bumpWhole b) g) refl
+  pub second-unread : {x : BumpHead} {q : ℕ} (f : Refusal) → each headOf (bumpWhole a) ≡ ok x q → each headOf (bumpWhole b) ≡ fault (f .number) (f .place)
+      → refused (refusedReading f) ≡ listDifferences a b room
+  unfolding listDifferences
+  second-unread f e g = rw (each-ok headOf (bumpWhole a) e .1, each-fault headOf (bumpWhole b) g) refl
 
-  both-read : {x y : Bump} {q r : ℕ} → bumpWhole a ≡ got x q → bumpWhole b ≡ got y r → listing a b room ≡ fitting room (differences (contentOf a x) (contentOf b y))
-  unfolding listing
+  both-read : {x y : Bump} {q r : ℕ} → bumpWhole a ≡ ok x q → bumpWhole b ≡ ok y r → listDifferences a b room ≡ fitting room (differences (contentOf a x) (contentOf b y))
+  unfolding listDifferences
   both-read e f = rw (e, f) refl
 
 -- a refusal, as the code answers it and leaves the memory
@@ -46,13 +46,13 @@ pub left-refused : (l : Result (List Difference)) (why : Rejection) (v w : List 
 unfolding wordsIn
 left-refused l why v w e f = rw (← f) e
 
-module _ (a b w : List ℕ) (hx hy : BumpHead) {q r : ℕ} (e : each headOf (bumpWhole a) ≡ got hx q) (f : each headOf (bumpWhole b) ≡ got hy r)
+module _ (a b w : List ℕ) (hx hy : BumpHead) {q r : ℕ} (e : each headOf (bumpWhole a) ≡ ok hx q) (f : each headOf (bumpWhole b) ≡ ok hy r)
     (v : List ℕ) (n : ℕ) (g : filling v n ≡ walkAll false a hx b hy (filling w 0)) where
-  abbrev first : (x : Bump) × (bumpWhole a ≡ got x q) × (headOf x ≡ hx)
-  first = each-got headOf (bumpWhole a) e
+  abbrev first : (x : Bump) × (bumpWhole a ≡ ok x q) × (headOf x ≡ hx)
+  first = each-ok headOf (bumpWhole a) e
 
-  abbrev second : (y : Bump) × (bumpWhole b ≡ got y r) × (headOf y ≡ hy)
-  second = each-got headOf (bumpWhole b) f
+  abbrev second : (y : Bump) × (bumpWhole b ≡ ok y r) × (headOf y ≡ hy)
+  second = each-ok headOf (bumpWhole b) f
 
   abbrev all : List Difference
   all = differences (contentOf a (first .0)) (contentOf b (second .0))
@@ -76,7 +76,7 @@ module _ (a b w : List ℕ) (hx hy : BumpHead) {q r : ℕ} (e : each headOf (bum
   room-same : length v / 3 ≡ length w / 3
   room-same = ap (λ (u : List ℕ). length u / 3) as-before
 
-  pub listed-over : length v / 3 < n → refused (carrying NO-ROOM 0) ≡ listing a b (length w / 3)
+  pub listed-over : length v / 3 < n → refused (carrying NO-ROOM 0) ≡ listDifferences a b (length w / 3)
   unfolding fitting
   listed-over h =
       let over : length w / 3 < length all = (let c = count in let d = room-same in omega (arith, c, d)) in
@@ -86,7 +86,7 @@ module _ (a b w : List ℕ) (hx hy : BumpHead) {q r : ℕ} (e : each headOf (bum
     fits : length all ≤ length w / 3
     fits = let c = count in let d = room-same in omega (arith, c, d)
 
-    is : listing a b (length w / 3) ≡ accepted all
+    is : listDifferences a b (length w / 3) ≡ accepted all
     unfolding fitting
     is = both-read a b (length w / 3) (first .1) (second .1) ∙ rw (le-leb (length all) (length w / 3) fits) refl
 
@@ -94,10 +94,10 @@ module _ (a b w : List ℕ) (hx hy : BumpHead) {q r : ℕ} (e : each headOf (bum
     wrote : filling u m ≡ filling (wordsOf all ++ drop (3 * length all) w) (length all)
     wrote = i ∙ told true (filling v 0) ∙ ap (λ (x : List ℕ). putAll true (filling x 0) all) as-before ∙ written w all fits
 
-    pub listed-entries : Listed.Entries m ≡ listedOf (listing a b (length w / 3))
+    pub listed-entries : Listed.Entries m ≡ listedOf (listDifferences a b (length w / 3))
     unfolding listedOf
     listed-entries = ap (λ (p : Filling). Listed.Entries (p .told)) wrote ∙ sym (ap listedOf is)
 
-    pub listed-words : u ≡ wordsIn (listing a b (length w / 3)) w
+    pub listed-words : u ≡ wordsIn (listDifferences a b (length w / 3)) w
     unfolding wordsIn
     listed-words = ap (λ (p : Filling). p .words) wrote ∙ sym (ap (λ (l : Result (List Difference)). wordsIn l w) is)

@@ -7,10 +7,10 @@ use native.Mathlib.Omega.{arith}
 use Rattle.encoding.specs.BumpBytes.{Entry}
 use Rattle.levels.specs.declared.level.Next.the-variants.{Offset}
 use Rattle.difference.specs.Differences.{Told, told, tell, offsetsFrom}
-use Rattle.levels.specs.Standing.{Standing, stands, nothing, at}
-use Rattle.levels.proofs.InOrder.{From, Under, InOrder, under-weaken, at-below}
+use Rattle.levels.specs.Standing.{Standing, stands, nothing, standingIn}
+use Rattle.levels.proofs.InOrder.{From, Under, InOrder, under-weaken, standing-below}
 use Rattle.difference.specs.Merge.{merged}
-use Rattle.levels.proofs.FrontsLaws.{at-front, at-past, past-from, past-order, past-under, Turn, here, above, turn, none}
+use Rattle.levels.proofs.FrontsLaws.{standing-front, standing-past, past-from, past-order, past-under, Turn, here, above, turn, none}
 use Rattle.levels.specs.Fronts.{nextOf, lesser, front, past}
 
 -- the differences at offsets from o on go by what stands there
@@ -35,7 +35,7 @@ module _ (k : ℕ) where
 
   -- m offsets from o on, among which all leaves lie
   pub merged-all : (m n o : ℕ) (x y : List Entry) → InOrder x → InOrder y → From o x → From o y → Under (o + m) x → Under (o + m) y → length x + length y ≤ n
-      → merged n k x y ≡ offsetsFrom k (λ p. at p x) (λ p. at p y) m o
+      → merged n k x y ≡ offsetsFrom k (λ p. standingIn p x) (λ p. standingIn p y) m o
   unfolding offsetsFrom told tell
   merged-all zero n o x y ix iy fx fy ux uy h =
       ap (λ (v : List Entry). merged n k v y) (none o x fx ux) ∙ ap (merged n k []) (none o y fy uy) ∙ empty n
@@ -47,17 +47,17 @@ module _ (k : ℕ) where
 
       go : Turn o x y → (n : ℕ) → length x + length y ≤ n
           → ((n′ : ℕ) (x′ y′ : List Entry) → InOrder x′ → InOrder y′ → From (suc o) x′ → From (suc o) y′ → Under (suc o + m) x′ → Under (suc o + m) y′ → length x′ + length y′ ≤ n′
-          → merged n′ k x′ y′ ≡ offsetsFrom k (λ p. at p x′) (λ p. at p y′) m (suc o))
-          → merged n k x y ≡ tell k o (told (at o x) (at o y)) (offsetsFrom k (λ p. at p x) (λ p. at p y) m (suc o))
+          → merged n′ k x′ y′ ≡ offsetsFrom k (λ p. standingIn p x′) (λ p. standingIn p y′) m (suc o))
+          → merged n k x y ≡ tell k o (told (standingIn o x) (standingIn o y)) (offsetsFrom k (λ p. standingIn p x) (λ p. standingIn p y) m (suc o))
       go (above fx′ fy′) n h r =
           r n x y ix iy fx′ fy′ (moved x ux) (moved y uy) h
-          ∙ sym (ap (λ (v : Standing). tell k o (told v (at o y)) (offsetsFrom k (λ p. at p x) (λ p. at p y) m (suc o))) (at-below o (suc o) x fx′ (omega arith))
-          ∙ ap (λ (v : Standing). tell k o (told nothing v) (offsetsFrom k (λ p. at p x) (λ p. at p y) m (suc o))) (at-below o (suc o) y fy′ (omega arith)))
+          ∙ sym (ap (λ (v : Standing). tell k o (told v (standingIn o y)) (offsetsFrom k (λ p. standingIn p x) (λ p. standingIn p y) m (suc o))) (standing-below o (suc o) x fx′ (omega arith))
+          ∙ ap (λ (v : Standing). tell k o (told nothing v) (offsetsFrom k (λ p. standingIn p x) (λ p. standingIn p y) m (suc o))) (standing-below o (suc o) y fy′ (omega arith)))
       go (here e fewer) zero h r = absurd (omega arith)
       go (here e fewer) (suc n) h r =
           merged-here n o x y e
           ∙ ap (tell k o (told (front o x) (front o y)))
           (r n (past o x) (past o y) (past-order o x ix) (past-order o y iy) (past-from o x fx ix) (past-from o y fy iy) (past-under o (suc o + m) x (moved x ux)) (past-under o (suc o + m) y (moved y uy)) (omega arith)
-          ∙ offsets-same k (λ p. at p (past o x)) (λ p. at p x) (λ p. at p (past o y)) (λ p. at p y) m (suc o) (λ p g. at-past o p x (omega arith)) (λ p g. at-past o p y (omega arith)))
-          ∙ sym (ap (λ (v : Standing). tell k o (told v (at o y)) (offsetsFrom k (λ p. at p x) (λ p. at p y) m (suc o))) (at-front o x fx ix)
-          ∙ ap (λ (v : Standing). tell k o (told (front o x) v) (offsetsFrom k (λ p. at p x) (λ p. at p y) m (suc o))) (at-front o y fy iy))
+          ∙ offsets-same k (λ p. standingIn p (past o x)) (λ p. standingIn p x) (λ p. standingIn p (past o y)) (λ p. standingIn p y) m (suc o) (λ p g. standing-past o p x (omega arith)) (λ p g. standing-past o p y (omega arith)))
+          ∙ sym (ap (λ (v : Standing). tell k o (told v (standingIn o y)) (offsetsFrom k (λ p. standingIn p x) (λ p. standingIn p y) m (suc o))) (standing-front o x fx ix)
+          ∙ ap (λ (v : Standing). tell k o (told (front o x) v) (offsetsFrom k (λ p. standingIn p x) (λ p. standingIn p y) m (suc o))) (standing-front o y fy iy))

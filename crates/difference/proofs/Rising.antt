@@ -26,9 +26,9 @@ unfoldable pub AllAfter : Difference → List Difference → Type 0
 AllAfter d [] = Unit {0}
 AllAfter d (e ∷ l) = (before d e ≡ true) × AllAfter d l
 
-unfoldable pub Rising : List Difference → Type 0
-Rising [] = Unit {0}
-Rising (d ∷ l) = AllAfter d l × Rising l
+unfoldable pub RisingDifferences : List Difference → Type 0
+RisingDifferences [] = Unit {0}
+RisingDifferences (d ∷ l) = AllAfter d l × RisingDifferences l
 
 after-append : (d : Difference) (l m : List Difference) → AllAfter d l → AllAfter d m → AllAfter d (l ++ m)
 unfolding AllAfter
@@ -61,25 +61,25 @@ module _ (x y : Content) where
   levels-after d (suc n) k f =
       after-append d (offsetsFrom k (standing x k) (standing y k) (2 ^ suc n) 0) (levelsFrom x y n (suc k)) (offsets-after d k (2 ^ suc n) 0 (λ q t h. f k q t (omega arith))) (levels-after d n (suc k) (λ j q t h. f j q t (omega arith)))
 
-  tell-rising : (k o : ℕ) (t : Told) (l m : List Difference) → ((s : Side) → AllAfter (leaf k o s) l) → ((s : Side) → AllAfter (leaf k o s) m) → Rising (l ++ m) → Rising (tell k o t l ++ m)
-  unfolding Rising tell
+  tell-rising : (k o : ℕ) (t : Told) (l m : List Difference) → ((s : Side) → AllAfter (leaf k o s) l) → ((s : Side) → AllAfter (leaf k o s) m) → RisingDifferences (l ++ m) → RisingDifferences (tell k o t l ++ m)
+  unfolding RisingDifferences tell
   tell-rising k o alike l m f g r = r
   tell-rising k o (differ s) l m f g r = (after-append (leaf k o s) l m (f s) (g s), r)
 
-  offsets-rising : (k n p : ℕ) (m : List Difference) → ((q : ℕ) (s : Side) → AllAfter (leaf k q s) m) → Rising m → Rising (offsetsFrom k (standing x k) (standing y k) n p ++ m)
+  offsets-rising : (k n p : ℕ) (m : List Difference) → ((q : ℕ) (s : Side) → AllAfter (leaf k q s) m) → RisingDifferences m → RisingDifferences (offsetsFrom k (standing x k) (standing y k) n p ++ m)
   unfolding offsetsFrom
   offsets-rising k zero p m f r = r
   offsets-rising k (suc n) p m f r =
       tell-rising k p (told (standing x k p) (standing y k p)) (offsetsFrom k (standing x k) (standing y k) n (suc p)) m (λ s. offsets-after (leaf k p s) k n (suc p) (λ q t h. same-level k p q s t (omega arith))) (f p) (offsets-rising k n (suc p) m f r)
 
-  levels-rising : (n k : ℕ) → Rising (levelsFrom x y n k)
-  unfolding Rising levelsFrom
+  levels-rising : (n k : ℕ) → RisingDifferences (levelsFrom x y n k)
+  unfolding RisingDifferences levelsFrom
   levels-rising zero k = tt
   levels-rising (suc n) k =
       offsets-rising k (2 ^ suc n) 0 (levelsFrom x y n (suc k)) (λ q s. levels-after (leaf k q s) n (suc k) (λ j p t h. next-level k j q p s t (omega arith))) (levels-rising n (suc k))
 
-  heights : (b : Bool) (n : ℕ) → Rising (unless b height ++ levelsFrom x y n 0)
-  unfolding Rising unless before
+  heights : (b : Bool) (n : ℕ) → RisingDifferences (unless b height ++ levelsFrom x y n 0)
+  unfolding RisingDifferences unless before
   heights true n = levels-rising n 0
   heights false n = (levels-after height n 0 (λ j q t h. refl), levels-rising n 0)
 
@@ -88,12 +88,12 @@ module _ (x y : Content) where
   blocks true n = levels-after block n 0 (λ j q t h. refl)
   blocks false n = (refl, levels-after block n 0 (λ j q t h. refl))
 
-  all : (a b : Bool) (n : ℕ) → Rising (unless a block ++ (unless b height ++ levelsFrom x y n 0))
-  unfolding Rising unless
+  all : (a b : Bool) (n : ℕ) → RisingDifferences (unless a block ++ (unless b height ++ levelsFrom x y n 0))
+  unfolding RisingDifferences unless
   all true b n = heights b n
   all false b n = (blocks b n, heights b n)
 
   -- block height, tree height, then by level and offset
-  pub rising : Rising (differences x y)
+  pub rising : RisingDifferences (differences x y)
   unfolding differences
   rising = all (eqb (x .block) (y .block)) (eqb (x .height) (y .height)) (higher (x .height) (y .height))

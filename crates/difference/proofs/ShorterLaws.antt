@@ -1,4 +1,4 @@
--- Laws of the weighing, one for each answer.
+-- Laws of `shorter`, one for each answer.
 use Prim.Native.Nat.{ℕ, _≤_, _<_}
 use mathlib.Core.Path.{_≡_, refl, ap, sym, _∙_}
 use mathlib.Core.List.{List, [], _∷_}
@@ -13,13 +13,13 @@ use Rattle.format.specs.Field.{byte, varint}
 use Rattle.format.specs.Bump.{blockField, bumpUpTo}
 use Rattle.format.specs.Refusals.{UNLIKE}
 use Rattle.spv.specs.Result.{Result, accepted, refused, carrying, follow}
-use Rattle.spv.specs.Compare.{Proof, proveBy, prove}
+use Rattle.spv.specs.Prove.{Proof, proveBy, prove}
 use Rattle.spv.specs.Readings.{bumpReading, bumpReadingUpTo}
 use Rattle.spv.specs.Shapes.{provedOf, acceptedOf}
 use Rattle.spv.specs.declared.prove.Outcome.the-variants.{Accepted, Refused}
 use Rattle.spv.specs.declared.prove.Proved.{Proved}
 use Rattle.spv.specs.declared.rejection.Rejection.{Rejection}
-use Rattle.difference.specs.Shorter.{Choice, first, second, shorterOf, settled, weighing}
+use Rattle.difference.specs.Shorter.{Choice, first, second, shorterOf, settled, shorter}
 
 -- what a proof's answer says of its result
 module _ (r : Proved) where
@@ -34,30 +34,30 @@ module _ (r : Proved) where
   says-proved (accepted x) i h e g = (x, refl, sym (ap (λ (y : Proved). y .root) e))
 
 module _ (a b id : List ℕ) (p : Proved) (pe : p ≡ provedOf (prove (bumpReading a id))) where
-  pub first-refused : (why : Rejection) → p .outcome ≡ Refused why → refused why ≡ weighing a b id
-  unfolding weighing
+  pub first-refused : (why : Rejection) → p .outcome ≡ Refused why → refused why ≡ shorter a b id
+  unfolding shorter
   first-refused why g = let x = says-refused p _ why pe g in rw x refl
 
   module _ (i h : ℕ) (pa : p .outcome ≡ Accepted i h) (q : Proved) (qe : q ≡ provedOf (prove (bumpReading b id))) where
-    pub second-refused : (why : Rejection) → q .outcome ≡ Refused why → refused why ≡ weighing a b id
-    unfolding weighing
+    pub second-refused : (why : Rejection) → q .outcome ≡ Refused why → refused why ≡ shorter a b id
+    unfolding shorter
     second-refused why g =
         let x = says-proved p _ i h pe pa in
         let y = says-refused q _ why qe g in
         rw (x .1, y) refl
 
     module _ (j l : ℕ) (qa : q .outcome ≡ Accepted j l) where
-      both-proved : weighing a b id ≡ pick (same (p .root) (q .root)) (accepted (shorterOf a b)) (refused (carrying UNLIKE 0))
-      unfolding weighing settled
+      both-proved : shorter a b id ≡ pick (same (p .root) (q .root)) (accepted (shorterOf a b)) (refused (carrying UNLIKE 0))
+      unfolding shorter settled
       both-proved =
           let x = says-proved p _ i h pe pa in
           let y = says-proved q _ j l qe qa in
           rw (x .1, y .1, x .2, y .2) refl
 
-      pub two-roots : same (p .root) (q .root) ≡ false → refused (carrying UNLIKE 0) ≡ weighing a b id
+      pub two-roots : same (p .root) (q .root) ≡ false → refused (carrying UNLIKE 0) ≡ shorter a b id
       two-roots e = sym (both-proved ∙ ap (λ (c : Bool). pick c (accepted (shorterOf a b)) (refused (carrying UNLIKE 0))) e)
 
-      pub one-root : same (p .root) (q .root) ≡ true → accepted (shorterOf a b) ≡ weighing a b id
+      pub one-root : same (p .root) (q .root) ≡ true → accepted (shorterOf a b) ≡ shorter a b id
       one-root e = sym (both-proved ∙ ap (λ (c : Bool). pick c (accepted (shorterOf a b)) (refused (carrying UNLIKE 0))) e)
 
 module _ (a b : List ℕ) where
@@ -96,8 +96,8 @@ module _ (a b : List ℕ) where
   by-roots true h k = by-length h k
   by-roots false h k = neither (carrying UNLIKE 0) refl
 
-  pub weighs : (id : List ℕ) → Weighs (weighing a b id)
-  unfolding weighing settled
+  pub weighs : (id : List ℕ) → Weighs (shorter a b id)
+  unfolding shorter settled
   weighs id = go (prove (bumpReading a id)) refl (prove (bumpReading b id)) refl
     where
       go : (p : Result Proof) → prove (bumpReading a id) ≡ p → (q : Result Proof) → prove (bumpReading b id) ≡ q → Weighs (follow p (λ x. follow q (λ y. settled a b x y)))

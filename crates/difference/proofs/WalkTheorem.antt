@@ -14,14 +14,14 @@ use borrow.Author.Tests.{leb-true, leb-false}
 use Rattle.format.specs.declared.level.Layout.{Layout}
 use Rattle.format.specs.declared.level.Leaf.{Leaf}
 use Rattle.format.proofs.Basics.{one-less}
-use Rattle.format.specs.Parse.{many, got}
+use Rattle.format.specs.Parse.{many, ok}
 use Rattle.format.proofs.ParseLaws.{many-told}
 use Rattle.format.specs.Level.{levelOfTurn, levelInTurn, nextTurn}
 use Rattle.format.specs.Bump.{Bump, bumpWhole, headOf}
 use Rattle.format.proofs.BumpLaws.{bump-whole-told}
 use Rattle.encoding.specs.BumpBytes.{Entry, Content, entryOf, levelsOf, contentOf}
 use Rattle.difference.specs.Differences.{Difference, offsetsFrom, levelsFrom, higher, differences}
-use Rattle.levels.specs.Standing.{nothing, at, standing}
+use Rattle.levels.specs.Standing.{nothing, standingIn, standing}
 use Rattle.difference.proofs.Once.{higher-bounds}
 use Rattle.difference.specs.Filling.{Filling, putAll, putUnless}
 use Rattle.difference.proofs.FillingLaws.{all-block, all-height, all-append}
@@ -35,28 +35,28 @@ use Rattle.difference.proofs.MergeTheorem.{offsets-same, merged-all}
 
 -- the levels from k on, read from a place
 abbrev Ahead : List ℕ → ℕ → ℕ → ℕ → List (List Leaf) → ℕ → Type 0
-Ahead s h k p ls q = many (levelInTurn Layout.Bump h) nextTurn (h - k) k s p ≡ got ls q
+Ahead s h k p ls q = many (levelInTurn Layout.Bump h) nextTurn (h - k) k s p ≡ ok ls q
 
 -- what is gathered of level k, of which the levels from k on were read
 record Level (s : List ℕ) (h k : ℕ) (ls : List (List Leaf)) (q : ℕ) (g : Gathering) : Type 0 where
   order : InOrder (entries s (g .places))
   under : Under (2 ^ (h - k)) (entries s (g .places))
-  stood : (o : ℕ) → at o (entries s (g .places)) ≡ at o (map (entryOf s) (getD ls 0 []))
+  stood : (o : ℕ) → standingIn o (entries s (g .places)) ≡ standingIn o (map (entryOf s) (getD ls 0 []))
   few : length (g .places) ≤ 1024
   ahead : Ahead s h (k + 1) (g .next) (drop 1 ls) q
 
 module _ (s : List ℕ) (h k p : ℕ) where
   none-left : (ls : List (List Leaf)) (q : ℕ) → h ≤ k → Ahead s h k p ls q → Level s h k ls q (gathering [] p)
-  unfolding many InOrder Under at
+  unfolding many InOrder Under standingIn
   none-left ls q g e =
       let a : h - k ≡ 0 = omega arith in
       let b : h - (k + 1) ≡ 0 = omega arith in
-      let f : got [] p ≡ got ls q = subst (λ (n : ℕ). many (levelInTurn Layout.Bump h) nextTurn n k s p ≡ got ls q) a e in
+      let f : ok [] p ≡ ok ls q = subst (λ (n : ℕ). many (levelInTurn Layout.Bump h) nextTurn n k s p ≡ ok ls q) a e in
       let l : [] ≡ ls = cc in
       subst (λ (v : List (List Leaf)). Level s h k v q (gathering [] p)) l
-      (record { order = tt; under = tt; stood = λ o. refl; few = omega arith; ahead = rw b (f ∙ ap (λ (v : List (List Leaf)). got v q) (sym l)) })
+      (record { order = tt; under = tt; stood = λ o. refl; few = omega arith; ahead = rw b (f ∙ ap (λ (v : List (List Leaf)). ok v q) (sym l)) })
 
-  level-told : (g : k < h) (l : List Leaf) (r : ℕ) (rest : List (List Leaf)) (q : ℕ) → levelInTurn Layout.Bump h k s p ≡ got l r → Ahead s h (k + 1) r rest q
+  level-told : (g : k < h) (l : List Leaf) (r : ℕ) (rest : List (List Leaf)) (q : ℕ) → levelInTurn Layout.Bump h k s p ≡ ok l r → Ahead s h (k + 1) r rest q
       → Level s h k (l ∷ rest) q (gatherLevel 1024 s h k p)
   unfolding levelOfTurn
   level-told g l r rest q e f =
@@ -77,7 +77,7 @@ module _ (s : List ℕ) (h k p : ℕ) where
     where
       some : (g : k < h) → Level s h k ls q (gatherLevel 1024 s h k p)
       some g =
-          let x = many-told (levelInTurn Layout.Bump h) nextTurn (h - (k + 1)) k s p (subst (λ (n : ℕ). many (levelInTurn Layout.Bump h) nextTurn n k s p ≡ got ls q) (one-less h k g) e) in
+          let x = many-told (levelInTurn Layout.Bump h) nextTurn (h - (k + 1)) k s p (subst (λ (n : ℕ). many (levelInTurn Layout.Bump h) nextTurn n k s p ≡ ok ls q) (one-less h k g) e) in
           subst (λ (v : List (List Leaf)). Level s h k v q (gatherLevel 1024 s h k p)) (x .5) (level-told g (x .0) (x .1) (x .2) q (x .3) (x .4))
 
       go : (b : Bool) → leb h k ≡ b → Level s h k ls q (gatherLevel 1024 s h k p)
@@ -89,8 +89,8 @@ module _ (s : List ℕ) (h k p : ℕ) where
 length-map-few : (s t l m : List ℕ) → length l ≤ 1024 → length m ≤ 1024 → length (entries s l) + length (entries t m) ≤ 2048
 length-map-few s t l m h i = let a = length-map l (entryAt s) in let b = length-map m (entryAt t) in omega (arith, a, b)
 
-empty-at : (o : ℕ) → at o [] ≡ nothing
-unfolding at
+empty-at : (o : ℕ) → standingIn o [] ≡ nothing
+unfolding standingIn
 empty-at o = refl
 
 drop-map : (s : List ℕ) (ls : List (List Leaf)) → drop 1 (levelsOf s ls) ≡ levelsOf s (drop 1 ls)
@@ -121,8 +121,8 @@ module _ (write : Bool) (s : List ℕ) (x : Content) (hx qx : ℕ) (t : List ℕ
       let told : merged 2048 k xs ys ≡ offsetsFrom k (standing x k) (standing y k) (2 ^ suc n) 0 =
       merged-all k (2 ^ suc n) 2048 0 xs ys (u .order) (v .order) (from-least xs) (from-least ys) (under-weaken (2 ^ (hx - k)) (0 + 2 ^ suc n) xs (wide hx g) (u .under)) (under-weaken (2 ^ (hy - k)) (0 + 2 ^ suc n) ys (wide hy h) (v .under))
       (let i = u .few in let j = v .few in length-map-few s t (gatherLevel 1024 s hx k c .places) (gatherLevel 1024 t hy k d .places) i j)
-      ∙ offsets-same k (λ o. at o xs) (standing x k) (λ o. at o ys) (standing y k) (2 ^ suc n) 0
-      (λ o _. u .stood o ∙ ap (at o) (sym (level-is s x k ls e))) (λ o _. v .stood o ∙ ap (at o) (sym (level-is t y k lt f))) in
+      ∙ offsets-same k (λ o. standingIn o xs) (standing x k) (λ o. standingIn o ys) (standing y k) (2 ^ suc n) 0
+      (λ o _. u .stood o ∙ ap (standingIn o) (sym (level-is s x k ls e))) (λ o _. v .stood o ∙ ap (standingIn o) (sym (level-is t y k lt f))) in
       walk-told n (k + 1) (gatherLevel 1024 s hx k c .next) (gatherLevel 1024 t hy k d .next) (putAll write p (merged 2048 k xs ys)) (drop 1 ls) (drop 1 lt) (u .ahead) (v .ahead)
       (levels-are s x k ls e) (levels-are t y k lt f) (omega arith) (omega arith)
       ∙ ap (λ (j : ℕ). putAll write (putAll write p (merged 2048 k xs ys)) (levelsFrom x y n j)) (add-one k)
@@ -130,7 +130,7 @@ module _ (write : Bool) (s : List ℕ) (x : Content) (hx qx : ℕ) (t : List ℕ
       ∙ sym (all-append write p (offsetsFrom k (standing x k) (standing y k) (2 ^ suc n) 0) (levelsFrom x y n (suc k)))
 
 -- the whole of two BUMPs
-pub told-all : (write : Bool) (s t : List ℕ) {x y : Bump} {q r : ℕ} (p : Filling) → bumpWhole s ≡ got x q → bumpWhole t ≡ got y r
+pub told-all : (write : Bool) (s t : List ℕ) {x y : Bump} {q r : ℕ} (p : Filling) → bumpWhole s ≡ ok x q → bumpWhole t ≡ ok y r
     → walkAll write s (headOf x) t (headOf y) p ≡ putAll write p (differences (contentOf s x) (contentOf t y))
 unfolding walkAll differences
 told-all write s t {x} {y} {q} {r} p e f =

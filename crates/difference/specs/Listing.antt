@@ -42,8 +42,8 @@ unfoldable pub fitting : ℕ → List Difference → Result (List Difference)
 fitting room l = pick (leb (length l) room) (accepted l) (refused (carrying NO-ROOM 0))
 
 -- two inputs and room for so many entries: "the first path's, the second's", then 22
-unfoldable pub listing : List ℕ → List ℕ → ℕ → Result (List Difference)
-listing a b room =
+unfoldable pub listDifferences : List ℕ → List ℕ → ℕ → Result (List Difference)
+listDifferences a b room =
     afterReading (bumpWhole a) (λ x.
     afterReading (bumpWhole b) (λ y.
     fitting room (differences (contentOf a x) (contentOf b y))))

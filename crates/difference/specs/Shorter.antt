@@ -8,10 +8,10 @@ use Rattle.format.specs.Bytes.{same}
 use Rattle.format.specs.Parse.{pick}
 use Rattle.format.specs.Refusals.{UNLIKE}
 use Rattle.spv.specs.Result.{Result, accepted, refused, carrying, follow}
-use Rattle.spv.specs.Compare.{Proof, prove}
+use Rattle.spv.specs.Prove.{Proof, prove}
 use Rattle.spv.specs.Readings.{bumpReading}
-use Rattle.difference.specs.declared.weighing.Weighed.{Weighed}
-use Rattle.difference.specs.declared.weighing.Weighed.the-variants.{First, Second, Refused}
+use Rattle.difference.specs.declared.shorter.Weighed.{Weighed}
+use Rattle.difference.specs.declared.shorter.Weighed.the-variants.{First, Second, Refused}
 
 -- which of the two is handed back
 pub data Choice : Type 0 where
@@ -27,8 +27,8 @@ unfoldable pub settled : List ℕ → List ℕ → Proof → Proof → Result Ch
 settled a b x y = pick (same (x .root) (y .root)) (accepted (shorterOf a b)) (refused (carrying UNLIKE 0))
 
 -- two BUMPs and one id: "the first path's, the second's, then 23"
-unfoldable pub weighing : List ℕ → List ℕ → List ℕ → Result Choice
-weighing a b id = follow (prove (bumpReading a id)) (λ x. follow (prove (bumpReading b id)) (λ y. settled a b x y))
+unfoldable pub shorter : List ℕ → List ℕ → List ℕ → Result Choice
+shorter a b id = follow (prove (bumpReading a id)) (λ x. follow (prove (bumpReading b id)) (λ y. settled a b x y))
 
 -- what the code's answer says
 unfoldable pub choiceOf : Weighed → Result Choice

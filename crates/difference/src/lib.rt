@@ -1,7 +1,7 @@
 // Two BUMPs side by side: the list of their differences, and the shorter of two that prove an id to one root (paper 02, Item 7).
 mod listing;
-mod weighing;
+mod shorter;
 
 pub use listing::Listed;
 pub use listing::list_differences;
-pub use weighing::shorter;
+pub use shorter::shorter_proof;

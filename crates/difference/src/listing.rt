@@ -22,7 +22,7 @@ ghost use lib.ListN.{length, take};
 ghost use Rattle.encoding.specs.BumpBytes.{carriedOf};
 ghost use Rattle.levels.specs.Ordered.{holding};
 ghost use Rattle.difference.specs.Differences.{equal, told, higher as higherOf};
-ghost use Rattle.difference.specs.Listing.{listing, listedOf, wordsIn, roomIn};
+ghost use Rattle.difference.specs.Listing.{listDifferences, listedOf, wordsIn, roomIn};
 ghost use Rattle.difference.specs.Filling.{filling, putOn, putAll, toldWord, putPlace, putUnless};
 ghost use Rattle.levels.specs.Places.{entries};
 ghost use Rattle.difference.specs.Merge.{gathering, gatherLevel, merged, walk, walkAll};
@@ -179,7 +179,8 @@ fn tell_levels(
     second: &mut [usize],
     room: &mut [usize],
 ) -> usize
-    ensures { λ r. ⌜ filling (now (out .exit)) r ≡ walk write (now (s .entry)) (x .height) (holding (now (first .entry)) (now (room .entry))) (now (t .entry)) (y .height) (holding (now (second .entry)) (now (room .entry))) (higherOf (x .height) (y .height)) 0 (x .levels .at) (y .levels .at) (filling (now (out .entry)) at) ⌝ }
+    ensures { λ r. ⌜ filling (now (out .exit)) r
+        ≡ walk write (now (s .entry)) (x .height) (holding (now (first .entry)) (now (room .entry))) (now (t .entry)) (y .height) (holding (now (second .entry)) (now (room .entry))) (higherOf (x .height) (y .height)) 0 (x .levels .at) (y .levels .at) (filling (now (out .entry)) at) ⌝ }
 {
     let height = higher(x.height, y.height);
     let mut c = x.levels;
@@ -236,8 +237,8 @@ fn tell_all(s: &[u8], x: BumpHead, t: &[u8], y: BumpHead, out: &mut [u64], write
 
 // Lists the differences of two BUMPs, three words an entry. If they do not all fit, or an input can't be read, nothing is written.
 pub fn list_differences(first: &[u8], second: &[u8], out: &mut [u64]) -> Listed
-    ensures { λ r. ⌜ r ≡ listedOf (listing (now (first .entry)) (now (second .entry)) (roomIn (now (out .entry)))) ⌝ }
-    ensures { λ _. ⌜ now (out .exit) ≡ wordsIn (listing (now (first .entry)) (now (second .entry)) (roomIn (now (out .entry)))) (now (out .entry)) ⌝ }
+    ensures { λ r. ⌜ r ≡ listedOf (listDifferences (now (first .entry)) (now (second .entry)) (roomIn (now (out .entry)))) ⌝ }
+    ensures { λ _. ⌜ now (out .exit) ≡ wordsIn (listDifferences (now (first .entry)) (now (second .entry)) (roomIn (now (out .entry)))) (now (out .entry)) ⌝ }
 {
     let a = format::read_bump(first);
     let BumpAnswer::Value(x, _) = a else {

@@ -7,9 +7,9 @@ use native.Mathlib.Omega.{arith}
 use native.Mathlib.Nat.{pow-suc, add-assoc}
 use Rattle.format.specs.Field.{le2, le4, le8}
 use Rattle.encoding.proofs.Stands.{Stands, stands-split}
-use Rattle.encoding.proofs.Spelling.{first-is}
+use Rattle.encoding.proofs.Encoding.{first-is}
 use Rattle.encoding.specs.Digits.{little}
-use Rattle.encoding.specs.Spells.{AllBytes}
+use Rattle.encoding.specs.Encode.{AllBytes}
 
 -- the number that bytes make
 unfoldable pub num : List ℕ → ℕ

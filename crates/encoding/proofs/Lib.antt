@@ -1,9 +1,9 @@
 pub mod Stands
-pub mod Spelling
+pub mod Encoding
 pub mod DigitsLaws
-pub mod VarintSpelling
+pub mod VarintEncoding
 pub mod BufferLaws
-pub mod BumpSpelling
+pub mod BumpEncoding
 pub mod BumpRoundTrip
-pub mod TscSpelling
+pub mod TscEncoding
 pub mod TscRoundTrip

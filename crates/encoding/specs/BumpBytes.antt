@@ -11,7 +11,7 @@ use Rattle.format.specs.Level.{holds}
 use Rattle.format.specs.Bytes.{hashAt}
 use Rattle.format.specs.Bump.{Bump}
 use Rattle.format.specs.Refusals.{MAX-BLOCK, MAX-HEIGHT, MAX-LEAVES}
-use Rattle.encoding.specs.Spells.{AllBytes, spells, Fits}
+use Rattle.encoding.specs.Encode.{AllBytes, encodeAll, Fits}
 use Rattle.encoding.specs.Digits.{varintBytes}
 
 -- what a leaf carries: a node, a copy of the working hash, a client's id
@@ -44,11 +44,11 @@ entryBytes e = varintBytes (e .offset) ++ carriedBytes (e .carried)
 
 -- a leaf count, then the leaves
 unfoldable pub levelBytes : List Entry → List ℕ
-levelBytes l = varintBytes (length l) ++ spells entryBytes l
+levelBytes l = varintBytes (length l) ++ encodeAll entryBytes l
 
 -- block height VarInt, tree height one byte, then the levels going up
 unfoldable pub bumpBytes : Content → List ℕ
-bumpBytes c = varintBytes (c .block) ++ (c .height ∷ spells levelBytes (c .levels))
+bumpBytes c = varintBytes (c .block) ++ (c .height ∷ encodeAll levelBytes (c .levels))
 
 -- ---- what a reading says: the places it gives, with the 32 bytes that stand there
 

@@ -1,5 +1,5 @@
 -- What public contracts cite, in reading order.
-pub mod Spells
+pub mod Encode
 pub mod Digits
 pub mod Buffer
 pub mod BumpBytes

@@ -6,7 +6,7 @@ use Rattle.format.specs.Bytes.{hashAt}
 use Rattle.format.specs.Tsc.{Tsc}
 use Rattle.format.specs.Id.{subjectId}
 use Rattle.format.specs.Refusals.{MAX-HEIGHT}
-use Rattle.encoding.specs.Spells.{spells, Fits}
+use Rattle.encoding.specs.Encode.{encodeAll, Fits}
 use Rattle.encoding.specs.Digits.{varintBytes}
 use Rattle.encoding.specs.BumpBytes.{Carried, plain, copy, client, carriedBytes, carriedOf, HashFit}
 
@@ -26,7 +26,7 @@ ID-AND-ROOT = 4
 -- flags one byte, index VarInt, the id, the root, a node count VarInt, then the nodes: a type byte, 0 followed by 32 bytes or 1 for a copy
 unfoldable pub tscBytes : TscContent → List ℕ
 tscBytes c =
-    ID-AND-ROOT ∷ (varintBytes (c .index) ++ (c .id ++ (c .root ++ (varintBytes (length (c .nodes)) ++ spells carriedBytes (c .nodes)))))
+    ID-AND-ROOT ∷ (varintBytes (c .index) ++ (c .id ++ (c .root ++ (varintBytes (length (c .nodes)) ++ encodeAll carriedBytes (c .nodes)))))
 
 -- ---- what a reading says: the places it gives, with the 32 bytes that stand there
 

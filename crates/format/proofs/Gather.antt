@@ -8,8 +8,8 @@ use native.Mathlib.Omega.{arith}
 use native.Mathlib.Numerals.{add-one}
 use native.Mathlib.Nat.{sub-zero}
 use Rattle.format.specs.Padded.{padded}
-use Rattle.format.specs.Parse.{Parse, Reader, each, times, got, bad}
-use Rattle.format.proofs.ParseLaws.{each-got, each-bad, many-done, many-refused, many-step}
+use Rattle.format.specs.Parse.{Parse, Reader, each, times, ok, fault}
+use Rattle.format.proofs.ParseLaws.{each-ok, each-fault, many-done, many-refused, many-step}
 
 pub padded-length : {B : Type 0} (n : ℕ) (z : B) (l : List B) → length l ≤ n → length (padded n z l) ≡ n
 unfolding padded
@@ -32,8 +32,8 @@ padded-here n z l k h = List·getD-append l (replicate (n - length l) z) z k h
 -- what is kept of an item may be the item
 pub each-same : {A : Type 0} (p : Parse A) → each (λ (x : A). x) p ≡ p
 unfolding each
-each-same (got a q) = refl
-each-same (bad n q) = refl
+each-same (ok a q) = refl
+each-same (fault n q) = refl
 
 map-same : {A : Type 0} (l : List A) → map (λ (x : A). x) l ≡ l
 map-same [] = refl
@@ -41,8 +41,8 @@ map-same (x ∷ l) = ap (x ∷_) (map-same l)
 
 pub each-sames : {A : Type 0} (p : Parse (List A)) → each (map (λ (x : A). x)) p ≡ p
 unfolding each
-each-sames {A = A} (got l q) = ap (λ (m : List A). got m q) (map-same l)
-each-sames (bad n q) = refl
+each-sames {A = A} (ok l q) = ap (λ (m : List A). ok m q) (map-same l)
+each-sames (fault n q) = refl
 
 -- the loop has read i of n items from `from` on, stands at a place, and has kept f of each
 pub record Gathering {A B : Type 0} (item : Reader A) (f : A → B) (z : B) (room n : ℕ) (s : List ℕ) (from : ℕ) (kept : List B) (i at : ℕ) : Type 0 where
@@ -56,10 +56,10 @@ module _ {A B : Type 0} (item : Reader A) (f : A → B) (z : B) (room n : ℕ) (
   gather-start =
       record { count = omega arith; size = length-replicate room z; rest = simp sub-zero; whole = simp sub-zero }
 
-  pub gather-step : {kept : List B} {i at : ℕ} → n ≤ room → Gathering item f z room n s from kept i at → i < n → {v : B} {q : ℕ} → each f (item s at) ≡ got v q
+  pub gather-step : {kept : List B} {i at : ℕ} → n ≤ room → Gathering item f z room n s from kept i at → i < n → {v : B} {q : ℕ} → each f (item s at) ≡ ok v q
       → Gathering item f z room n s from (set kept i v) (i + 1) q
   gather-step {kept} {i} {at} low g h {v} {q} e =
-      let x = each-got f (item s at) e in
+      let x = each-ok f (item s at) e in
       grown (x .0) (x .1) (x .2)
     where
       left : room - i ≡ suc (room - (i + 1))
@@ -68,7 +68,7 @@ module _ {A B : Type 0} (item : Reader A) (f : A → B) (z : B) (room n : ℕ) (
       longer : take (i + 1) (set kept i v) ≡ take i kept ++ (v ∷ [])
       longer = rw add-one (take-suc-set kept i v (omega arith))
 
-      grown : (a : A) → item s at ≡ got a q → f a ≡ v → Gathering item f z room n s from (set kept i v) (i + 1) q
+      grown : (a : A) → item s at ≡ ok a q → f a ≡ v → Gathering item f z room n s from (set kept i v) (i + 1) q
       grown a r is = record {
         count = omega arith;
         size = length-set kept i v ∙ g .size;
@@ -79,19 +79,19 @@ module _ {A B : Type 0} (item : Reader A) (f : A → B) (z : B) (room n : ℕ) (
             (λ l. rw (longer, is) (sym (append-assoc (take i kept) (v ∷ []) (map f l))));
       }
 
-  pub gather-refused : {kept : List B} {i at : ℕ} → Gathering item f z room n s from kept i at → i < n → {k q : ℕ} → each f (item s at) ≡ bad k q
-      → each (map f) (times item n s from) ≡ bad k q
+  pub gather-refused : {kept : List B} {i at : ℕ} → Gathering item f z room n s from kept i at → i < n → {k q : ℕ} → each f (item s at) ≡ fault k q
+      → each (map f) (times item n s from) ≡ fault k q
   gather-refused {kept} {i} {at} g h e =
-      g .whole ∙ many-refused (λ _. item) (λ u _. u) s (λ l. take i kept ++ map f l) (n - i) tt at (omega arith) (each-bad f (item s at) e)
+      g .whole ∙ many-refused (λ _. item) (λ u _. u) s (λ l. take i kept ++ map f l) (n - i) tt at (omega arith) (each-fault f (item s at) e)
 
   -- all are read: what they are, and what the array holds
   pub gather-done : {kept : List B} {i at : ℕ} → n ≤ room → Gathering item f z room n s from kept i at → n ≤ i
-      → (each (map f) (times item n s from) ≡ got (take i kept) at) × (length (take i kept) ≡ i) × (kept ≡ padded room z (take i kept))
+      → (each (map f) (times item n s from) ≡ ok (take i kept) at) × (length (take i kept) ≡ i) × (kept ≡ padded room z (take i kept))
   unfolding padded
   gather-done {kept} {i} {at} low g h = (
     g .whole
         ∙ many-done (λ _. item) (λ u _. u) s (λ l. take i kept ++ map f l) (n - i) tt at (omega arith)
-        ∙ ap (λ (m : List B). got m at) (append-nil (take i kept)),
+        ∙ ap (λ (m : List B). ok m at) (append-nil (take i kept)),
     len,
     sym (take-append-drop i kept) ∙ ap (λ (m : List B). take i kept ++ m) (g .rest ∙ ap (λ (k : ℕ). replicate (room - k) z) (sym len)),
   )

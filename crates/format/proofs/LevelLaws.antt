@@ -14,8 +14,8 @@ use borrow.Author.Tests.{le-ltb, lt-ltb, eq-eqb, ne-eqb, leb-true}
 use Rattle.format.specs.declared.level.Layout.{Layout}
 use Rattle.format.specs.declared.level.Leaf.{Leaf}
 use Rattle.format.specs.declared.level.Kind.the-variants.{Plain, Client}
-use Rattle.format.specs.Parse.{Parse, pick, each, given, many, _passing_else_, got, bad}
-use Rattle.format.proofs.ParseLaws.{each-cong, each-got, passing-told, onward-told, many-length, many-step, many-refused, many-done}
+use Rattle.format.specs.Parse.{Parse, pick, each, given, many, _passing_else_, ok, fault}
+use Rattle.format.proofs.ParseLaws.{each-cong, each-ok, passing-told, onward-told, many-length, many-step, many-refused, many-done}
 use Rattle.format.specs.Field.{bytes, varint}
 use Rattle.format.specs.Level.{holds, offsetField, kindField, leafField, andOffset, levelField, levelOfTurn, levelInTurn, nextTurn, levelFields, total}
 use Rattle.format.specs.Refusals.{BAD-OFFSET, OVER-LIMIT, REPEATED, MAX-LEAVES}
@@ -39,37 +39,37 @@ module _ (x : ℕ) where
   holds-snoc (z ∷ l) y = rw (holds-snoc l y) (sym (or-assoc (eqb x z) (holds x l) (eqb x y)))
 
 module _ (limit : ℕ) (seen : List ℕ) (s : List ℕ) (at : ℕ) where
-  pub offset-refused : {n q : ℕ} → varint s at ≡ bad n q → offsetField limit seen s at ≡ bad n q
+  pub offset-refused : {n q : ℕ} → varint s at ≡ fault n q → offsetField limit seen s at ≡ fault n q
   unfolding offsetField
   offset-refused e = rw e
 
-  pub offset-outside : {o q : ℕ} → varint s at ≡ got o q → limit ≤ o → offsetField limit seen s at ≡ bad BAD-OFFSET at
+  pub offset-outside : {o q : ℕ} → varint s at ≡ ok o q → limit ≤ o → offsetField limit seen s at ≡ fault BAD-OFFSET at
   unfolding offsetField
   offset-outside {o} e h = simp (e, le-ltb o limit h)
 
-  pub offset-again : {o q : ℕ} → varint s at ≡ got o q → o < limit → holds o seen ≡ true → offsetField limit seen s at ≡ bad REPEATED at
+  pub offset-again : {o q : ℕ} → varint s at ≡ ok o q → o < limit → holds o seen ≡ true → offsetField limit seen s at ≡ fault REPEATED at
   unfolding offsetField
   offset-again {o} e h m = simp (e, lt-ltb o limit h, m)
 
-  pub offset-fresh : {o q : ℕ} → varint s at ≡ got o q → o < limit → holds o seen ≡ false → offsetField limit seen s at ≡ got o q
+  pub offset-fresh : {o q : ℕ} → varint s at ≡ ok o q → o < limit → holds o seen ≡ false → offsetField limit seen s at ≡ ok o q
   unfolding offsetField
   offset-fresh {o} e h m = simp (e, lt-ltb o limit h, m)
 
 module _ (flag : ℕ) (s : List ℕ) (at : ℕ) where
-  hashed : (b : Bool) {n q : ℕ} → bytes 32 s at ≡ bad n q → pick b (given Plain (bytes 32)) (given Client (bytes 32)) s at ≡ bad n q
+  hashed : (b : Bool) {n q : ℕ} → bytes 32 s at ≡ fault n q → pick b (given Plain (bytes 32)) (given Client (bytes 32)) s at ≡ fault n q
   unfolding each
   hashed true e = rw e
   hashed false e = rw e
 
-  pub kind-refused : {n q : ℕ} → (flag ≡ 1 → ⊥) → bytes 32 s at ≡ bad n q → kindField flag s at ≡ bad n q
+  pub kind-refused : {n q : ℕ} → (flag ≡ 1 → ⊥) → bytes 32 s at ≡ fault n q → kindField flag s at ≡ fault n q
   unfolding each kindField
   kind-refused h e = rw (ne-eqb _ _ h) (hashed (eqb flag 0) e)
 
 -- a level has at most as many leaves as its limit
-pub level-few : (layout : Layout) (limit level : ℕ) (s : List ℕ) (at : ℕ) {n q : ℕ} → each length (levelField layout limit level s at) ≡ got n q → n ≤ MAX-LEAVES
+pub level-few : (layout : Layout) (limit level : ℕ) (s : List ℕ) (at : ℕ) {n q : ℕ} → each length (levelField layout limit level s at) ≡ ok n q → n ≤ MAX-LEAVES
 unfolding levelField
 level-few layout limit level s at e =
-    let l = each-got length (levelField layout limit level s at) e in
+    let l = each-ok length (levelField layout limit level s at) e in
     let x = onward-told ((varint passing (λ n. leb n MAX-LEAVES) else OVER-LIMIT) s at) _ (l .1) in
     let v = passing-told varint (λ n. leb n MAX-LEAVES) OVER-LIMIT s at (x .2) in
     few (x .0) (length (l .0)) _ (leb-true _ _ (v .1)) (many-length (leafField layout limit level) andOffset (x .0) [] s (x .1) (x .3)) (l .2)
@@ -114,25 +114,25 @@ module _ (layout : Layout) (height : ℕ) (s : List ℕ) where
   unfolding summing
   sum-start at = simp sub-zero (each-cong total (λ l. 0 + total l) (λ l. sym (zero-add (total l))) (levelFields layout height s at))
 
-  pub sum-step : (i sum at : ℕ) {n q : ℕ} → i < height → each length (levelInTurn layout height i s at) ≡ got n q
+  pub sum-step : (i sum at : ℕ) {n q : ℕ} → i < height → each length (levelInTurn layout height i s at) ≡ ok n q
       → summing layout height s i sum at ≡ summing layout height s (i + 1) (sum + n) q
   unfolding summing total
   sum-step i sum at {n} {q} h e =
-      let l = each-got length (levelInTurn layout height i s at) e in
+      let l = each-ok length (levelInTurn layout height i s at) e in
       many-step (levelInTurn layout height) nextTurn s (λ ls. sum + total ls) (λ ls. sum + n + total ls) (height - i) (height - (i + 1)) i at (omega arith) (l .1)
       (λ ls. more (l .0) ls n (l .2))
     where
       more : (l : List Leaf) (ls : List (List Leaf)) (n : ℕ) → length l ≡ n → sum + total (l ∷ ls) ≡ sum + n + total ls
       more l ls n e = omega arith
 
-  pub sum-refused : (i sum at : ℕ) {k q : ℕ} → i < height → levelInTurn layout height i s at ≡ bad k q → summing layout height s i sum at ≡ bad k q
+  pub sum-refused : (i sum at : ℕ) {k q : ℕ} → i < height → levelInTurn layout height i s at ≡ fault k q → summing layout height s i sum at ≡ fault k q
   unfolding summing
   sum-refused i sum at h e = many-refused (levelInTurn layout height) nextTurn s (λ ls. sum + total ls) (height - i) i at (omega arith) e
 
-  pub sum-done : (i sum at : ℕ) → height ≤ i → summing layout height s i sum at ≡ got sum at
+  pub sum-done : (i sum at : ℕ) → height ≤ i → summing layout height s i sum at ≡ ok sum at
   unfolding summing total
   sum-done i sum at h =
-      many-done (levelInTurn layout height) nextTurn s (λ ls. sum + total ls) (height - i) i at (omega arith) ∙ ap (λ (k : ℕ). got k at) (add-zero sum)
+      many-done (levelInTurn layout height) nextTurn s (λ ls. sum + total ls) (height - i) i at (omega arith) ∙ ap (λ (k : ℕ). ok k at) (add-zero sum)
 
 pub total-snoc : (ls : List (List Leaf)) (l : List Leaf) → total (ls ++ (l ∷ [])) ≡ length l + total ls
 unfolding total

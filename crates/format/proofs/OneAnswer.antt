@@ -2,7 +2,7 @@
 use mathlib.Core.Path.{_≡_, ap, sym, _∙_, refl}
 use Rattle.format.specs.declared.field.Cursor.{Cursor}
 use Rattle.format.specs.declared.refusal.Refusal.{Refusal}
-use Rattle.format.specs.Parse.{Parse, got, bad}
+use Rattle.format.specs.Parse.{Parse, ok, fault}
 use Rattle.format.specs.declared.bump.BumpAnswer.{BumpAnswer}
 use Rattle.format.specs.Bump.{bumpAnswer}
 use Rattle.format.specs.declared.cmp.CmpAnswer.{CmpAnswer}
@@ -15,9 +15,9 @@ use Rattle.format.specs.LevelAnswer.{kindOf}
 use Rattle.format.specs.declared.tsc.SubjectAnswer.{SubjectAnswer}
 use Rattle.format.specs.declared.tsc.TscAnswer.{TscAnswer}
 use Rattle.format.specs.TscAnswer.{subjectAnswer, tscAnswer}
-use Rattle.format.specs.declared.tx.InputAnswer.{InputAnswer}
-use Rattle.format.specs.declared.tx.ItemsAnswer.{ItemsAnswer}
-use Rattle.format.specs.declared.tx.TxAnswer.{TxAnswer}
+use Rattle.format.specs.declared.transaction.InputAnswer.{InputAnswer}
+use Rattle.format.specs.declared.transaction.ItemsAnswer.{ItemsAnswer}
+use Rattle.format.specs.declared.transaction.TxAnswer.{TxAnswer}
 use Rattle.format.specs.TransactionAnswer.{inputAnswer, itemsAnswer, txAnswer}
 use Rattle.format.specs.declared.beef.AnchorAnswer.{AnchorAnswer}
 use Rattle.format.specs.declared.beef.EntryAnswer.{EntryAnswer}
@@ -29,8 +29,8 @@ one-answer meaning undo undone a b e = sym (undone a) ∙ ap undo e ∙ undone b
 
 -- every answer of a reading is a value with its cursor, or a refusal
 abbrev pub rebuilt : {X A : Type 0} → (A → Cursor → X) → (Refusal → X) → Parse A → X
-rebuilt value refused (got a at) = value a (record { at = at })
-rebuilt value refused (bad n at) = refused (record { number = n; place = at })
+rebuilt value refused (ok a at) = value a (record { at = at })
+rebuilt value refused (fault n at) = refused (record { number = n; place = at })
 
 pub one-reading : {X A : Type 0} (meaning : X → Parse A) (value : A → Cursor → X) (refused : Refusal → X) → ((x : X) → rebuilt value refused (meaning x) ≡ x)
     → (a b : X) → meaning a ≡ meaning b → a ≡ b

@@ -14,8 +14,8 @@ use Rattle.format.specs.declared.level.Leaf.{Leaf}
 use Rattle.format.specs.declared.level.Kind.{Kind}
 use Rattle.format.specs.declared.level.Kind.the-variants.{Plain, Client}
 use Rattle.format.proofs.Basics.{or-true}
-use Rattle.format.specs.Parse.{Parse, pick, given, onward, each, many, _passing_else_, got, bad}
-use Rattle.format.proofs.ParseLaws.{each-got, each-bad, passing-told, count-start, count-step, count-refused, count-done}
+use Rattle.format.specs.Parse.{Parse, pick, given, onward, each, many, _passing_else_, ok, fault}
+use Rattle.format.proofs.ParseLaws.{each-ok, each-fault, passing-told, count-start, count-step, count-refused, count-done}
 use Rattle.format.specs.Field.{bytes, varint}
 use Rattle.format.specs.FieldAnswer.{numberOf}
 use Rattle.format.specs.Level.{holds, offsetField, kindField, carriedField, leafField, leafFields, andOffset}
@@ -49,69 +49,69 @@ slotted-more slots l o h = (simp length-set (h .0), λ x e. go x e (eqb (x % 409
 
 -- an offset is below its limit, and where none was seen only that and the VarInt are tested
 module _ (limit : ℕ) (s : List ℕ) (at : ℕ) where
-  pub offset-told : (seen : List ℕ) {o q : ℕ} → offsetField limit seen s at ≡ got o q → (varint s at ≡ got o q) × (o < limit)
+  pub offset-told : (seen : List ℕ) {o q : ℕ} → offsetField limit seen s at ≡ ok o q → (varint s at ≡ ok o q) × (o < limit)
   unfolding offsetField
   offset-told seen {o} e =
       let x = passing-told (varint passing (λ o. ltb o limit) else BAD-OFFSET) (λ o. not (holds o seen)) REPEATED s at e in
       let v = passing-told varint (λ o. ltb o limit) BAD-OFFSET s at (x .0) in
       (v .0, ltb-true o limit (v .1))
 
-  pub bounded-refused : (seen : List ℕ) {n q : ℕ} → offsetField limit [] s at ≡ bad n q → offsetField limit seen s at ≡ bad n q
+  pub bounded-refused : (seen : List ℕ) {n q : ℕ} → offsetField limit [] s at ≡ fault n q → offsetField limit seen s at ≡ fault n q
   unfolding offsetField holds
   bounded-refused seen {n} {q} e = told (varint s at) refl
     where
-      picked : (o r : ℕ) → varint s at ≡ got o r → (b : Bool) → ltb o limit ≡ b → offsetField limit seen s at ≡ bad n q
-      picked o r f true h = absurd (let z : got o r ≡ bad n q = simp (f, h) at e in let y : _≡_ {A = ℕ} 0 1 = cc in omega arith)
+      picked : (o r : ℕ) → varint s at ≡ ok o r → (b : Bool) → ltb o limit ≡ b → offsetField limit seen s at ≡ fault n q
+      picked o r f true h = absurd (let z : ok o r ≡ fault n q = simp (f, h) at e in let y : _≡_ {A = ℕ} 0 1 = cc in omega arith)
       picked o r f false h = simp (f, h) (simp (f, h) at e)
 
-      told : (p : Parse ℕ) → varint s at ≡ p → offsetField limit seen s at ≡ bad n q
-      told (got o r) f = picked o r f (ltb o limit) refl
-      told (bad m r) f = rw f (rw f at e)
+      told : (p : Parse ℕ) → varint s at ≡ p → offsetField limit seen s at ≡ fault n q
+      told (ok o r) f = picked o r f (ltb o limit) refl
+      told (fault m r) f = rw f (rw f at e)
 
 -- what a leaf carries, passed beside its offset
 module _ (flag offset : ℕ) (s : List ℕ) (at : ℕ) where
-  pub passed-short : {n q : ℕ} → (flag ≡ 1 → ⊥) → bytes 32 s at ≡ bad n q → each (keepOffset offset) (kindField flag s at) ≡ bad n q
+  pub passed-short : {n q : ℕ} → (flag ≡ 1 → ⊥) → bytes 32 s at ≡ fault n q → each (keepOffset offset) (kindField flag s at) ≡ fault n q
   unfolding each
   passed-short h e = rw (kind-refused flag s at h e)
 
-  pub passed-hash : {p q : ℕ} → (flag ≡ 1 → ⊥) → bytes 32 s at ≡ got p q → each (keepOffset offset) (kindField flag s at) ≡ got offset q
+  pub passed-hash : {p q : ℕ} → (flag ≡ 1 → ⊥) → bytes 32 s at ≡ ok p q → each (keepOffset offset) (kindField flag s at) ≡ ok offset q
   unfolding each kindField
   passed-hash {p} {q} h e = rw (ne-eqb _ _ h) (either (eqb flag 0))
     where
-      either : (b : Bool) → each (keepOffset offset) (pick b (given Plain (bytes 32)) (given Client (bytes 32)) s at) ≡ got offset q
+      either : (b : Bool) → each (keepOffset offset) (pick b (given Plain (bytes 32)) (given Client (bytes 32)) s at) ≡ ok offset q
       either true = rw e
       either false = rw e
 
 -- a leaf, by its offset
 module _ (layout : Layout) (limit level : ℕ) (s : List ℕ) (at : ℕ) where
-  pub leaf-refused : (seen : List ℕ) {n q : ℕ} → offsetField limit seen s at ≡ bad n q → each offsetOf (leafField layout limit level seen s at) ≡ bad n q
+  pub leaf-refused : (seen : List ℕ) {n q : ℕ} → offsetField limit seen s at ≡ fault n q → each offsetOf (leafField layout limit level seen s at) ≡ fault n q
   unfolding each leafField
   leaf-refused seen e = rw e
 
-  pub leaf-carried : (seen : List ℕ) {o q : ℕ} → offsetField limit seen s at ≡ got o q → each offsetOf (leafField layout limit level seen s at) ≡ each (keepOffset o) (carriedField layout level o s q)
+  pub leaf-carried : (seen : List ℕ) {o q : ℕ} → offsetField limit seen s at ≡ ok o q → each offsetOf (leafField layout limit level seen s at) ≡ each (keepOffset o) (carriedField layout level o s q)
   unfolding each leafField
   leaf-carried seen {o} {q} e = rw e (parts (carriedField layout level o s q))
     where
-      parts : (p : Parse Kind) → each offsetOf (onward p (λ kind next. got (record { offset = o; kind = kind }) next)) ≡ each (keepOffset o) p
-      parts (got k r) = refl
-      parts (bad n r) = refl
+      parts : (p : Parse Kind) → each offsetOf (onward p (λ kind next. ok (record { offset = o; kind = kind }) next)) ≡ each (keepOffset o) p
+      parts (ok k r) = refl
+      parts (fault n r) = refl
 
-  pub leaf-told : (seen : List ℕ) {o q : ℕ} → each offsetOf (leafField layout limit level seen s at) ≡ got o q
-      → (r : ℕ) × (offsetField limit seen s at ≡ got o r) × (each (keepOffset o) (carriedField layout level o s r) ≡ got o q)
+  pub leaf-told : (seen : List ℕ) {o q : ℕ} → each offsetOf (leafField layout limit level seen s at) ≡ ok o q
+      → (r : ℕ) × (offsetField limit seen s at ≡ ok o r) × (each (keepOffset o) (carriedField layout level o s r) ≡ ok o q)
   leaf-told seen {o} {q} e = told (offsetField limit seen s at) refl
     where
-      parted : (p r : ℕ) → p ≡ o → offsetField limit seen s at ≡ got p r → each (keepOffset p) (carriedField layout level p s r) ≡ got o q
-          → (r : ℕ) × (offsetField limit seen s at ≡ got o r) × (each (keepOffset o) (carriedField layout level o s r) ≡ got o q)
-      parted p r h f g = (r, f ∙ ap (λ (x : ℕ). got x r) h, ap (λ (x : ℕ). each (keepOffset x) (carriedField layout level x s r)) (sym h) ∙ g)
+      parted : (p r : ℕ) → p ≡ o → offsetField limit seen s at ≡ ok p r → each (keepOffset p) (carriedField layout level p s r) ≡ ok o q
+          → (r : ℕ) × (offsetField limit seen s at ≡ ok o r) × (each (keepOffset o) (carriedField layout level o s r) ≡ ok o q)
+      parted p r h f g = (r, f ∙ ap (λ (x : ℕ). ok x r) h, ap (λ (x : ℕ). each (keepOffset x) (carriedField layout level x s r)) (sym h) ∙ g)
 
-      told : (p : Parse ℕ) → offsetField limit seen s at ≡ p → (r : ℕ) × (offsetField limit seen s at ≡ got o r) × (each (keepOffset o) (carriedField layout level o s r) ≡ got o q)
-      told (got p r) f =
-          let g : each (keepOffset p) (carriedField layout level p s r) ≡ got o q = sym (leaf-carried seen f) ∙ e in
-          parted p r (each-got (keepOffset p) (carriedField layout level p s r) g .2) f g
-      told (bad n r) f = absurd (let z : got o q ≡ bad n r = sym e ∙ leaf-refused seen f in let y : _≡_ {A = ℕ} 0 1 = cc in omega arith)
+      told : (p : Parse ℕ) → offsetField limit seen s at ≡ p → (r : ℕ) × (offsetField limit seen s at ≡ ok o r) × (each (keepOffset o) (carriedField layout level o s r) ≡ ok o q)
+      told (ok p r) f =
+          let g : each (keepOffset p) (carriedField layout level p s r) ≡ ok o q = sym (leaf-carried seen f) ∙ e in
+          parted p r (each-ok (keepOffset p) (carriedField layout level p s r) g .2) f g
+      told (fault n r) f = absurd (let z : ok o q ≡ fault n r = sym e ∙ leaf-refused seen f in let y : _≡_ {A = ℕ} 0 1 = cc in omega arith)
 
   -- a leaf where none was seen is the same where others were, but not its offset
-  pub leaf-fresh : (seen : List ℕ) {o q : ℕ} → each offsetOf (leafField layout limit level [] s at) ≡ got o q → holds o seen ≡ false → each offsetOf (leafField layout limit level seen s at) ≡ got o q
+  pub leaf-fresh : (seen : List ℕ) {o q : ℕ} → each offsetOf (leafField layout limit level [] s at) ≡ ok o q → holds o seen ≡ false → each offsetOf (leafField layout limit level seen s at) ≡ ok o q
   leaf-fresh seen e h =
       let x = leaf-told [] e in
       let b = offset-told limit s at [] (x .1) in
@@ -119,19 +119,19 @@ module _ (layout : Layout) (limit level : ℕ) (s : List ℕ) (at : ℕ) where
 
 -- a loop over leaves that keeps their offsets: i are read, n - i are left
 module _ (layout : Layout) (limit level n : ℕ) (s : List ℕ) where
-  pub leaves-step : (i : ℕ) (seen : List ℕ) (at : ℕ) {o q : ℕ} → i < n → each offsetOf (leafField layout limit level seen s at) ≡ got o q
+  pub leaves-step : (i : ℕ) (seen : List ℕ) (at : ℕ) {o q : ℕ} → i < n → each offsetOf (leafField layout limit level seen s at) ≡ ok o q
       → each (λ l. i + length l) (many (leafField layout limit level) andOffset (n - i) seen s at) ≡ each (λ l. i + 1 + length l) (many (leafField layout limit level) andOffset (n - (i + 1)) (seen ++ (o ∷ [])) s q)
   leaves-step i seen at {o} {q} h e =
-      let x = each-got offsetOf (leafField layout limit level seen s at) e in
+      let x = each-ok offsetOf (leafField layout limit level seen s at) e in
       step (x .0) (x .1) (x .2)
     where
-      step : (leaf : Leaf) → leafField layout limit level seen s at ≡ got leaf q → leaf .offset ≡ o
+      step : (leaf : Leaf) → leafField layout limit level seen s at ≡ ok leaf q → leaf .offset ≡ o
           → each (λ l. i + length l) (many (leafField layout limit level) andOffset (n - i) seen s at) ≡ each (λ l. i + 1 + length l) (many (leafField layout limit level) andOffset (n - (i + 1)) (seen ++ (o ∷ [])) s q)
       step leaf f g = rw (← g) (count-step (leafField layout limit level) andOffset n s i seen at h f)
 
-  pub leaves-refused : (i : ℕ) (seen : List ℕ) (at : ℕ) {k q : ℕ} → i < n → each offsetOf (leafField layout limit level seen s at) ≡ bad k q
-      → each (λ l. i + length l) (many (leafField layout limit level) andOffset (n - i) seen s at) ≡ bad k q
-  leaves-refused i seen at h e = count-refused (leafField layout limit level) andOffset n s i seen at h (each-bad offsetOf (leafField layout limit level seen s at) e)
+  pub leaves-refused : (i : ℕ) (seen : List ℕ) (at : ℕ) {k q : ℕ} → i < n → each offsetOf (leafField layout limit level seen s at) ≡ fault k q
+      → each (λ l. i + length l) (many (leafField layout limit level) andOffset (n - i) seen s at) ≡ fault k q
+  leaves-refused i seen at h e = count-refused (leafField layout limit level) andOffset n s i seen at h (each-fault offsetOf (leafField layout limit level seen s at) e)
 
 -- the offsets seen, with one more that is at least `least`, as none of them is
 pub none-from : (l : List ℕ) (least o : ℕ) → ((x : ℕ) → least ≤ x → holds x l ≡ false) → least ≤ o → (x : ℕ) → o + 1 ≤ x → holds x (l ++ (o ∷ [])) ≡ false
@@ -149,7 +149,7 @@ module _ (layout : Layout) (limit level n : ℕ) (s : List ℕ) where
   risen-start at = ([], λ x h. refl, count-start (leafField layout limit level) andOffset n s [] at)
 
   pub risen-step : (total : Parse ℕ) (i least at : ℕ) {o q : ℕ} → i < n → Risen layout limit level n s total i least at
-      → each offsetOf (leafField layout limit level [] s at) ≡ got o q → least ≤ o → Risen layout limit level n s total (i + 1) (o + 1) q
+      → each offsetOf (leafField layout limit level [] s at) ≡ ok o q → least ≤ o → Risen layout limit level n s total (i + 1) (o + 1) q
   unfolding Risen
   risen-step total i least at {o} {q} h r e t = step (r .0) (r .1) (r .2)
     where
@@ -157,14 +157,14 @@ module _ (layout : Layout) (limit level n : ℕ) (s : List ℕ) where
           → total ≡ each (λ l. i + length l) (many (leafField layout limit level) andOffset (n - i) seen s at) → Risen layout limit level n s total (i + 1) (o + 1) q
       step seen none f = (seen ++ (o ∷ []), none-from seen least o none t, f ∙ leaves-step layout limit level n s i seen at h (leaf-fresh layout limit level s at seen e (none o t)))
 
-  pub risen-done : (total : Parse ℕ) (i least at : ℕ) → n ≤ i → Risen layout limit level n s total i least at → total ≡ got i at
+  pub risen-done : (total : Parse ℕ) (i least at : ℕ) → n ≤ i → Risen layout limit level n s total i least at → total ≡ ok i at
   unfolding Risen
   risen-done total i least at h r = r .2 ∙ count-done (leafField layout limit level) andOffset n s i (r .0) at h
 
 -- a leaf of an offset that is at least `least`
 pub above-carried : (least o : ℕ) (r : Number) (k : Parse Kind) {p : Parse ℕ} → numberOf r ≡ each (keepOffset o) k → p ≡ each (keepOffset o) k → least ≤ o → Above least r p
 above-carried least o (Number.Value x c) k {p} e f h =
-    let g = each-got (keepOffset o) k (sym e) .2 in
+    let g = each-ok (keepOffset o) k (sym e) .2 in
     (f ∙ sym e, low x g)
   where
     low : (x : ℕ) → o ≡ x → least ≤ x

@@ -5,46 +5,46 @@ use lib.ListN.{length, replicate}
 use lib.Dec.{leb}
 use Rattle.format.specs.declared.refusal.Refusal.{Refusal}
 use Rattle.format.specs.declared.bump.BumpHead.{BumpHead}
-use Rattle.format.specs.declared.tx.Items.{Items}
+use Rattle.format.specs.declared.transaction.Items.{Items}
 use Rattle.format.specs.declared.beef.Anchor.{Anchor}
 use Rattle.format.specs.declared.beef.AnchorAnswer.{AnchorAnswer}
 use Rattle.format.specs.declared.beef.EntryHead.{EntryHead}
 use Rattle.format.specs.declared.beef.EntryAnswer.{EntryAnswer}
 use Rattle.format.specs.declared.beef.BeefHead.{BeefHead}
 use Rattle.format.specs.declared.beef.BeefAnswer.{BeefAnswer}
-use Rattle.format.specs.Parse.{Parse, Reader, pick, otherwise, each, ended, got, bad}
+use Rattle.format.specs.Parse.{Parse, Reader, pick, otherwise, each, ended, ok, fault}
 use Rattle.format.specs.Padded.{padded}
 use Rattle.format.specs.Bump.{Bump, headOf}
 use Rattle.format.specs.Transaction.{txHeadOf}
-use Rattle.format.specs.Beef.{Entry, Beef, versionField, entriesField}
+use Rattle.format.specs.Beef.{BeefEntry, Beef, versionField, entriesField}
 use Rattle.format.specs.Refusals.{TOO-LONG, MAX-INPUT, MAX-BUMPS}
 
 abbrev pub anchorAnswer : AnchorAnswer → Parse Anchor
-anchorAnswer (AnchorAnswer.Value v c) = got v (c .at)
-anchorAnswer (AnchorAnswer.Refused r) = bad (r .number) (r .place)
+anchorAnswer (AnchorAnswer.Value v c) = ok v (c .at)
+anchorAnswer (AnchorAnswer.Refused r) = fault (r .number) (r .place)
 
 abbrev pub refusalOfAnchor : AnchorAnswer → Refusal
 refusalOfAnchor (AnchorAnswer.Value v c) = record { number = 0; place = 0 }
 refusalOfAnchor (AnchorAnswer.Refused r) = r
 
 -- what an answer holds of an entry
-abbrev pub entryHeadOf : Entry → EntryHead
+abbrev pub entryHeadOf : BeefEntry → EntryHead
 entryHeadOf e = record { transaction = txHeadOf (e .transaction); anchor = e .anchor }
 
 abbrev pub entryAnswer : EntryAnswer → Parse EntryHead
-entryAnswer (EntryAnswer.Value v c) = got v (c .at)
-entryAnswer (EntryAnswer.Refused r) = bad (r .number) (r .place)
+entryAnswer (EntryAnswer.Value v c) = ok v (c .at)
+entryAnswer (EntryAnswer.Refused r) = fault (r .number) (r .place)
 
 abbrev pub refusalOfEntry : EntryAnswer → Refusal
 refusalOfEntry (EntryAnswer.Value v c) = record { number = 0; place = 0 }
 refusalOfEntry (EntryAnswer.Refused r) = r
 
 -- where the first of the transactions starts
-unfoldable pub firstAt : List Entry → ℕ
+unfoldable pub firstAt : List BeefEntry → ℕ
 firstAt [] = 0
 firstAt (e ∷ l) = e .transaction .start
 
-abbrev pub entriesOf : List Entry → Items
+abbrev pub entriesOf : List BeefEntry → Items
 entriesOf l = record { count = length l; at = record { at = firstAt l } }
 
 -- how many BUMPs and transactions a bundle has, and where its first transaction starts
@@ -52,8 +52,8 @@ abbrev pub beefHeadOf : Beef → BeefHead
 beefHeadOf b = record { bumps = length (b .bumps); transactions = length (b .entries); entries = record { at = firstAt (b .entries) } }
 
 abbrev pub beefAnswer : BeefAnswer → Parse BeefHead
-beefAnswer (BeefAnswer.Value v c) = got v (c .at)
-beefAnswer (BeefAnswer.Refused r) = bad (r .number) (r .place)
+beefAnswer (BeefAnswer.Value v c) = ok v (c .at)
+beefAnswer (BeefAnswer.Refused r) = fault (r .number) (r .place)
 
 abbrev pub refusalOfBeef : BeefAnswer → Refusal
 refusalOfBeef (BeefAnswer.Value v c) = record { number = 0; place = 0 }
@@ -77,7 +77,7 @@ headsOf p = headsKept (each (λ (b : Beef). b .bumps) p)
 -- ---- the reading of a bundle, before its BUMPs and after n of them
 
 unfoldable pub opened : List ℕ → Parse ℕ
-opened s = pick (leb (length s) MAX-INPUT) (versionField s 0) (bad TOO-LONG 0)
+opened s = pick (leb (length s) MAX-INPUT) (versionField s 0) (fault TOO-LONG 0)
 
 unfoldable pub closing : ℕ → ℕ → Reader BeefHead
 closing room n s at =

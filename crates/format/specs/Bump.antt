@@ -8,7 +8,7 @@ use Rattle.format.specs.declared.level.Leaf.{Leaf}
 use Rattle.format.specs.declared.bump.BumpHead.{BumpHead}
 use Rattle.format.specs.declared.bump.BumpAnswer.{BumpAnswer}
 use Rattle.format.specs.declared.refusal.Refusal.{Refusal}
-use Rattle.format.specs.Parse.{Parse, Reader, pure, here, _>>=_, _passing_else_, whole, got, bad}
+use Rattle.format.specs.Parse.{Parse, Reader, pure, here, _>>=_, _passing_else_, whole, ok, fault}
 use Rattle.format.specs.Field.{byte, varint}
 use Rattle.format.specs.Level.{levelFields, total}
 use Rattle.format.specs.Refusals.{BAD-HEIGHT, OVER-LIMIT, MAX-BLOCK, MAX-HEIGHT}
@@ -51,8 +51,8 @@ headOf b = record { block = b .block; height = b .height; leaves = total (b .lev
 
 -- what the answer says
 abbrev pub bumpAnswer : BumpAnswer → Parse BumpHead
-bumpAnswer (BumpAnswer.Value v c) = got v (c .at)
-bumpAnswer (BumpAnswer.Refused r) = bad (r .number) (r .place)
+bumpAnswer (BumpAnswer.Value v c) = ok v (c .at)
+bumpAnswer (BumpAnswer.Refused r) = fault (r .number) (r .place)
 
 abbrev pub refusalOfBump : BumpAnswer → Refusal
 refusalOfBump (BumpAnswer.Value v c) = record { number = 0; place = 0 }

@@ -7,7 +7,7 @@ use Rattle.format.specs.declared.level.Leaf.{Leaf}
 use Rattle.format.specs.declared.cmp.CmpHead.{CmpHead}
 use Rattle.format.specs.declared.cmp.CmpAnswer.{CmpAnswer}
 use Rattle.format.specs.declared.refusal.Refusal.{Refusal}
-use Rattle.format.specs.Parse.{Parse, Reader, pure, here, _>>=_, _passing_else_, whole, got, bad}
+use Rattle.format.specs.Parse.{Parse, Reader, pure, here, _>>=_, _passing_else_, whole, ok, fault}
 use Rattle.format.specs.Field.{byte}
 use Rattle.format.specs.Level.{levelFields, total}
 use Rattle.format.specs.Refusals.{BAD-HEIGHT, MAX-HEIGHT}
@@ -45,8 +45,8 @@ cmpHeadOf p = record { height = p .height; leaves = total (p .levels); levels = 
 
 -- what the answer says
 abbrev pub cmpAnswer : CmpAnswer → Parse CmpHead
-cmpAnswer (CmpAnswer.Value v c) = got v (c .at)
-cmpAnswer (CmpAnswer.Refused r) = bad (r .number) (r .place)
+cmpAnswer (CmpAnswer.Value v c) = ok v (c .at)
+cmpAnswer (CmpAnswer.Refused r) = fault (r .number) (r .place)
 
 abbrev pub refusalOfCmp : CmpAnswer → Refusal
 refusalOfCmp (CmpAnswer.Value v c) = record { number = 0; place = 0 }

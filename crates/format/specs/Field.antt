@@ -3,16 +3,16 @@ use mathlib.Core.List.{List}
 use Prim.Native.Nat.{ℕ, _+_, _*_}
 use lib.ListN.{length, getD}
 use lib.Dec.{ltb, leb, eqb}
-use Rattle.format.specs.Parse.{Reader, pick, pure, _>>=_, _passing_else_, field, got, bad}
+use Rattle.format.specs.Parse.{Reader, pick, pure, _>>=_, _passing_else_, field, ok, fault}
 use Rattle.format.specs.Refusals.{SHORT, LONG-VARINT}
 
 -- n bytes, given by their place
 unfoldable pub bytes : ℕ → Reader ℕ
-bytes n s at = pick (leb (at + n) (length s)) (got at (at + n)) (bad SHORT at)
+bytes n s at = pick (leb (at + n) (length s)) (ok at (at + n)) (fault SHORT at)
 
 -- one byte
 unfoldable pub byte : Reader ℕ
-byte s at = pick (ltb at (length s)) (got (getD s at 0) (at + 1)) (bad SHORT at)
+byte s at = pick (ltb at (length s)) (ok (getD s at 0) (at + 1)) (fault SHORT at)
 
 -- numbers of 2, 4 and 8 bytes, little end first
 abbrev pub le2 : List ℕ → ℕ → ℕ
@@ -27,7 +27,7 @@ le8 s at = le4 s at + 4294967296 * le4 s (at + 4)
 abbrev pub number : (List ℕ → ℕ → ℕ) → ℕ → Reader ℕ
 number value width = do
   place ← bytes width
-  λ s at. got (value s place) at
+  λ s at. ok (value s place) at
 
 -- a VarInt: a first byte up to fc is the number; fd, fe, ff announce 2, 4, 8 bytes; only the shortest form is taken
 abbrev pub announced : ℕ → Reader ℕ

@@ -3,19 +3,19 @@ use Prim.Native.Nat.{ℕ}
 use Rattle.format.specs.declared.refusal.Refusal.{Refusal}
 use Rattle.format.specs.declared.field.Number.{Number}
 use Rattle.format.specs.declared.field.Run.{Run}
-use Rattle.format.specs.Parse.{Parse, got, bad}
+use Rattle.format.specs.Parse.{Parse, ok, fault}
 
 abbrev pub numberOf : Number → Parse ℕ
-numberOf (Number.Value v c) = got v (c .at)
-numberOf (Number.Refused r) = bad (r .number) (r .place)
+numberOf (Number.Value v c) = ok v (c .at)
+numberOf (Number.Refused r) = fault (r .number) (r .place)
 
 abbrev pub refusalOfNumber : Number → Refusal
 refusalOfNumber (Number.Value v c) = record { number = 0; place = 0 }
 refusalOfNumber (Number.Refused r) = r
 
 abbrev pub runOf : Run → Parse ℕ
-runOf (Run.Value v c) = got v (c .at)
-runOf (Run.Refused r) = bad (r .number) (r .place)
+runOf (Run.Value v c) = ok v (c .at)
+runOf (Run.Refused r) = fault (r .number) (r .place)
 
 abbrev pub refusalOfRun : Run → Refusal
 refusalOfRun (Run.Value v c) = record { number = 0; place = 0 }

@@ -2,11 +2,11 @@
 use Rattle.format.specs.declared.level.Kind.{Kind}
 use Rattle.format.specs.declared.level.KindAnswer.{KindAnswer}
 use Rattle.format.specs.declared.refusal.Refusal.{Refusal}
-use Rattle.format.specs.Parse.{Parse, got, bad}
+use Rattle.format.specs.Parse.{Parse, ok, fault}
 
 abbrev pub kindOf : KindAnswer → Parse Kind
-kindOf (KindAnswer.Value v c) = got v (c .at)
-kindOf (KindAnswer.Refused r) = bad (r .number) (r .place)
+kindOf (KindAnswer.Value v c) = ok v (c .at)
+kindOf (KindAnswer.Refused r) = fault (r .number) (r .place)
 
 abbrev pub refusalOfKind : KindAnswer → Refusal
 refusalOfKind (KindAnswer.Value v c) = record { number = 0; place = 0 }

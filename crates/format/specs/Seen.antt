@@ -7,7 +7,7 @@ use lib.ListN.{length, getD}
 use Rattle.format.specs.declared.field.Number.{Number}
 use Rattle.format.specs.declared.level.Leaf.{Leaf}
 use Rattle.format.specs.declared.level.Kind.{Kind}
-use Rattle.format.specs.Parse.{Parse, got}
+use Rattle.format.specs.Parse.{Parse, ok}
 use Rattle.format.specs.Level.{holds}
 
 abbrev pub offsetOf : Leaf → ℕ
@@ -19,7 +19,7 @@ keepOffset offset _ = offset
 
 -- a leaf's offset is read, and is `least` or above; a refusal says nothing
 abbrev pub Above : ℕ → Number → Parse ℕ → Type 0
-Above least (Number.Value o c) p = (p ≡ got o (c .at)) × (least ≤ o)
+Above least (Number.Value o c) p = (p ≡ ok o (c .at)) × (least ≤ o)
 Above least (Number.Refused r) p = Unit {0}
 
 -- an offset whose slot, by its remainder, is not marked was not seen

@@ -1,32 +1,32 @@
 -- What the answers of the transaction readers say.
 use Rattle.format.specs.declared.refusal.Refusal.{Refusal}
-use Rattle.format.specs.declared.tx.Input.{Input}
-use Rattle.format.specs.declared.tx.Items.{Items}
-use Rattle.format.specs.declared.tx.TxHead.{TxHead}
-use Rattle.format.specs.declared.tx.InputAnswer.{InputAnswer}
-use Rattle.format.specs.declared.tx.ItemsAnswer.{ItemsAnswer}
-use Rattle.format.specs.declared.tx.TxAnswer.{TxAnswer}
-use Rattle.format.specs.Parse.{Parse, got, bad}
+use Rattle.format.specs.declared.transaction.Input.{Input}
+use Rattle.format.specs.declared.transaction.Items.{Items}
+use Rattle.format.specs.declared.transaction.TxHead.{TxHead}
+use Rattle.format.specs.declared.transaction.InputAnswer.{InputAnswer}
+use Rattle.format.specs.declared.transaction.ItemsAnswer.{ItemsAnswer}
+use Rattle.format.specs.declared.transaction.TxAnswer.{TxAnswer}
+use Rattle.format.specs.Parse.{Parse, ok, fault}
 
 abbrev pub inputAnswer : InputAnswer → Parse Input
-inputAnswer (InputAnswer.Value v c) = got v (c .at)
-inputAnswer (InputAnswer.Refused r) = bad (r .number) (r .place)
+inputAnswer (InputAnswer.Value v c) = ok v (c .at)
+inputAnswer (InputAnswer.Refused r) = fault (r .number) (r .place)
 
 abbrev pub refusalOfInput : InputAnswer → Refusal
 refusalOfInput (InputAnswer.Value v c) = record { number = 0; place = 0 }
 refusalOfInput (InputAnswer.Refused r) = r
 
 abbrev pub itemsAnswer : ItemsAnswer → Parse Items
-itemsAnswer (ItemsAnswer.Value v c) = got v (c .at)
-itemsAnswer (ItemsAnswer.Refused r) = bad (r .number) (r .place)
+itemsAnswer (ItemsAnswer.Value v c) = ok v (c .at)
+itemsAnswer (ItemsAnswer.Refused r) = fault (r .number) (r .place)
 
 abbrev pub refusalOfItems : ItemsAnswer → Refusal
 refusalOfItems (ItemsAnswer.Value v c) = record { number = 0; place = 0 }
 refusalOfItems (ItemsAnswer.Refused r) = r
 
 abbrev pub txAnswer : TxAnswer → Parse TxHead
-txAnswer (TxAnswer.Value v c) = got v (c .at)
-txAnswer (TxAnswer.Refused r) = bad (r .number) (r .place)
+txAnswer (TxAnswer.Value v c) = ok v (c .at)
+txAnswer (TxAnswer.Refused r) = fault (r .number) (r .place)
 
 abbrev pub refusalOfTx : TxAnswer → Refusal
 refusalOfTx (TxAnswer.Value v c) = record { number = 0; place = 0 }

@@ -8,7 +8,7 @@ use lib.Dec.{ltb, leb, eqb}
 use Rattle.format.specs.declared.level.Kind.{Kind}
 use Rattle.format.specs.declared.tsc.Subject.{Subject}
 use Rattle.format.specs.declared.tsc.TscHead.{TscHead}
-use Rattle.format.specs.Parse.{Parse, Reader, pick, pure, here, onward, _>>=_, _>>_, given, _passing_else_, require, times, whole, got, bad}
+use Rattle.format.specs.Parse.{Parse, Reader, pick, pure, here, onward, _>>=_, _>>_, given, _passing_else_, require, times, whole, ok, fault}
 use Rattle.format.specs.Field.{bytes, byte, varint}
 use Rattle.format.specs.Node.{nodeField}
 use Rattle.format.specs.Bytes.{hashAt}
@@ -32,8 +32,8 @@ hasHeader flags = eqb (bitAnd flags 6) 2
 
 -- what was read ends where its stated length does; any fault in it is 11 at its start
 abbrev pub exactly : {A : Type 0} → ℕ → ℕ → Parse A → Parse A
-exactly start end (got a q) = pick (eqb q end) (got a q) (bad BAD-TX start)
-exactly start end (bad n q) = bad BAD-TX start
+exactly start end (ok a q) = pick (eqb q end) (ok a q) (fault BAD-TX start)
+exactly start end (fault n q) = fault BAD-TX start
 
 -- a transaction of exactly n bytes: a length past the end of the input is 2 at its start
 unfoldable pub exactField : ℕ → Reader Transaction

@@ -4,19 +4,19 @@ use Rattle.format.specs.declared.tsc.Subject.{Subject}
 use Rattle.format.specs.declared.tsc.SubjectAnswer.{SubjectAnswer}
 use Rattle.format.specs.declared.tsc.TscHead.{TscHead}
 use Rattle.format.specs.declared.tsc.TscAnswer.{TscAnswer}
-use Rattle.format.specs.Parse.{Parse, got, bad}
+use Rattle.format.specs.Parse.{Parse, ok, fault}
 
 abbrev pub subjectAnswer : SubjectAnswer → Parse Subject
-subjectAnswer (SubjectAnswer.Value v c) = got v (c .at)
-subjectAnswer (SubjectAnswer.Refused r) = bad (r .number) (r .place)
+subjectAnswer (SubjectAnswer.Value v c) = ok v (c .at)
+subjectAnswer (SubjectAnswer.Refused r) = fault (r .number) (r .place)
 
 abbrev pub refusalOfSubject : SubjectAnswer → Refusal
 refusalOfSubject (SubjectAnswer.Value v c) = record { number = 0; place = 0 }
 refusalOfSubject (SubjectAnswer.Refused r) = r
 
 abbrev pub tscAnswer : TscAnswer → Parse TscHead
-tscAnswer (TscAnswer.Value v c) = got v (c .at)
-tscAnswer (TscAnswer.Refused r) = bad (r .number) (r .place)
+tscAnswer (TscAnswer.Value v c) = ok v (c .at)
+tscAnswer (TscAnswer.Refused r) = fault (r .number) (r .place)
 
 abbrev pub refusalOfTsc : TscAnswer → Refusal
 refusalOfTsc (TscAnswer.Value v c) = record { number = 0; place = 0 }

@@ -6,10 +6,10 @@ use native.Mathlib.Omega.{arith}
 use lib.ListN.{length, getD, replicate}
 use borrow.Author.Tests.{le-leb, lt-leb}
 use Rattle.hash.specs.declared.compress.State.{State}
-use Rattle.hash.specs.Sha256.{bytes, hashValue, digest, sha256, sha256d, MAX-INPUT, hashed}
+use Rattle.hash.specs.Sha256.{bigEndian, hashValue, digest, sha256, sha256d, MAX-INPUT, hashed}
 
 pub sha256d-length : (m : List ℕ) → length (sha256d m) ≡ 32
-unfolding sha256d sha256 digest bytes
+unfolding sha256d sha256 digest bigEndian
 sha256d-length m = refl
 
 data Bytes : List ℕ → Type 0 where
@@ -20,8 +20,8 @@ append-bytes : {l r : List ℕ} → Bytes l → Bytes r → Bytes (l ++ r)
 append-bytes none q = q
 append-bytes (more h p) q = more h (append-bytes p q)
 
-bytes-bytes : (n x : ℕ) → Bytes (bytes n x)
-unfolding bytes
+bytes-bytes : (n x : ℕ) → Bytes (bigEndian n x)
+unfolding bigEndian
 bytes-bytes zero x = none
 bytes-bytes (suc n) x = more {a = x / 2 ^ (8 * n) % 2 ^ 8} (omega arith) (bytes-bytes n x)
 

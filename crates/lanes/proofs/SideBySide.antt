@@ -18,35 +18,35 @@ use Rattle.hash.proofs.Digests.{digest-block, digest-hashed, joined}
 use Rattle.lanes.specs.declared.compress.Four.{Four}
 use Rattle.lanes.specs.declared.compress.State4.{State4}
 use Rattle.lanes.specs.declared.Nodes.{Nodes}
-use Rattle.lanes.specs.Lanes.{inLane, at, node, nodes, lane, lanes, value, digestWords, all, each, each2, each3}
+use Rattle.lanes.specs.Lanes.{inLane, wordIn, node, nodes, lane, lanes, value, digestWords, all, lanewise, lanewise2, lanewise3}
 
-pub at-all : (i k : ℕ) → at i (all k) ≡ k
-unfolding at inLane all
-at-all zero k = refl
-at-all (suc zero) k = refl
-at-all (suc (suc zero)) k = refl
-at-all (suc (suc (suc i))) k = refl
+pub wordIn-all : (i k : ℕ) → wordIn i (all k) ≡ k
+unfolding wordIn inLane all
+wordIn-all zero k = refl
+wordIn-all (suc zero) k = refl
+wordIn-all (suc (suc zero)) k = refl
+wordIn-all (suc (suc (suc i))) k = refl
 
-pub at-each : (i : ℕ) (f : ℕ → ℕ) (x : Four) → at i (each f x) ≡ f (at i x)
-unfolding at inLane each
-at-each zero f x = refl
-at-each (suc zero) f x = refl
-at-each (suc (suc zero)) f x = refl
-at-each (suc (suc (suc i))) f x = refl
+pub wordIn-lanewise : (i : ℕ) (f : ℕ → ℕ) (x : Four) → wordIn i (lanewise f x) ≡ f (wordIn i x)
+unfolding wordIn inLane lanewise
+wordIn-lanewise zero f x = refl
+wordIn-lanewise (suc zero) f x = refl
+wordIn-lanewise (suc (suc zero)) f x = refl
+wordIn-lanewise (suc (suc (suc i))) f x = refl
 
-pub at-each2 : (i : ℕ) (f : ℕ → ℕ → ℕ) (x y : Four) → at i (each2 f x y) ≡ f (at i x) (at i y)
-unfolding at inLane each2
-at-each2 zero f x y = refl
-at-each2 (suc zero) f x y = refl
-at-each2 (suc (suc zero)) f x y = refl
-at-each2 (suc (suc (suc i))) f x y = refl
+pub wordIn-lanewise2 : (i : ℕ) (f : ℕ → ℕ → ℕ) (x y : Four) → wordIn i (lanewise2 f x y) ≡ f (wordIn i x) (wordIn i y)
+unfolding wordIn inLane lanewise2
+wordIn-lanewise2 zero f x y = refl
+wordIn-lanewise2 (suc zero) f x y = refl
+wordIn-lanewise2 (suc (suc zero)) f x y = refl
+wordIn-lanewise2 (suc (suc (suc i))) f x y = refl
 
-pub at-each3 : (i : ℕ) (f : ℕ → ℕ → ℕ → ℕ) (x y z : Four) → at i (each3 f x y z) ≡ f (at i x) (at i y) (at i z)
-unfolding at inLane each3
-at-each3 zero f x y z = refl
-at-each3 (suc zero) f x y z = refl
-at-each3 (suc (suc zero)) f x y z = refl
-at-each3 (suc (suc (suc i))) f x y z = refl
+pub wordIn-lanewise3 : (i : ℕ) (f : ℕ → ℕ → ℕ → ℕ) (x y z : Four) → wordIn i (lanewise3 f x y z) ≡ f (wordIn i x) (wordIn i y) (wordIn i z)
+unfolding wordIn inLane lanewise3
+wordIn-lanewise3 zero f x y z = refl
+wordIn-lanewise3 (suc zero) f x y z = refl
+wordIn-lanewise3 (suc (suc zero)) f x y z = refl
+wordIn-lanewise3 (suc (suc (suc i))) f x y z = refl
 
 -- What holds in each lane holds in lane i; what is made in each lane is made in lane i.
 pub lane-all : {A : Type 0} (P : A → Type 0) (i : ℕ) {a b c d : A} → P a → P b → P c → P d → P (inLane i a b c d)
@@ -66,24 +66,24 @@ lane-map f (suc (suc (suc i))) a b c d = refl
 -- A list of fours.
 pub lanes-length : (i : ℕ) (m : List Four) → length (lanes i m) ≡ length m
 unfolding lanes
-lanes-length i m = length-map m (at i)
+lanes-length i m = length-map m (wordIn i)
 
-pub lanes-set : (i : ℕ) (m : List Four) (t : ℕ) (x : Four) → lanes i (set m t x) ≡ set (lanes i m) t (at i x)
+pub lanes-set : (i : ℕ) (m : List Four) (t : ℕ) (x : Four) → lanes i (set m t x) ≡ set (lanes i m) t (wordIn i x)
 unfolding lanes
 lanes-set i [] t x = refl
 lanes-set i (y ∷ m) zero x = refl
 lanes-set i (y ∷ m) (suc t) x = let ih = lanes-set i m t x in cc
 
-pub lanes-get : (i : ℕ) (m : List Four) (t : ℕ) → at i (getD m t (all 0)) ≡ getD (lanes i m) t 0
+pub lanes-get : (i : ℕ) (m : List Four) (t : ℕ) → wordIn i (getD m t (all 0)) ≡ getD (lanes i m) t 0
 unfolding lanes
-lanes-get i m t = let e = List·getD-map (at i) m t (all 0) in sym (rw at-all at e)
+lanes-get i m t = let e = List·getD-map (wordIn i) m t (all 0) in sym (rw wordIn-all at e)
 
 -- Sixteen words of a block's schedule in each lane, from word 16 + q on to word 16 + t.
 abbrev pub Going : List Four → ℕ → List Four → ℕ → Type 0
 Going v q w t = (i : ℕ) (m : List ℕ) → length m ≡ 16 → Ring (schedule m 16) (lanes i v) (16 + q) → Ring (schedule m 16) (lanes i w) (16 + t)
 
 pub going-on : (v w : List Four) (q t p2 p7 p15 : ℕ) (x : Four) → t < 16 → p2 ≡ (t + 14) % 16 → p7 ≡ (t + 9) % 16 → p15 ≡ (t + 1) % 16
-    → ((i : ℕ) → at i x ≡ σ1 (at i (getD w p2 (all 0))) ⊞ at i (getD w p7 (all 0)) ⊞ σ0 (at i (getD w p15 (all 0))) ⊞ at i (getD w t (all 0)))
+    → ((i : ℕ) → wordIn i x ≡ σ1 (wordIn i (getD w p2 (all 0))) ⊞ wordIn i (getD w p7 (all 0)) ⊞ σ0 (wordIn i (getD w p15 (all 0))) ⊞ wordIn i (getD w t (all 0)))
     → Going v q w t → Going v q (set w t x) (t + 1)
 going-on v w q t p2 p7 p15 x h e2 e7 e15 e g i m lm r =
     let a2 : (16 + t + 14) % 16 ≡ p2 = omega arith in
@@ -92,7 +92,7 @@ going-on v w q t p2 p7 p15 x h e2 e7 e15 e g i m lm r =
     let a16 : (16 + t) % 16 ≡ t = omega arith in
     let b : 16 + t + 1 ≡ 16 + (t + 1) = omega arith in
     let f = rw (lanes-get i w p2, lanes-get i w p7, lanes-get i w p15, lanes-get i w t) at (e i) in
-    let o = overwritten m (lanes i w) (16 + t) (at i x) lm (omega arith) (omega arith) (g i m lm r) (rw (a2, a7, a15, a16) f) in
+    let o = overwritten m (lanes i w) (16 + t) (wordIn i x) lm (omega arith) (omega arith) (g i m lm r) (rw (a2, a7, a15, a16) f) in
     rw lanes-set (rw (a16, b) at o)
 
 ring-last : (m w : List ℕ) → length m ≡ 16 → Ring (schedule m 16) w 32 → w ≡ drop 16 (schedule m 16)
@@ -105,11 +105,11 @@ going-all v1 v2 v3 w m lm g1 g2 g3 g4 i =
     ring-last (lanes i m) (lanes i w) l (g4 i (lanes i m) l (g3 i (lanes i m) l (g2 i (lanes i m) l (g1 i (lanes i m) l (ring-first (lanes i m) l)))))
 
 -- Rounds, each by the sum of its constant and its word.
-pub at-sum : (i k : ℕ) (x y z : Four) → y ≡ all k → z ≡ each2 _⊞_ y x → at i z ≡ k ⊞ at i x
-at-sum i k x y z e f = rw (f, at-each2, e, at-all)
+pub wordIn-sum : (i k : ℕ) (x y z : Four) → y ≡ all k → z ≡ lanewise2 _⊞_ y x → wordIn i z ≡ k ⊞ wordIn i x
+wordIn-sum i k x y z e f = rw (f, wordIn-lanewise2, e, wordIn-all)
 
 pub round-on : (i : ℕ) (s r q : State) (k : List ℕ) (w : List Four) (t y : ℕ) → t < length k → t < length w → r ≡ roundsBy s (sums k (lanes i w)) t
-    → y ≡ getD k t 0 ⊞ at i (getD w t (all 0)) → q ≡ round r y 0 → q ≡ roundsBy s (sums k (lanes i w)) (t + 1)
+    → y ≡ getD k t 0 ⊞ wordIn i (getD w t (all 0)) → q ≡ round r y 0 → q ≡ roundsBy s (sums k (lanes i w)) (t + 1)
 round-on i s r q k w t y h l e f g =
     let n = lanes-length i w in
     let a = sums-at k (lanes i w) t h (omega arith) in
@@ -138,7 +138,7 @@ four-stages s r0 r1 r2 r3 m w1 w2 w3 lm e0 f1 e1 f2 e2 f3 e3 =
 -- The known sums, with no word added.
 pub lanes-none : (i : ℕ) (x : Four) → x ≡ all 0 → lanes i (replicate 16 x) ≡ replicate 16 0
 unfolding lanes
-lanes-none i x e = rw e (simp at-all)
+lanes-none i x e = rw e (simp wordIn-all)
 
 with-none : (sums (window known 0) (replicate 16 0) ≡ window known 0) × (sums (window known 16) (replicate 16 0) ≡ window known 16)
     × (sums (window known 32) (replicate 16 0) ≡ window known 32) × (sums (window known 48) (replicate 16 0) ≡ window known 48)
@@ -152,31 +152,31 @@ four-known s r0 r1 r2 r3 z e e0 e1 e2 e3 =
     padding-rounds s r0 r1 r2 r3 (e0 ∙ rw (e, with-none .0)) (e1 ∙ rw (e, with-none .1)) (e2 ∙ rw (e, with-none .2)) (e3 ∙ rw (e, with-none .3))
 
 -- Four nodes' words, side by side.
-pub at-words : (j i p q r s : ℕ) (n : Nodes) → p ≡ word (n .a) i → q ≡ word (n .b) i → r ≡ word (n .c) i → s ≡ word (n .d) i
-    → at j (record { a = p; b = q; c = r; d = s }) ≡ word (node j n) i
-unfolding at node
-at-words j i p q r s n ep eq er es = rw (ep, eq, er, es) (lane-map (λ (l : List ℕ). word l i) j (n .a) (n .b) (n .c) (n .d))
+pub wordIn-words : (j i p q r s : ℕ) (n : Nodes) → p ≡ word (n .a) i → q ≡ word (n .b) i → r ≡ word (n .c) i → s ≡ word (n .d) i
+    → wordIn j (record { a = p; b = q; c = r; d = s }) ≡ word (node j n) i
+unfolding wordIn node
+wordIn-words j i p q r s n ep eq er es = rw (ep, eq, er, es) (lane-map (λ (l : List ℕ). word l i) j (n .a) (n .b) (n .c) (n .d))
 
 -- One word more of each lane.
-pub words-on : (i o : ℕ) (p : List ℕ) (w : List Four) (t : ℕ) (x : Four) → t < length w → take t (lanes i w) ≡ words p o t → at i x ≡ word p (o + 4 * t)
+pub words-on : (i o : ℕ) (p : List ℕ) (w : List Four) (t : ℕ) (x : Four) → t < length w → take t (lanes i w) ≡ words p o t → wordIn i x ≡ word p (o + 4 * t)
     → take (t + 1) (lanes i (set w t x)) ≡ words p o (t + 1)
 words-on i o p w t x h q e =
     let n = lanes-length i w in
     rw (lanes-set, e) (words-step p (lanes i w) o t (omega arith) q)
 
 -- The words of two nodes, one after the other.
-pub left-on : (i : ℕ) (p : List ℕ) (w : List Four) (t : ℕ) (x : Four) → t < length w → take t (lanes i w) ≡ words p 0 t → at i x ≡ word p (4 * t)
+pub left-on : (i : ℕ) (p : List ℕ) (w : List Four) (t : ℕ) (x : Four) → t < length w → take t (lanes i w) ≡ words p 0 t → wordIn i x ≡ word p (4 * t)
     → take (t + 1) (lanes i (set w t x)) ≡ words p 0 (t + 1)
 left-on i p w t x h q e = words-on i 0 p w t x h q (rw zero-add e)
 
 pub right-on : (i : ℕ) (f p : List ℕ) (w : List Four) (t : ℕ) (x : Four) → 8 ≤ t → t < length w → take t (lanes i w) ≡ f ++ words p 0 (t - 8)
-    → at i x ≡ word p (4 * t - 32) → take (t + 1) (lanes i (set w t x)) ≡ f ++ words p 0 (t + 1 - 8)
+    → wordIn i x ≡ word p (4 * t - 32) → take (t + 1) (lanes i (set w t x)) ≡ f ++ words p 0 (t + 1 - 8)
 unfolding words
 right-on i f p w t x l h q e =
     let n = lanes-length i w in
     let a : t + 1 - 8 ≡ suc (t - 8) = omega arith in
     let b : 0 + 4 * (t - 8) ≡ 4 * t - 32 = omega arith in
-    let g = grow (lanes i w) t (at i x) (omega arith) in
+    let g = grow (lanes i w) t (wordIn i x) (omega arith) in
     rw (lanes-set, a, b) (g ∙ ap₂ (λ (u : List ℕ) (v : ℕ). u ++ v ∷ []) q e ∙ append-assoc f (words p 0 (t - 8)) (word p (4 * t - 32) ∷ []))
 
 pub both : (i : ℕ) (p q : List ℕ) (v w : List Four) (t u : ℕ) → u ≡ 8 → t ≡ 16 → length w ≡ 16 → take u (lanes i v) ≡ words p 0 u
@@ -191,7 +191,7 @@ both i p q v w t u eu et lw a b =
 pub lanes-digest : (i : ℕ) (s : State4) (one none bits : Four) → one ≡ all 0x8000_0000 → none ≡ all 0 → bits ≡ all 256
     → lanes i (s .a ∷ s .b ∷ s .c ∷ s .d ∷ s .e ∷ s .f ∷ s .g ∷ s .h ∷ one ∷ none ∷ none ∷ none ∷ none ∷ none ∷ none ∷ bits ∷ []) ≡ digestWords (lane i s)
 unfolding lanes lane value digestWords
-lanes-digest i s one none bits p q r = rw (p, q, r) (simp at-all)
+lanes-digest i s one none bits p q r = rw (p, q, r) (simp wordIn-all)
 
 pub compress-block : (s : State) (m : List ℕ) → digestWords (compress s m) ≡ words (pad (digest (compress s m))) 0 16
 unfolding digestWords compress plus _⊞_
@@ -205,7 +205,7 @@ lane-joined l r m x y z hl hr em ex ey ez =
     cc (compress-block x (words (padding 64) 0 16), digest-hashed y, joined l r hl hr)
 
 pub lane-digest : (i : ℕ) (s : State4) → inLane i (digest (lane 0 s)) (digest (lane 1 s)) (digest (lane 2 s)) (digest (lane 3 s)) ≡ digest (lane i s)
-unfolding inLane lane at
+unfolding inLane lane wordIn
 lane-digest zero s = refl
 lane-digest (suc zero) s = refl
 lane-digest (suc (suc zero)) s = refl

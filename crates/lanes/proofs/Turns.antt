@@ -20,7 +20,7 @@ use Rattle.lanes.specs.declared.compress.Four.{Four}
 use Rattle.lanes.specs.declared.compress.State4.{State4}
 use Rattle.lanes.specs.declared.Nodes.{Nodes}
 use Rattle.lanes.specs.declared.messages.Counts.{Counts}
-use Rattle.lanes.specs.Lanes.{inLane, at, node, nodes, lane, lanes, value, digestWords, four, count, onward, larger, after}
+use Rattle.lanes.specs.Lanes.{inLane, wordIn, node, nodes, lane, lanes, value, digestWords, four, count, beforeEnd, larger, after}
 use Rattle.lanes.proofs.SideBySide.{lane-all, lane-map, lanes-length, lanes-set, compress-block}
 
 -- The larger of two, and of four.
@@ -47,51 +47,51 @@ four-fit x y z u k h =
     (p .0, p .1, q .0, q .1)
 
 -- The new value, or the old one: of words, and of hash values.
-pub onward-new : {A : Type 0} (n i : ℕ) (x y : A) → i < n → x ≡ onward n i x y
-unfolding onward
-onward-new n i x y h = simp (lt-leb n i h)
+pub before-end-new : {A : Type 0} (n i : ℕ) (x y : A) → i < n → x ≡ beforeEnd n i x y
+unfolding beforeEnd
+before-end-new n i x y h = simp (lt-leb n i h)
 
-pub onward-old : {A : Type 0} (n i : ℕ) (x y : A) → n ≤ i → y ≡ onward n i x y
-unfolding onward
-onward-old n i x y h = simp (le-leb n i h)
+pub before-end-old : {A : Type 0} (n i : ℕ) (x y : A) → n ≤ i → y ≡ beforeEnd n i x y
+unfolding beforeEnd
+before-end-old n i x y h = simp (le-leb n i h)
 
-pub at-onward : (l i p q r s : ℕ) (n : Counts) (x y : Four) → p ≡ onward (n .a) i (x .a) (y .a) → q ≡ onward (n .b) i (x .b) (y .b)
-    → r ≡ onward (n .c) i (x .c) (y .c) → s ≡ onward (n .d) i (x .d) (y .d) → at l (record { a = p; b = q; c = r; d = s }) ≡ onward (count l n) i (at l x) (at l y)
-unfolding at count inLane
-at-onward zero i p q r s n x y ep eq er es = ep
-at-onward (suc zero) i p q r s n x y ep eq er es = eq
-at-onward (suc (suc zero)) i p q r s n x y ep eq er es = er
-at-onward (suc (suc (suc l))) i p q r s n x y ep eq er es = es
+pub wordIn-before-end : (l i p q r s : ℕ) (n : Counts) (x y : Four) → p ≡ beforeEnd (n .a) i (x .a) (y .a) → q ≡ beforeEnd (n .b) i (x .b) (y .b)
+    → r ≡ beforeEnd (n .c) i (x .c) (y .c) → s ≡ beforeEnd (n .d) i (x .d) (y .d) → wordIn l (record { a = p; b = q; c = r; d = s }) ≡ beforeEnd (count l n) i (wordIn l x) (wordIn l y)
+unfolding wordIn count inLane
+wordIn-before-end zero i p q r s n x y ep eq er es = ep
+wordIn-before-end (suc zero) i p q r s n x y ep eq er es = eq
+wordIn-before-end (suc (suc zero)) i p q r s n x y ep eq er es = er
+wordIn-before-end (suc (suc (suc l))) i p q r s n x y ep eq er es = es
 
-value-onward : (n i : ℕ) (x y : State)
-    → value (onward n i (x .a) (y .a)) (onward n i (x .b) (y .b)) (onward n i (x .c) (y .c)) (onward n i (x .d) (y .d)) (onward n i (x .e) (y .e)) (onward n i (x .f) (y .f)) (onward n i (x .g) (y .g)) (onward n i (x .h) (y .h)) ≡ onward n i x y
-unfolding value onward
-value-onward n i x y = by (leb n i)
+value-before-end : (n i : ℕ) (x y : State)
+    → value (beforeEnd n i (x .a) (y .a)) (beforeEnd n i (x .b) (y .b)) (beforeEnd n i (x .c) (y .c)) (beforeEnd n i (x .d) (y .d)) (beforeEnd n i (x .e) (y .e)) (beforeEnd n i (x .f) (y .f)) (beforeEnd n i (x .g) (y .g)) (beforeEnd n i (x .h) (y .h)) ≡ beforeEnd n i x y
+unfolding value beforeEnd
+value-before-end n i x y = by (leb n i)
   where
     by : (b : Bool) → _≡_ {A = State} (record { a = cond b (y .a) (x .a); b = cond b (y .b) (x .b); c = cond b (y .c) (x .c); d = cond b (y .d) (x .d); e = cond b (y .e) (x .e); f = cond b (y .f) (x .f); g = cond b (y .g) (x .g); h = cond b (y .h) (x .h) }) (cond b y x)
     by true = refl
     by false = refl
 
-pub lane-onward : (l i : ℕ) (n : Counts) (x y z : State4) → at l (z .a) ≡ onward (count l n) i (at l (x .a)) (at l (y .a))
-    → at l (z .b) ≡ onward (count l n) i (at l (x .b)) (at l (y .b))
-    → at l (z .c) ≡ onward (count l n) i (at l (x .c)) (at l (y .c))
-    → at l (z .d) ≡ onward (count l n) i (at l (x .d)) (at l (y .d))
-    → at l (z .e) ≡ onward (count l n) i (at l (x .e)) (at l (y .e))
-    → at l (z .f) ≡ onward (count l n) i (at l (x .f)) (at l (y .f))
-    → at l (z .g) ≡ onward (count l n) i (at l (x .g)) (at l (y .g))
-    → at l (z .h) ≡ onward (count l n) i (at l (x .h)) (at l (y .h))
-    → lane l z ≡ onward (count l n) i (lane l x) (lane l y)
+pub lane-before-end : (l i : ℕ) (n : Counts) (x y z : State4) → wordIn l (z .a) ≡ beforeEnd (count l n) i (wordIn l (x .a)) (wordIn l (y .a))
+    → wordIn l (z .b) ≡ beforeEnd (count l n) i (wordIn l (x .b)) (wordIn l (y .b))
+    → wordIn l (z .c) ≡ beforeEnd (count l n) i (wordIn l (x .c)) (wordIn l (y .c))
+    → wordIn l (z .d) ≡ beforeEnd (count l n) i (wordIn l (x .d)) (wordIn l (y .d))
+    → wordIn l (z .e) ≡ beforeEnd (count l n) i (wordIn l (x .e)) (wordIn l (y .e))
+    → wordIn l (z .f) ≡ beforeEnd (count l n) i (wordIn l (x .f)) (wordIn l (y .f))
+    → wordIn l (z .g) ≡ beforeEnd (count l n) i (wordIn l (x .g)) (wordIn l (y .g))
+    → wordIn l (z .h) ≡ beforeEnd (count l n) i (wordIn l (x .h)) (wordIn l (y .h))
+    → lane l z ≡ beforeEnd (count l n) i (lane l x) (lane l y)
 unfolding lane value
-lane-onward l i n x y z ea eb ec ed ee ef eg eh =
-    rw (ea, eb, ec, ed, ee, ef, eg, eh) (value-onward (count l n) i (lane l x) (lane l y))
+lane-before-end l i n x y z ea eb ec ed ee ef eg eh =
+    rw (ea, eb, ec, ed, ee, ef, eg, eh) (value-before-end (count l n) i (lane l x) (lane l y))
 
-pub all-onward : (l i : ℕ) (n : Counts) (x y : State) → i < n .a → i < n .b → i < n .c → i < n .d → x ≡ onward (count l n) i x y
+pub all-before-end : (l i : ℕ) (n : Counts) (x y : State) → i < n .a → i < n .b → i < n .c → i < n .d → x ≡ beforeEnd (count l n) i x y
 unfolding count
-all-onward l i n x y ha hb hc hd = onward-new (count l n) i x y (lane-all (λ (k : ℕ). i < k) l ha hb hc hd)
+all-before-end l i n x y ha hb hc hd = before-end-new (count l n) i x y (lane-all (λ (k : ℕ). i < k) l ha hb hc hd)
 
 values-of : (l : ℕ) (p q x y : State)
-    → value (at l (four (p .a) (q .a) (x .a) (y .a))) (at l (four (p .b) (q .b) (x .b) (y .b))) (at l (four (p .c) (q .c) (x .c) (y .c))) (at l (four (p .d) (q .d) (x .d) (y .d))) (at l (four (p .e) (q .e) (x .e) (y .e))) (at l (four (p .f) (q .f) (x .f) (y .f))) (at l (four (p .g) (q .g) (x .g) (y .g))) (at l (four (p .h) (q .h) (x .h) (y .h))) ≡ inLane l p q x y
-unfolding value at inLane four
+    → value (wordIn l (four (p .a) (q .a) (x .a) (y .a))) (wordIn l (four (p .b) (q .b) (x .b) (y .b))) (wordIn l (four (p .c) (q .c) (x .c) (y .c))) (wordIn l (four (p .d) (q .d) (x .d) (y .d))) (wordIn l (four (p .e) (q .e) (x .e) (y .e))) (wordIn l (four (p .f) (q .f) (x .f) (y .f))) (wordIn l (four (p .g) (q .g) (x .g) (y .g))) (wordIn l (four (p .h) (q .h) (x .h) (y .h))) ≡ inLane l p q x y
+unfolding value wordIn inLane four
 values-of zero p q x y = refl
 values-of (suc zero) p q x y = refl
 values-of (suc (suc zero)) p q x y = refl
@@ -108,7 +108,7 @@ lane-values l p q x y z ea eb ec ed ee ef eg eh = rw (ea, eb, ec, ed, ee, ef, eg
 pub column-on : (l t : ℕ) (a b c d : List ℕ) (w : List Four) → t < length w → length a ≡ 16 → length b ≡ 16 → length c ≡ 16 → length d ≡ 16 → t < 16
     → take t (lanes l w) ≡ take t (inLane l a b c d)
     → take (t + 1) (lanes l (set w t (record { a = getD a t 0; b = getD b t 0; c = getD c t 0; d = getD d t 0 }))) ≡ take (t + 1) (inLane l a b c d)
-unfolding at
+unfolding wordIn
 column-on l t a b c d w h ha hb hc hd ht q =
     let n = lanes-length l w in
     let p : length (inLane l a b c d) ≡ 16 = lane-all (λ (m : List ℕ). length m ≡ 16) l ha hb hc hd in
@@ -134,17 +134,17 @@ after-upto : (m : List ℕ) (i : ℕ) → i ≤ blocks m → H (pad m) i ≡ aft
 unfolding after
 after-upto m i h = ap (λ (k : ℕ). H (pad m) k) (by (leb (blocks m) i) refl)
   where
-    by : (b : Bool) → leb (blocks m) i ≡ b → i ≡ onward (blocks m) i i (blocks m)
+    by : (b : Bool) → leb (blocks m) i ≡ b → i ≡ beforeEnd (blocks m) i i (blocks m)
     by true e =
         let l = leb-true (blocks m) i e in
         let g : i ≡ blocks m = omega arith in
-        g ∙ onward-old (blocks m) i i (blocks m) l
-    by false e = onward-new (blocks m) i i (blocks m) (leb-false (blocks m) i e)
+        g ∙ before-end-old (blocks m) i i (blocks m) l
+    by false e = before-end-new (blocks m) i i (blocks m) (leb-false (blocks m) i e)
 
 pub after-done : (m : List ℕ) (i : ℕ) → blocks m ≤ i → after m i ≡ hashValue m
 unfolding after blocks
 after-done m i h =
-    ap (λ (k : ℕ). H (pad m) k) (sym (onward-old (blocks m) i i (blocks m) h)) ∙ H-done m (H (pad m) (blocks m)) (blocks m) refl refl
+    ap (λ (k : ℕ). H (pad m) k) (sym (before-end-old (blocks m) i i (blocks m) h)) ∙ H-done m (H (pad m) (blocks m)) (blocks m) refl refl
 
 pub after-none : (m : List ℕ) → H0 ≡ after m 0
 unfolding H blocks
@@ -155,16 +155,16 @@ unfolding blocks
 after-more m i h l =
     ap₂ compress (sym (after-upto m i (omega arith))) (block-within m i h l) ∙ H-step (pad m) i ∙ after-upto m (i + 1) (omega arith)
 
-pub after-on : (m : List ℕ) (i : ℕ) → length m ≤ MAX-INPUT → onward (blocks m) i (compress (after m i) (blockOf m i)) (after m i) ≡ after m (i + 1)
+pub after-on : (m : List ℕ) (i : ℕ) → length m ≤ MAX-INPUT → beforeEnd (blocks m) i (compress (after m i) (blockOf m i)) (after m i) ≡ after m (i + 1)
 after-on m i h = by (leb (blocks m) i) refl
   where
-    by : (b : Bool) → leb (blocks m) i ≡ b → onward (blocks m) i (compress (after m i) (blockOf m i)) (after m i) ≡ after m (i + 1)
+    by : (b : Bool) → leb (blocks m) i ≡ b → beforeEnd (blocks m) i (compress (after m i) (blockOf m i)) (after m i) ≡ after m (i + 1)
     by true e =
         let l = leb-true (blocks m) i e in
-        sym (onward-old (blocks m) i (compress (after m i) (blockOf m i)) (after m i) l) ∙ after-done m i l ∙ sym (after-done m (i + 1) (omega arith))
+        sym (before-end-old (blocks m) i (compress (after m i) (blockOf m i)) (after m i) l) ∙ after-done m i l ∙ sym (after-done m (i + 1) (omega arith))
     by false e =
         let l = leb-false (blocks m) i e in
-        sym (onward-new (blocks m) i (compress (after m i) (blockOf m i)) (after m i) l) ∙ after-more m i h l
+        sym (before-end-new (blocks m) i (compress (after m i) (blockOf m i)) (after m i) l) ∙ after-more m i h l
 
 -- A lane's double hash: y is the message's hash value, and z that of its digest.
 last-block : (m : List ℕ) → compress (H (pad m) ((length m + 72) / 64 - 1)) (words (pad m) (64 * ((length m + 72) / 64 - 1)) 16) ≡ hashValue m

@@ -23,17 +23,17 @@ unfoldable pub node : ℕ → Nodes → List ℕ
 node i n = inLane i (n .a) (n .b) (n .c) (n .d)
 
 -- The word, the block and the hash value in lane i.
-unfoldable pub at : ℕ → Four → ℕ
-at i x = inLane i (x .a) (x .b) (x .c) (x .d)
+unfoldable pub wordIn : ℕ → Four → ℕ
+wordIn i x = inLane i (x .a) (x .b) (x .c) (x .d)
 
 unfoldable pub lanes : ℕ → List Four → List ℕ
-lanes i m = map (at i) m
+lanes i m = map (wordIn i) m
 
 unfoldable pub value : ℕ → ℕ → ℕ → ℕ → ℕ → ℕ → ℕ → ℕ → State
 value a b c d e f g h = record { a = a; b = b; c = c; d = d; e = e; f = f; g = g; h = h }
 
 unfoldable pub lane : ℕ → State4 → State
-lane i s = value (at i (s .a)) (at i (s .b)) (at i (s .c)) (at i (s .d)) (at i (s .e)) (at i (s .f)) (at i (s .g)) (at i (s .h))
+lane i s = value (wordIn i (s .a)) (wordIn i (s .b)) (wordIn i (s .c)) (wordIn i (s .d)) (wordIn i (s .e)) (wordIn i (s .f)) (wordIn i (s .g)) (wordIn i (s .h))
 
 -- A word in all lanes, four words, an operation in each lane, and four nodes in their lanes.
 unfoldable pub all : ℕ → Four
@@ -42,14 +42,14 @@ all k = record { a = k; b = k; c = k; d = k }
 unfoldable pub four : ℕ → ℕ → ℕ → ℕ → Four
 four a b c d = record { a = a; b = b; c = c; d = d }
 
-unfoldable pub each : (ℕ → ℕ) → Four → Four
-each f x = record { a = f (x .a); b = f (x .b); c = f (x .c); d = f (x .d) }
+unfoldable pub lanewise : (ℕ → ℕ) → Four → Four
+lanewise f x = record { a = f (x .a); b = f (x .b); c = f (x .c); d = f (x .d) }
 
-unfoldable pub each2 : (ℕ → ℕ → ℕ) → Four → Four → Four
-each2 f x y = record { a = f (x .a) (y .a); b = f (x .b) (y .b); c = f (x .c) (y .c); d = f (x .d) (y .d) }
+unfoldable pub lanewise2 : (ℕ → ℕ → ℕ) → Four → Four → Four
+lanewise2 f x y = record { a = f (x .a) (y .a); b = f (x .b) (y .b); c = f (x .c) (y .c); d = f (x .d) (y .d) }
 
-unfoldable pub each3 : (ℕ → ℕ → ℕ → ℕ) → Four → Four → Four → Four
-each3 f x y z = record { a = f (x .a) (y .a) (z .a); b = f (x .b) (y .b) (z .b); c = f (x .c) (y .c) (z .c); d = f (x .d) (y .d) (z .d) }
+unfoldable pub lanewise3 : (ℕ → ℕ → ℕ → ℕ) → Four → Four → Four → Four
+lanewise3 f x y z = record { a = f (x .a) (y .a) (z .a); b = f (x .b) (y .b) (z .b); c = f (x .c) (y .c) (z .c); d = f (x .d) (y .d) (z .d) }
 
 unfoldable pub nodes : List ℕ → List ℕ → List ℕ → List ℕ → Nodes
 nodes a b c d = record { a = a; b = b; c = c; d = d }
@@ -66,12 +66,12 @@ Fit a b c d = (length a ≤ MAX-INPUT) × (length b ≤ MAX-INPUT) × (length c 
 unfoldable pub count : ℕ → Counts → ℕ
 count i n = inLane i (n .a) (n .b) (n .c) (n .d)
 
-unfoldable pub onward : {A : Type 0} → ℕ → ℕ → A → A → A
-onward n i new old = cond (leb n i) old new
+unfoldable pub beforeEnd : {A : Type 0} → ℕ → ℕ → A → A → A
+beforeEnd n i new old = cond (leb n i) old new
 
 unfoldable pub larger : ℕ → ℕ → ℕ
 larger x y = cond (leb x y) y x
 
 -- The hash value after i blocks of a padded message, or after all where it has fewer.
 unfoldable pub after : List ℕ → ℕ → State
-after m i = H (pad m) (onward (blocks m) i i (blocks m))
+after m i = H (pad m) (beforeEnd (blocks m) i i (blocks m))

@@ -48,7 +48,7 @@ pub(crate) fn all(k: u32) -> Four
 }
 
 fn plus(x: Four, y: Four) -> Four
-    ensures { λ r. ⌜ r ≡ L.each2 _⊞_ x y ⌝ }
+    ensures { λ r. ⌜ r ≡ L.lanewise2 _⊞_ x y ⌝ }
 {
     Four {
         a: wrapping_add_u32(x.a, y.a),
@@ -97,7 +97,7 @@ fn maj(x: u32, y: u32, z: u32) -> u32
 }
 
 fn big_sigma0s(x: Four) -> Four
-    ensures { λ r. ⌜ r ≡ L.each F.Σ0 x ⌝ }
+    ensures { λ r. ⌜ r ≡ L.lanewise F.Σ0 x ⌝ }
 {
     Four {
         a: big_sigma0(x.a),
@@ -108,7 +108,7 @@ fn big_sigma0s(x: Four) -> Four
 }
 
 fn big_sigma1s(x: Four) -> Four
-    ensures { λ r. ⌜ r ≡ L.each F.Σ1 x ⌝ }
+    ensures { λ r. ⌜ r ≡ L.lanewise F.Σ1 x ⌝ }
 {
     Four {
         a: big_sigma1(x.a),
@@ -119,7 +119,7 @@ fn big_sigma1s(x: Four) -> Four
 }
 
 fn small_sigma0s(x: Four) -> Four
-    ensures { λ r. ⌜ r ≡ L.each F.σ0 x ⌝ }
+    ensures { λ r. ⌜ r ≡ L.lanewise F.σ0 x ⌝ }
 {
     Four {
         a: small_sigma0(x.a),
@@ -130,7 +130,7 @@ fn small_sigma0s(x: Four) -> Four
 }
 
 fn small_sigma1s(x: Four) -> Four
-    ensures { λ r. ⌜ r ≡ L.each F.σ1 x ⌝ }
+    ensures { λ r. ⌜ r ≡ L.lanewise F.σ1 x ⌝ }
 {
     Four {
         a: small_sigma1(x.a),
@@ -141,7 +141,7 @@ fn small_sigma1s(x: Four) -> Four
 }
 
 fn chs(x: Four, y: Four, z: Four) -> Four
-    ensures { λ r. ⌜ r ≡ L.each3 F.Ch x y z ⌝ }
+    ensures { λ r. ⌜ r ≡ L.lanewise3 F.Ch x y z ⌝ }
 {
     Four {
         a: ch(x.a, y.a, z.a),
@@ -152,7 +152,7 @@ fn chs(x: Four, y: Four, z: Four) -> Four
 }
 
 fn majs(x: Four, y: Four, z: Four) -> Four
-    ensures { λ r. ⌜ r ≡ L.each3 F.Maj x y z ⌝ }
+    ensures { λ r. ⌜ r ≡ L.lanewise3 F.Maj x y z ⌝ }
 {
     Four {
         a: maj(x.a, y.a, z.a),
@@ -164,7 +164,7 @@ fn majs(x: Four, y: Four, z: Four) -> Four
 
 // The schedule's words from those that stand 2, 7, 15 and 16 places before them.
 fn next_words(w2: Four, w7: Four, w15: Four, w16: Four) -> Four
-    ensures { λ r. ⌜ ((i : ℕ) → L.at i r ≡ F.σ1 (L.at i w2) ⊞ L.at i w7 ⊞ F.σ0 (L.at i w15) ⊞ L.at i w16) ⌝ }
+    ensures { λ r. ⌜ ((i : ℕ) → L.wordIn i r ≡ F.σ1 (L.wordIn i w2) ⊞ L.wordIn i w7 ⊞ F.σ0 (L.wordIn i w15) ⊞ L.wordIn i w16) ⌝ }
 {
     plus(plus(plus(small_sigma1s(w2), w7), small_sigma0s(w15)), w16)
 }
@@ -190,7 +190,7 @@ fn next_sixteen(m: [Four; 16]) -> [Four; 16]
 
 // One turn of step 3, by the sums of the constant and the words.
 fn round(s: State4, x: Four) -> State4
-    ensures { λ r. ⌜ ((i : ℕ) → L.lane i r ≡ F.round (L.lane i s) (L.at i x) 0) ⌝ }
+    ensures { λ r. ⌜ ((i : ℕ) → L.lane i r ≡ F.round (L.lane i s) (L.wordIn i x) 0) ⌝ }
 {
     let a = s.a;
     let b = s.b;

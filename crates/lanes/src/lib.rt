@@ -41,7 +41,7 @@ fn word_at(s: [u8; 32], i: usize) -> u32
 // Four nodes' words, side by side.
 fn words(n: Nodes, i: usize) -> Four
     requires { ⌜ i + 4 ≤ 32 ⌝ }
-    ensures { λ r. ⌜ ((j : ℕ) → L.at j r ≡ F.word (L.node j n) i) ⌝ }
+    ensures { λ r. ⌜ ((j : ℕ) → L.wordIn j r ≡ F.word (L.node j n) i) ⌝ }
 {
     let a = n.a;
     let b = n.b;

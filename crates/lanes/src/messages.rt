@@ -93,7 +93,7 @@ fn word_in(s: &[u8], at: usize) -> u32
 
 fn words_in(a: &[u8], b: &[u8], c: &[u8], d: &[u8], at: usize) -> Four
     requires { ⌜ (at + 4 ≤ length (now a)) × (at + 4 ≤ length (now b)) × (at + 4 ≤ length (now c)) × (at + 4 ≤ length (now d)) ⌝ }
-    ensures { λ r. ⌜ ((l : ℕ) → L.at l r ≡ F.word (L.inLane l (now (a .entry)) (now (b .entry)) (now (c .entry)) (now (d .entry))) at) ⌝ }
+    ensures { λ r. ⌜ ((l : ℕ) → L.wordIn l r ≡ F.word (L.inLane l (now (a .entry)) (now (b .entry)) (now (c .entry)) (now (d .entry))) at) ⌝ }
 {
     Four {
         a: word_in(a, at),
@@ -139,13 +139,13 @@ fn blocks(a: &[u8], b: &[u8], c: &[u8], d: &[u8], i: usize) -> [Four; 16]
 
 // The new word, or the old one where the n blocks are done.
 fn chosen(new: u32, old: u32, n: usize, i: usize) -> u32
-    ensures { λ r. ⌜ r ≡ L.onward n i new old ⌝ }
+    ensures { λ r. ⌜ r ≡ L.beforeEnd n i new old ⌝ }
 {
     if i < n { new } else { old }
 }
 
 fn chosen4(new: Four, old: Four, n: Counts, i: usize) -> Four
-    ensures { λ r. ⌜ ((l : ℕ) → L.at l r ≡ L.onward (L.count l n) i (L.at l new) (L.at l old)) ⌝ }
+    ensures { λ r. ⌜ ((l : ℕ) → L.wordIn l r ≡ L.beforeEnd (L.count l n) i (L.wordIn l new) (L.wordIn l old)) ⌝ }
 {
     Four {
         a: chosen(new.a, old.a, n.a, i),
@@ -156,8 +156,8 @@ fn chosen4(new: Four, old: Four, n: Counts, i: usize) -> Four
 }
 
 // In each lane the new hash value, or the old one where the blocks are done.
-fn onward(new: State4, old: State4, n: Counts, i: usize) -> State4
-    ensures { λ r. ⌜ ((l : ℕ) → L.lane l r ≡ L.onward (L.count l n) i (L.lane l new) (L.lane l old)) ⌝ }
+fn before_end(new: State4, old: State4, n: Counts, i: usize) -> State4
+    ensures { λ r. ⌜ ((l : ℕ) → L.lane l r ≡ L.beforeEnd (L.count l n) i (L.lane l new) (L.lane l old)) ⌝ }
 {
     State4 {
         a: chosen4(new.a, old.a, n, i),
@@ -173,7 +173,7 @@ fn onward(new: State4, old: State4, n: Counts, i: usize) -> State4
 
 // The same at once where all lanes go on, as they mostly do.
 fn kept_where_done(new: State4, old: State4, n: Counts, i: usize) -> State4
-    ensures { λ r. ⌜ ((l : ℕ) → L.lane l r ≡ L.onward (L.count l n) i (L.lane l new) (L.lane l old)) ⌝ }
+    ensures { λ r. ⌜ ((l : ℕ) → L.lane l r ≡ L.beforeEnd (L.count l n) i (L.lane l new) (L.lane l old)) ⌝ }
 {
     if i < n.a {
         if i < n.b {
@@ -184,7 +184,7 @@ fn kept_where_done(new: State4, old: State4, n: Counts, i: usize) -> State4
             }
         }
     }
-    onward(new, old, n, i)
+    before_end(new, old, n, i)
 }
 
 // The hash values after so many blocks of each message, or after all where it has fewer.

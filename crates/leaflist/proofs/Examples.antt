@@ -6,7 +6,7 @@ use Rattle.format.specs.Parse.{each, many, whole}
 use Rattle.format.specs.Field.{bytes, byte, varint}
 use Rattle.format.specs.Level.{holds, offsetField, flagField, kindField, carriedField, leafField, levelField, levelOfTurn}
 use Rattle.format.specs.Bump.{blockField, heightUpTo, bumpUpTo}
-use Rattle.path.specs.Loose.{looseCarried, looseLeaf}
+use Rattle.path.specs.Unchecked.{uncheckedCarried, uncheckedLeaf}
 use Rattle.spv.specs.Marks.{after}
 use Rattle.spv.specs.Result.{accepted, refused, carrying}
 use Rattle.levels.specs.Places.{offsetAt, leafPlaces, levelLeaves, nextLevel}
@@ -25,5 +25,5 @@ pub listed : (building falling 2 ≡ accepted (row 0 1 5 ∷ row 0 3 3 ∷ []))
     × (building (0 ∷ 0 ∷ []) 1 ≡ refused (carrying 4 1))
     × (findRow 0 3 (row 0 1 5 ∷ row 0 3 3 ∷ []) ≡ At 3)
     × (findRow 1 3 (row 0 1 5 ∷ row 0 3 3 ∷ []) ≡ Nowhere)
-unfolding varint byte bytes many each whole holds offsetField flagField kindField carriedField leafField levelField levelOfTurn blockField heightUpTo bumpUpTo looseCarried looseLeaf after offsetAt insert sorted leafPlaces levelLeaves nextLevel listFrom wordsOf fitting building wordsIn findRow
+unfolding varint byte bytes many each whole holds offsetField flagField kindField carriedField leafField levelField levelOfTurn blockField heightUpTo bumpUpTo uncheckedCarried uncheckedLeaf after offsetAt insert sorted leafPlaces levelLeaves nextLevel listFrom wordsOf fitting building wordsIn findRow
 listed = (refl, refl, refl, refl, refl, refl)

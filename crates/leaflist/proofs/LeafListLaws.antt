@@ -8,12 +8,12 @@ use native.Mathlib.Omega.{arith}
 use borrow.Author.Tests.{eq-eqb, ne-eqb, lt-ltb, le-ltb, ltb-true, ltb-false}
 use Rattle.format.specs.declared.level.Layout.{Layout}
 use Rattle.format.specs.declared.level.Leaf.{Leaf}
-use Rattle.format.specs.Parse.{pick, many, got}
+use Rattle.format.specs.Parse.{pick, many, ok}
 use Rattle.format.proofs.ParseLaws.{many-told}
 use Rattle.format.specs.Field.{varint}
 use Rattle.format.specs.Refusals.{MAX-LEAVES}
 use Rattle.format.specs.Level.{levelOfTurn, levelInTurn, nextTurn}
-use Rattle.path.proofs.LooseLaws.{level-loose}
+use Rattle.path.proofs.UncheckedLaws.{level-unchecked}
 use Rattle.levels.specs.Places.{offsetAt, levelLeaves, nextLevel}
 use Rattle.levels.specs.declared.level.Place.{Place}
 use Rattle.levels.specs.declared.level.Place.the-variants.{At, Nowhere}
@@ -27,14 +27,14 @@ module _ (s : List ℕ) where
   unfoldable pub Levels : ℕ → ℕ → List (List Leaf) → Type 0
   Levels zero at ls = ls ≡ []
   Levels (suc n) at ls = (l : List Leaf) × (q : ℕ) × (rest : List (List Leaf)) × Level s at l q × Distinct (offsetAt s) (levelLeaves s at) × Levels n q rest × (ls ≡ l ∷ rest)
-      × ((m : ℕ) × (first : ℕ) × (varint s at ≡ got m first) × (m ≤ MAX-LEAVES))
+      × ((m : ℕ) × (first : ℕ) × (varint s at ≡ ok m first) × (m ≤ MAX-LEAVES))
 
-  pub levels-read : (h n k at : ℕ) {ls : List (List Leaf)} {q : ℕ} → many (levelInTurn Layout.Bump h) nextTurn n k s at ≡ got ls q → Levels n at ls
+  pub levels-read : (h n k at : ℕ) {ls : List (List Leaf)} {q : ℕ} → many (levelInTurn Layout.Bump h) nextTurn n k s at ≡ ok ls q → Levels n at ls
   unfolding many levelOfTurn Levels
   levels-read h zero k at {ls} e = cc
   levels-read h (suc n) k at {ls} e =
       let x = many-told (levelInTurn Layout.Bump h) nextTurn n k s at e in
-      (x .0, x .1, x .2, level-read s at (level-loose Layout.Bump (2 ^ (h - k)) k s at (x .3)), level-distinct s (2 ^ (h - k)) k at (x .3), levels-read h n (k + 1) (x .1) (x .4), sym (x .5), level-few s (2 ^ (h - k)) k at (x .3))
+      (x .0, x .1, x .2, level-read s at (level-unchecked Layout.Bump (2 ^ (h - k)) k s at (x .3)), level-distinct s (2 ^ (h - k)) k at (x .3), levels-read h n (k + 1) (x .1) (x .4), sym (x .5), level-few s (2 ^ (h - k)) k at (x .3))
 
   -- ---- the search among rows
 

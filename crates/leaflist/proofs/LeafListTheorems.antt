@@ -11,7 +11,7 @@ use native.Mathlib.Nat.{zero-add}
 use borrow.Author.Tests.{eq-eqb, lt-ltb, le-ltb, ltb-true, ltb-false, eqb-true}
 use Rattle.format.specs.declared.level.Leaf.{Leaf}
 use Rattle.format.proofs.Basics.{and-true}
-use Rattle.format.specs.Parse.{pick, got}
+use Rattle.format.specs.Parse.{pick, ok}
 use Rattle.format.specs.Level.{total}
 use Rattle.path.specs.Search.{lookup}
 use Rattle.format.specs.Bump.{Bump, bumpWhole}
@@ -42,9 +42,9 @@ AllAfter r [] = Unit {0}
 AllAfter r (t ∷ l) = (before r t ≡ true) × AllAfter r l
 
 -- by level and offset
-unfoldable pub Rising : List Row → Type 0
-Rising [] = Unit {0}
-Rising (r ∷ l) = AllAfter r l × Rising l
+unfoldable pub RisingRows : List Row → Type 0
+RisingRows [] = Unit {0}
+RisingRows (r ∷ l) = AllAfter r l × RisingRows l
 
 unfoldable pub sameRow : Row → Row → Bool
 sameRow r t = (eqb (t .level) (r .level) && eqb (t .offset) (r .offset)) && eqb (t .place) (r .place)
@@ -88,14 +88,14 @@ module _ (s : List ℕ) where
   after-rows r i m [] rest e h f a = a
   after-rows r i m (p ∷ ps) rest e h f a = (same-level i (offsetAt s p) p r e (let g = f .0 in omega arith), after-rows r i m ps rest e h (f .1) a)
 
-  rising-rows : (i n at : ℕ) (ps : List ℕ) → Rises (offsetAt s) ps → Rising (listFrom s n (i + 1) at) → Rising (map (rowAt s i) ps ++ listFrom s n (i + 1) at)
-  unfolding Rising Rises
+  rising-rows : (i n at : ℕ) (ps : List ℕ) → Rises (offsetAt s) ps → RisingRows (listFrom s n (i + 1) at) → RisingRows (map (rowAt s i) ps ++ listFrom s n (i + 1) at)
+  unfolding RisingRows Rises
   rising-rows i n at [] f r = r
   rising-rows i n at (p ∷ ps) f r =
       (after-rows (rowAt s i p) i (suc (offsetAt s p)) ps (listFrom s n (i + 1) at) refl (omega arith) (f .0) (after-higher (rowAt s i p) n (i + 1) at (omega arith)), rising-rows i n at ps (f .1) r)
 
-  rising-from : (n i at : ℕ) (ls : List (List Leaf)) → Levels s n at ls → Rising (listFrom s n i at)
-  unfolding Rising listFrom Levels
+  rising-from : (n i at : ℕ) (ls : List (List Leaf)) → Levels s n at ls → RisingRows (listFrom s n i at)
+  unfolding RisingRows listFrom Levels
   rising-from zero i at ls e = tt
   rising-from (suc n) i at ls e =
       rising-rows i n (nextLevel s at) (sorted (offsetAt s) (levelLeaves s at)) (rises-sorted (offsetAt s) (levelLeaves s at) (e .4))
@@ -149,8 +149,8 @@ none-like t r (u ∷ l) e f a =
     let w = none-like t r l e f (a .1) in
     omega (arith, z, w)
 
-pub count-found : (r : Row) (l : List Row) → Rising l → count r l ≡ one (isAt (findRow (r .level) (r .offset) l) (r .place))
-unfolding count findRow Rising sameRow one isAt
+pub count-found : (r : Row) (l : List Row) → RisingRows l → count r l ≡ one (isAt (findRow (r .level) (r .offset) l) (r .place))
+unfolding count findRow RisingRows sameRow one isAt
 count-found r [] a = refl
 count-found r (t ∷ l) a = go (eqb (t .level) (r .level) && eqb (t .offset) (r .offset)) refl (count-found r l (a .1))
   where
@@ -167,7 +167,7 @@ count-found r (t ∷ l) a = go (eqb (t .level) (r .level) && eqb (t .offset) (r 
 
 -- ---- of a BUMP that was read
 
-module _ (s : List ℕ) {b : Bump} {q : ℕ} (e : bumpWhole s ≡ got b q) where
+module _ (s : List ℕ) {b : Bump} {q : ℕ} (e : bumpWhole s ≡ ok b q) where
   pub read : Levels s (b .height) (b .start) (b .levels)
   read = levels-read s (b .height) (b .height) 0 (b .start) (bump-whole-told s e .levels)
 
@@ -186,7 +186,7 @@ module _ (s : List ℕ) {b : Bump} {q : ℕ} (e : bumpWhole s ≡ got b q) where
   list-search k o = list-found s (b .height) 0 (b .start) k k o (sym (zero-add k))
 
   -- by level and offset
-  pub rising : Rising (leafList s b)
+  pub rising : RisingRows (leafList s b)
   rising = rising-from s (b .height) 0 (b .start) (b .levels) read
 
   -- every leaf stands in the list once, and nothing else does

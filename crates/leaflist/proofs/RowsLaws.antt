@@ -11,8 +11,8 @@ use Rattle.format.specs.declared.level.Leaf.{Leaf}
 use Rattle.format.specs.declared.refusal.Refusal.{Refusal}
 use Rattle.format.specs.declared.bump.BumpHead.{BumpHead}
 use Rattle.format.proofs.Basics.{one-less}
-use Rattle.format.specs.Parse.{each, got, bad}
-use Rattle.format.proofs.ParseLaws.{each-got, each-bad}
+use Rattle.format.specs.Parse.{each, ok, fault}
+use Rattle.format.proofs.ParseLaws.{each-ok, each-fault}
 use Rattle.format.specs.Refusals.{NO-ROOM}
 use Rattle.format.specs.Bump.{Bump, bumpWhole, headOf}
 use Rattle.spv.specs.declared.rejection.Rejection.{Rejection}
@@ -121,15 +121,15 @@ list-same s (suc n) k at ls e =
     ∙ ap (λ (v : List Row). map (rowAt s k) (sorted (offsetAt s) (levelLeaves s at)) ++ v) (list-same s n (k + 1) (e .1) (e .2) (e .5))
     ∙ ap (λ (v : ℕ). map (rowAt s k) (sorted (offsetAt s) (levelLeaves s at)) ++ listFrom s n (k + 1) v) (sym (e .3 .ends))
 
-pub list-made : (s : List ℕ) {b : Bump} {q : ℕ} → bumpWhole s ≡ got b q → listedIn 1024 s (b .height) 0 (b .start) ≡ leafList s b
+pub list-made : (s : List ℕ) {b : Bump} {q : ℕ} → bumpWhole s ≡ ok b q → listedIn 1024 s (b .height) 0 (b .start) ≡ leafList s b
 list-made s {b} e = list-same s (b .height) 0 (b .start) (b .levels) (read s e)
 
 module _ (s : List ℕ) (room : ℕ) where
-  pub unread : (f : Refusal) → each headOf (bumpWhole s) ≡ bad (f .number) (f .place) → refused (refusedReading f) ≡ building s room
+  pub unread : (f : Refusal) → each headOf (bumpWhole s) ≡ fault (f .number) (f .place) → refused (refusedReading f) ≡ building s room
   unfolding building
-  unread f e = rw (each-bad headOf (bumpWhole s) e) refl
+  unread f e = rw (each-fault headOf (bumpWhole s) e) refl
 
-  read-is : {b : Bump} {q : ℕ} → bumpWhole s ≡ got b q → building s room ≡ fitting room (leafList s b)
+  read-is : {b : Bump} {q : ℕ} → bumpWhole s ≡ ok b q → building s room ≡ fitting room (leafList s b)
   unfolding building
   read-is e = rw e refl
 
@@ -142,9 +142,9 @@ pub left-refused : (l : Result (List Row)) (why : Rejection) (w : List ℕ) → 
 unfolding wordsIn
 left-refused l why w f = rw (← f) refl
 
-module _ (s w : List ℕ) (head : BumpHead) {q : ℕ} (e : each headOf (bumpWhole s) ≡ got head q) where
-  abbrev got-it : (b : Bump) × (bumpWhole s ≡ got b q) × (headOf b ≡ head)
-  got-it = each-got headOf (bumpWhole s) e
+module _ (s w : List ℕ) (head : BumpHead) {q : ℕ} (e : each headOf (bumpWhole s) ≡ ok head q) where
+  abbrev got-it : (b : Bump) × (bumpWhole s ≡ ok b q) × (headOf b ≡ head)
+  got-it = each-ok headOf (bumpWhole s) e
 
   abbrev all : List Row
   all = leafList s (got-it .0)

@@ -7,13 +7,13 @@ use lib.ListN.{length, getD}
 use lib.Dec.{ltb, eqb}
 use native.Mathlib.Omega.{arith}
 use borrow.Author.Tests.{eq-eqb, ltb-true, ltb-false, eqb-true}
-use Rattle.format.specs.Parse.{pick, got}
+use Rattle.format.specs.Parse.{pick, ok}
 use Rattle.format.specs.Bump.{Bump, bumpWhole}
 use Rattle.levels.specs.declared.level.Place.the-variants.{At, Nowhere}
 use Rattle.leaflist.specs.declared.searching.Side.the-variants.{Before, Here, Behind}
 use Rattle.leaflist.specs.Rows.{sideOf}
 use Rattle.leaflist.specs.LeafList.{Row, leafList, wordsOf, placeIn, findRow}
-use Rattle.leaflist.proofs.LeafListTheorems.{precedes, before, AllAfter, Rising, list-search, rising}
+use Rattle.leaflist.proofs.LeafListTheorems.{precedes, before, AllAfter, RisingRows, list-search, rising}
 
 -- a level and offset before another
 pub data Less (k o j p : ℕ) : Type 0 where
@@ -106,16 +106,16 @@ first-before r [] i a h = absurd (omega arith)
 first-before r (t ∷ l) zero a h = less (r .level) (r .offset) (t .level) (t .offset) (a .0)
 first-before r (t ∷ l) (suc i) a h = rw (shift-level t l i, shift t l i 1) (first-before r l i (a .1) (omega arith))
 
-ascending : (l : List Row) (i j : ℕ) → Rising l → i < j → j < length l → Less (levelAt (wordsOf l) i) (offsetIn (wordsOf l) i) (levelAt (wordsOf l) j) (offsetIn (wordsOf l) j)
-unfolding Rising wordsOf
+ascending : (l : List Row) (i j : ℕ) → RisingRows l → i < j → j < length l → Less (levelAt (wordsOf l) i) (offsetIn (wordsOf l) i) (levelAt (wordsOf l) j) (offsetIn (wordsOf l) j)
+unfolding RisingRows wordsOf
 ascending [] i j r h g = absurd (omega arith)
 ascending (t ∷ l) i zero r h g = absurd (omega arith)
 ascending (t ∷ l) zero (suc j) r h g = rw (shift-level t l j, shift t l j 1) (first-before t l j (r .0) (omega arith))
 ascending (t ∷ l) (suc i) (suc j) r h g = rw (shift-level t l j, shift t l j 1, shift-level t l i, shift t l i 1) (ascending l i j (r .1) (omega arith) (omega arith))
 
 -- a row that matches is the one found; if none does, there is none
-row-found : (k o : ℕ) (l : List Row) (i : ℕ) → Rising l → i < length l → levelAt (wordsOf l) i ≡ k → offsetIn (wordsOf l) i ≡ o → At (placeAt (wordsOf l) i) ≡ findRow k o l
-unfolding findRow Rising wordsOf
+row-found : (k o : ℕ) (l : List Row) (i : ℕ) → RisingRows l → i < length l → levelAt (wordsOf l) i ≡ k → offsetIn (wordsOf l) i ≡ o → At (placeAt (wordsOf l) i) ≡ findRow k o l
+unfolding findRow RisingRows wordsOf
 row-found k o [] i r h e f = absurd (omega arith)
 row-found k o (t ∷ l) zero r h e f = rw (eq-eqb (t .level) k e, eq-eqb (t .offset) o f) refl
 row-found k o (t ∷ l) (suc i) r h e f = ap At (shift t l i 2) ∙ row-found k o l i (r .1) (omega arith) (sym (shift-level t l i) ∙ e) (sym (shift t l i 1) ∙ f) ∙ sym passed
@@ -143,7 +143,7 @@ none-found k o (t ∷ l) n = go (eqb (t .level) k) refl (eqb (t .offset) o) refl
 
 -- the list is that of a BUMP
 pub record Beside (w s : List ℕ) (b : Bump) (q : ℕ) : Type 0 where
-  pub read : bumpWhole s ≡ got b q
+  pub read : bumpWhole s ≡ ok b q
   pub is : w ≡ wordsOf (leafList s b)
 
 -- rows below low stand before what is looked for, rows from high on behind it
@@ -194,7 +194,7 @@ module _ (w : List ℕ) (k o : ℕ) where
       }
 
   pub narrow-here : (m : ℕ) → m < length w / 3 → sideOf (levelAt w m) (offsetIn w m) k o ≡ Here
-      → (s : List ℕ) (b : Bump) (q : ℕ) → bumpWhole s ≡ got b q → w ≡ wordsOf (leafList s b) → At (placeAt w m) ≡ placeIn s b k o
+      → (s : List ℕ) (b : Bump) (q : ℕ) → bumpWhole s ≡ ok b q → w ≡ wordsOf (leafList s b) → At (placeAt w m) ≡ placeIn s b k o
   narrow-here m h e s b q read is =
       let l : Beside w s b q = record { read = read; is = is } in
       let x = side-here (levelAt w m) (offsetIn w m) k o e in
@@ -204,7 +204,7 @@ module _ (w : List ℕ) (k o : ℕ) where
       ap (λ (v : List ℕ). At (placeAt v m)) is ∙ found ∙ list-search s read k o
 
   pub narrow-end : (low high : ℕ) → Narrowed w k o low high → high ≤ low
-      → (s : List ℕ) (b : Bump) (q : ℕ) → bumpWhole s ≡ got b q → w ≡ wordsOf (leafList s b) → Nowhere ≡ placeIn s b k o
+      → (s : List ℕ) (b : Bump) (q : ℕ) → bumpWhole s ≡ ok b q → w ≡ wordsOf (leafList s b) → Nowhere ≡ placeIn s b k o
   narrow-end low high n h s b q read is =
       let l : Beside w s b q = record { read = read; is = is } in
       sym (none-found k o (leafList s b) (λ i g e f. neither i g (ap (λ (v : List ℕ). levelAt v i) is ∙ e) (ap (λ (v : List ℕ). offsetIn v i) is ∙ f) (ltb i low) refl (n s b q l) (size s b q l))) ∙ list-search s read k o

@@ -3,7 +3,7 @@ use levels::Place;
 ghost use mathlib.Core.Path.{_≡_};
 ghost use mathlib.Core.List.{List};
 ghost use Prim.Native.Nat.{ℕ};
-ghost use Rattle.format.specs.Parse.{got};
+ghost use Rattle.format.specs.Parse.{ok};
 ghost use Rattle.format.specs.Bump.{Bump, bumpWhole};
 ghost use Rattle.leaflist.specs.LeafList.{leafList, wordsOf, placeIn};
 ghost use Rattle.leaflist.specs.Rows.{sideOf};
@@ -35,7 +35,7 @@ fn compare(k: u64, o: u64, level: u64, offset: u64) -> Side
 
 // The place of the leaf at a level and offset. If the list is not that of a BUMP, the answer is free.
 pub fn search(list: &[u64], level: u64, offset: u64) -> Place
-    ensures { λ r. ⌜ ((s : List ℕ) (b : Bump) (q : ℕ) → bumpWhole s ≡ got b q → now (list .entry) ≡ wordsOf (leafList s b) → r ≡ placeIn s b level offset) ⌝ }
+    ensures { λ r. ⌜ ((s : List ℕ) (b : Bump) (q : ℕ) → bumpWhole s ≡ ok b q → now (list .entry) ≡ wordsOf (leafList s b) → r ≡ placeIn s b level offset) ⌝ }
 {
     let mut low: usize = 0;
     let mut high: usize = list.len() / 3;

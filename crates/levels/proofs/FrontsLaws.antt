@@ -12,17 +12,17 @@ use borrow.Author.Tests.{eq-eqb, ne-eqb, eqb-true, eqb-false, lt-ltb, le-ltb, lt
 use Rattle.format.specs.declared.level.Kind.the-variants.{Copy}
 use Rattle.format.specs.declared.level.Layout.{Layout}
 use Rattle.format.specs.declared.level.Leaf.{Leaf}
-use Rattle.format.specs.Parse.{Parse, pick, otherwise, got, bad}
-use Rattle.path.specs.Loose.{looseLeaf}
+use Rattle.format.specs.Parse.{Parse, pick, otherwise, ok, fault}
+use Rattle.path.specs.Unchecked.{uncheckedLeaf}
 use Rattle.encoding.specs.BumpBytes.{Entry, copy, carriedOf}
 use Rattle.levels.specs.declared.level.Next.{Next}
 use Rattle.levels.specs.declared.level.Next.the-variants.{Offset, End}
 use Rattle.levels.specs.declared.level.Spot.{Spot}
 use Rattle.levels.specs.declared.level.Spot.the-variants.{Stands, Nothing}
-use Rattle.levels.specs.Standing.{stands, nothing, at}
+use Rattle.levels.specs.Standing.{stands, nothing, standingIn}
 use Rattle.levels.specs.Places.{offsetAt, carriedAt, entries}
 use Rattle.levels.specs.Fronts.{nextOf, lesser, front, past, standingOf, kindAt, hasOffset, spotOf, indexPast}
-use Rattle.levels.proofs.InOrder.{From, Under, InOrder, from-weaken, at-below}
+use Rattle.levels.proofs.InOrder.{From, Under, InOrder, from-weaken, standing-below}
 
 -- ---- what the code finds at the front
 
@@ -58,11 +58,11 @@ module _ (s l : List ℕ) (i : ℕ) where
       index-other = rw (lt-ltb i (length l) h, ← e, ne-eqb a o f)
 
     module _ (o : ℕ) (f : a ≡ o) where
-      pub spot-stuck : {k q : ℕ} → looseLeaf Layout.Bump s (getD l i 0) ≡ bad k q → spotOf s l i o ≡ Stands Copy
+      pub spot-stuck : {k q : ℕ} → uncheckedLeaf Layout.Bump s (getD l i 0) ≡ fault k q → spotOf s l i o ≡ Stands Copy
       unfolding spotOf hasOffset kindAt
       spot-stuck g = rw (lt-ltb i (length l) h, ← e, eq-eqb a o f, g)
 
-      pub spot-here : {leaf : Leaf} {q : ℕ} → looseLeaf Layout.Bump s (getD l i 0) ≡ got leaf q → spotOf s l i o ≡ Stands (leaf .kind)
+      pub spot-here : {leaf : Leaf} {q : ℕ} → uncheckedLeaf Layout.Bump s (getD l i 0) ≡ ok leaf q → spotOf s l i o ≡ Stands (leaf .kind)
       unfolding spotOf hasOffset kindAt
       spot-here g = rw (lt-ltb i (length l) h, ← e, eq-eqb a o f, g)
 
@@ -74,11 +74,11 @@ module _ (s l : List ℕ) (i : ℕ) where
 
   kind-carried : (p : ℕ) → carriedOf s (kindAt s p) ≡ carriedAt s p
   unfolding kindAt carriedAt carriedOf
-  kind-carried p = go (looseLeaf Layout.Bump s p)
+  kind-carried p = go (uncheckedLeaf Layout.Bump s p)
     where
       go : (x : Parse Leaf) → carriedOf s (otherwise x Copy (λ leaf _. leaf .kind)) ≡ otherwise x copy (λ leaf _. carriedOf s (leaf .kind))
-      go (got leaf q) = refl
-      go (bad k q) = refl
+      go (ok leaf q) = refl
+      go (fault k q) = refl
 
   spot-stands : (o : ℕ) → standingOf s (spotOf s l i o) ≡ front o (entries s (drop i l))
   unfolding standingOf spotOf hasOffset front
@@ -120,27 +120,27 @@ least x y {a} {b} {c} {d} e f g h = ap (λ (v : Next). lesser v (nextOf y)) (sym
 
 module _ (o : ℕ) where
   -- at the least offset stands what the first has
-  pub at-front : (x : List Entry) → From o x → InOrder x → at o x ≡ front o x
-  unfolding From InOrder at front
-  at-front [] f i = refl
-  at-front (e ∷ l) f i = go (eqb (e .offset) o) refl
+  pub standing-front : (x : List Entry) → From o x → InOrder x → standingIn o x ≡ front o x
+  unfolding From InOrder standingIn front
+  standing-front [] f i = refl
+  standing-front (e ∷ l) f i = go (eqb (e .offset) o) refl
     where
-      go : (b : Bool) → eqb (e .offset) o ≡ b → pick b (stands (e .carried)) (at o l) ≡ pick b (stands (e .carried)) nothing
+      go : (b : Bool) → eqb (e .offset) o ≡ b → pick b (stands (e .carried)) (standingIn o l) ≡ pick b (stands (e .carried)) nothing
       go true g = refl
       go false g =
           let n = eqb-false (e .offset) o g in
           let h = f .0 in
-          at-below o (suc (e .offset)) l (i .0) (omega arith)
+          standing-below o (suc (e .offset)) l (i .0) (omega arith)
 
-  pub at-past : (p : ℕ) (x : List Entry) → o < p → at p (past o x) ≡ at p x
-  unfolding at past
-  at-past p [] h = refl
-  at-past p (e ∷ l) h = go (eqb (e .offset) o) refl
+  pub standing-past : (p : ℕ) (x : List Entry) → o < p → standingIn p (past o x) ≡ standingIn p x
+  unfolding standingIn past
+  standing-past p [] h = refl
+  standing-past p (e ∷ l) h = go (eqb (e .offset) o) refl
     where
-      go : (b : Bool) → eqb (e .offset) o ≡ b → at p (pick b l (e ∷ l)) ≡ pick (eqb (e .offset) p) (stands (e .carried)) (at p l)
+      go : (b : Bool) → eqb (e .offset) o ≡ b → standingIn p (pick b l (e ∷ l)) ≡ pick (eqb (e .offset) p) (stands (e .carried)) (standingIn p l)
       go true g =
           let n = eqb-true (e .offset) o g in
-          sym (ap (λ (b : Bool). pick b (stands (e .carried)) (at p l)) (ne-eqb (e .offset) p (λ i. omega arith)))
+          sym (ap (λ (b : Bool). pick b (stands (e .carried)) (standingIn p l)) (ne-eqb (e .offset) p (λ i. omega arith)))
       go false g = refl
 
   pub past-from : (x : List Entry) → From o x → InOrder x → From (suc o) (past o x)

@@ -8,7 +8,7 @@ use Rattle.format.specs.declared.level.Kind.{Kind}
 use Rattle.format.specs.declared.level.Kind.the-variants.{Plain, Copy, Client}
 use Rattle.format.specs.declared.level.Layout.{Layout}
 use Rattle.format.specs.Parse.{pick, otherwise}
-use Rattle.path.specs.Loose.{looseLeaf}
+use Rattle.path.specs.Unchecked.{uncheckedLeaf}
 use Rattle.encoding.specs.BumpBytes.{Entry, carriedOf}
 use Rattle.levels.specs.declared.level.Next.{Next}
 use Rattle.levels.specs.declared.level.Next.the-variants.{Offset, End}
@@ -57,7 +57,7 @@ standingOf s Nothing = nothing
 
 -- the leaf at a place, a copy where none is read
 unfoldable pub kindAt : List ℕ → ℕ → Kind
-kindAt s p = otherwise (looseLeaf Layout.Bump s p) Copy (λ leaf _. leaf .kind)
+kindAt s p = otherwise (uncheckedLeaf Layout.Bump s p) Copy (λ leaf _. leaf .kind)
 
 -- whether there is a place at the index, and its leaf has the offset
 unfoldable pub hasOffset : List ℕ → List ℕ → ℕ → ℕ → Bool

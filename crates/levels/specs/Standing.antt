@@ -12,10 +12,10 @@ pub data Standing : Type 0 where
   nothing : Standing
 
 -- what stands at an offset of a level
-unfoldable pub at : ℕ → List Entry → Standing
-at o [] = nothing
-at o (e ∷ l) = pick (eqb (e .offset) o) (stands (e .carried)) (at o l)
+unfoldable pub standingIn : ℕ → List Entry → Standing
+standingIn o [] = nothing
+standingIn o (e ∷ l) = pick (eqb (e .offset) o) (stands (e .carried)) (standingIn o l)
 
 -- what stands at a level and offset
 unfoldable pub standing : Content → ℕ → ℕ → Standing
-standing x k o = at o (getD (x .levels) k [])
+standing x k o = standingIn o (getD (x .levels) k [])

@@ -11,14 +11,14 @@ use Rattle.format.specs.declared.level.Layout.{Layout}
 use Rattle.format.specs.declared.level.Kind.{Kind}
 use Rattle.format.specs.declared.level.Kind.the-variants.{Plain, Copy, Client}
 use Rattle.format.specs.Refusals.{LONG-VARINT, BAD-OFFSET, BAD-FLAG, REPEATED, EXTRA}
-use Rattle.format.specs.Parse.{Parse, Reader, pick, onward, each, _passing_else_, at-start, got, bad}
+use Rattle.format.specs.Parse.{Parse, Reader, pick, onward, each, _passing_else_, at-start, ok, fault}
 use Rattle.format.specs.Field.{bytes, byte, number, le2, le4, le8, announced, varint}
 use Rattle.format.specs.Level.{holds, offsetField, flagAllowed, flagField, kindField, carriedField, leafField}
 
 -- a parse that ends at m or before, with P of what was read and of the place after it; the numbers of reading go up to 9
 pub data Bounded {A : Type 0} (m : ℕ) (P : A → ℕ → Type 0) : Parse A → Type 0 where
-  read : {a : A} {q : ℕ} → q ≤ m → P a q → Bounded m P (got a q)
-  refused : {n q : ℕ} → n ≤ EXTRA → q ≤ m → Bounded m P (bad n q)
+  read : {a : A} {q : ℕ} → q ≤ m → P a q → Bounded m P (ok a q)
+  refused : {n q : ℕ} → n ≤ EXTRA → q ≤ m → Bounded m P (fault n q)
 
 module _ {A B : Type 0} {m : ℕ} {P : A → ℕ → Type 0} where
   pub within-then : (Q : B → ℕ → Type 0) {p : Parse A} (f : A → ℕ → Parse B) → Bounded m P p → ((a : A) (q : ℕ) → q ≤ m → P a q → Bounded m Q (f a q)) → Bounded m Q (onward p f)
@@ -51,10 +51,10 @@ module _ {A : Type 0} {m : ℕ} {P : A → ℕ → Type 0} where
   pub within-passing : (p : Reader A) (t : A → Bool) (code : ℕ) (s : List ℕ) (at : ℕ) → code ≤ EXTRA → at ≤ m → Bounded m P (p s at)
       → Bounded m (λ a q. P a q × (t a ≡ true)) ((p passing t else code) s at)
   within-passing p t code s at c l w =
-      within-then (λ a q. P a q × (t a ≡ true)) (λ a q. pick (t a) (got a q) (bad code at)) w
+      within-then (λ a q. P a q × (t a ≡ true)) (λ a q. pick (t a) (ok a q) (fault code at)) w
       (λ a q h k. choice (t a) a q refl h k)
     where
-      choice : (v : Bool) (a : A) (q : ℕ) → t a ≡ v → q ≤ m → P a q → Bounded m (λ a q. P a q × (t a ≡ true)) (pick v (got a q) (bad code at))
+      choice : (v : Bool) (a : A) (q : ℕ) → t a ≡ v → q ≤ m → P a q → Bounded m (λ a q. P a q × (t a ≡ true)) (pick v (ok a q) (fault code at))
       choice true a q e h k = read h (k, e)
       choice false a q e h k = refused c l
 
@@ -77,7 +77,7 @@ module _ (s : List ℕ) (at : ℕ) (inside : at ≤ length s) where
   within-number value width least =
       within-weaken (λ _ q. at ≤ q)
       (within-passing (number value width) (λ v. leb least v) LONG-VARINT s at (omega arith) inside
-      (within-then (λ _ q. at ≤ q) (λ place q. got (value s place) q) (within-bytes width) (λ _ q h k. read h (omega arith))))
+      (within-then (λ _ q. at ≤ q) (λ place q. ok (value s place) q) (within-bytes width) (λ _ q h k. read h (omega arith))))
       (λ _ q k. k .0)
 
   within-announced : (first : ℕ) → Bounded (length s) (λ _ q. at ≤ q) (announced first s at)

@@ -6,7 +6,7 @@ use lib.Dec.{leb}
 use Rattle.format.specs.declared.level.Leaf.{Leaf}
 use Rattle.format.specs.declared.level.Kind.{Kind}
 use Rattle.format.specs.declared.level.Kind.the-variants.{Plain, Copy, Client}
-use Rattle.format.specs.Parse.{Parse, pick, got, bad}
+use Rattle.format.specs.Parse.{Parse, pick, ok, fault}
 use Rattle.format.specs.Refusals.{TOO-LONG}
 use Rattle.format.specs.Bump.{Bump, bumpWhole}
 use Rattle.format.specs.Bytes.{hashAt}
@@ -53,8 +53,8 @@ unfoldable pub refusedLine : ℕ → ℕ → List ℕ
 refusedLine number place = line (ascii "refused " ++ decimal number ++ ascii " at " ++ decimal place)
 
 unfoldable pub report : List ℕ → Parse Bump → List ℕ
-report s (got b _) = bumpLines s b
-report s (bad number place) = refusedLine number place
+report s (ok b _) = bumpLines s b
+report s (fault number place) = refusedLine number place
 
 unfoldable pub listing : List ℕ → List ℕ
 listing s = pick (leb (length s) LISTED-BYTES) (report s (bumpWhole s)) (refusedLine TOO-LONG 0)

@@ -5,7 +5,7 @@ use Prim.Native.Nat.{ℕ, zero, suc, _+_}
 use Rattle.format.specs.declared.level.Layout.{Layout}
 use Rattle.format.specs.Parse.{otherwise}
 use Rattle.format.specs.Field.{varint}
-use Rattle.path.specs.Loose.{looseLeaf}
+use Rattle.path.specs.Unchecked.{uncheckedLeaf}
 use Rattle.encoding.specs.Buffer.{Buffer, writeOn}
 use Rattle.listing.specs.Listing.{leafLine, levelLine}
 
@@ -20,7 +20,7 @@ walk p next = record { buffer = p; next = next }
 -- n leaves from a place, as far as they can be read
 unfoldable pub walkLeaves : List ℕ → ℕ → ℕ → Buffer → Walk
 walkLeaves s zero at p = walk p at
-walkLeaves s (suc n) at p = otherwise (looseLeaf Layout.Bump s at) (walk p at) (λ leaf next. walkLeaves s n next (writeOn p (leafLine s leaf)))
+walkLeaves s (suc n) at p = otherwise (uncheckedLeaf Layout.Bump s at) (walk p at) (λ leaf next. walkLeaves s n next (writeOn p (leafLine s leaf)))
 
 unfoldable pub walkLevel : List ℕ → ℕ → ℕ → Buffer → Walk
 walkLevel s level at p = otherwise (varint s at) (walk p at) (λ n next. walkLeaves s n next (writeOn p (levelLine level n)))

@@ -11,17 +11,17 @@ use Rattle.format.specs.declared.bump.BumpHead.{BumpHead}
 use Rattle.format.specs.declared.level.Layout.{Layout}
 use Rattle.format.specs.declared.level.Leaf.{Leaf}
 use Rattle.format.proofs.BytesLaws.{same-refl}
-use Rattle.format.specs.Parse.{Parse, got, bad, otherwise}
+use Rattle.format.specs.Parse.{Parse, ok, fault, otherwise}
 use Rattle.format.specs.Level.{levelOfTurn}
 use Rattle.path.specs.declared.path.Form.{Form}
 use Rattle.path.specs.declared.path.Path.{Path}
-use Rattle.path.specs.Loose.{looseLevel}
+use Rattle.path.specs.Unchecked.{uncheckedLevel}
 use Rattle.path.specs.Path.{LAYERS, layersOf, placing, bumpPathOf}
 use Rattle.path.proofs.SearchLaws.{level-walk}
 use Rattle.spv.specs.Result.{Result, accepted, refused}
 use Rattle.spv.specs.Climb.{Siblings}
 use Rattle.spv.specs.Clients.{clients}
-use Rattle.spv.specs.Compare.{bound}
+use Rattle.spv.specs.Prove.{bound}
 use Rattle.spv.proofs.ClientsTheorems.{AllReach, Still, agreed-told, told-agreed}
 use Rattle.climbs.specs.Proofs.{isBump}
 use Rattle.climbs.specs.Reach.{isAccepted, levelReaches, bothReach}
@@ -40,13 +40,13 @@ placing-long : (layout : Layout) (height n i : ℕ) (s : List ℕ) (at : ℕ) (k
 unfolding placing
 placing-long layout height zero i s at known = refl
 placing-long layout height (suc n) i s at known =
-    go (looseLevel layout s at) (λ next. placing-long layout height n (i + 1) s next (set known (levelOfTurn layout height i) at))
+    go (uncheckedLevel layout s at) (λ next. placing-long layout height n (i + 1) s next (set known (levelOfTurn layout height i) at))
   where
     go : (p : Parse (List Leaf))
         → ((next : ℕ) → length (placing layout height n (i + 1) s next (set known (levelOfTurn layout height i) at)) ≡ length (set known (levelOfTurn layout height i) at))
         → length (otherwise p (set known (levelOfTurn layout height i) at) (λ _ next. placing layout height n (i + 1) s next (set known (levelOfTurn layout height i) at))) ≡ length known
-    go (got l next) f = f next ∙ length-set known (levelOfTurn layout height i) at
-    go (bad number q) f = length-set known (levelOfTurn layout height i) at
+    go (ok l next) f = f next ∙ length-set known (levelOfTurn layout height i) at
+    go (fault number q) f = length-set known (levelOfTurn layout height i) at
 
 pub path-long : (s : List ℕ) (head : BumpHead) → length (bumpPathOf s head .at) ≡ LAYERS
 unfolding bumpPathOf
@@ -64,7 +64,7 @@ bound-accepted σ h s r l e = go (clients σ h s (bound r) l) refl e
     go (accepted t) f g = f ∙ ap accepted (sym (agreed-told σ h s t (bound r) l f .0))
     go (refused why) f g = absurd (false≢true g)
 
-module _ (σ : Siblings) (h : ℕ) (s r : List ℕ) (at : ℕ) {l : List Leaf} {q : ℕ} (e : looseLevel Layout.Bump s at ≡ got l q) where
+module _ (σ : Siblings) (h : ℕ) (s r : List ℕ) (at : ℕ) {l : List Leaf} {q : ℕ} (e : uncheckedLevel Layout.Bump s at ≡ ok l q) where
   -- of a level that was read
   reaches-clients : levelReaches σ h s r at ≡ isAccepted (clients σ h s (bound r) l)
   unfolding levelReaches

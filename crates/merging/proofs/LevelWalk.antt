@@ -5,10 +5,10 @@ use Prim.Native.Nat.{ℕ, _+_}
 use native.Mathlib.Omega.{arith}
 use Rattle.format.specs.declared.level.Layout.{Layout}
 use Rattle.format.specs.declared.level.Leaf.{Leaf}
-use Rattle.format.specs.Parse.{got}
+use Rattle.format.specs.Parse.{ok}
 use Rattle.format.specs.Level.{levelField}
 use Rattle.encoding.specs.BumpBytes.{entryOf}
-use Rattle.levels.specs.Standing.{Standing, nothing, at}
+use Rattle.levels.specs.Standing.{Standing, nothing, standingIn}
 use Rattle.levels.proofs.InOrder as D
 use Rattle.levels.specs.Places.{entries}
 use Rattle.merging.specs.Merging.{spotsFrom}
@@ -18,8 +18,8 @@ use Rattle.merging.proofs.WalkLaws.{walk-all, seen-start}
 use Rattle.levels.proofs.OrderedLaws.{level-ordered}
 
 -- two levels, by what stands in them
-pub levels-walked : (s t : List ℕ) (limit level p q : ℕ) {l m : List Leaf} {p′ q′ : ℕ} (c d : ℕ → Standing) → levelField Layout.Bump limit level s p ≡ got l p′ → levelField Layout.Bump limit level t q ≡ got m q′
-    → ((o : ℕ) → at o (map (entryOf s) l) ≡ c o) → ((o : ℕ) → at o (map (entryOf t) m) ≡ d o)
+pub levels-walked : (s t : List ℕ) (limit level p q : ℕ) {l m : List Leaf} {p′ q′ : ℕ} (c d : ℕ → Standing) → levelField Layout.Bump limit level s p ≡ ok l p′ → levelField Layout.Bump limit level t q ≡ ok m q′
+    → ((o : ℕ) → standingIn o (map (entryOf s) l) ≡ c o) → ((o : ℕ) → standingIn o (map (entryOf t) m) ≡ d o)
     → walkSpots 2048 0 nothing nothing (entries s (orderedIn 1024 s p)) (entries t (orderedIn 1024 t q)) ≡ spotsFrom c d limit 0
 levels-walked s t limit level p q c d e f g h =
     let u = level-ordered s limit level p e in

@@ -9,7 +9,7 @@ use native.Mathlib.Omega.{arith}
 use borrow.Author.Tests.{le-leb, lt-leb, ltb-true, ltb-false}
 use Rattle.format.proofs.Basics.{one-less}
 use Rattle.encoding.specs.Digits.{varintBytes}
-use Rattle.encoding.specs.Spells.{spells}
+use Rattle.encoding.specs.Encode.{encodeAll}
 use Rattle.encoding.specs.Buffer.{Buffer, writeOn}
 use Rattle.encoding.proofs.BufferLaws.{write-then, wrote-then}
 use Rattle.encoding.specs.BumpBytes.{entryBytes}
@@ -35,24 +35,24 @@ or-false false = refl
 pub record Summing (r : Tally) (ls whole : List (List Spot)) : Type 0 where
   pub overs : (r .over || anyOf overLimit ls) ≡ anyOf overLimit whole
   pub calm : (r .clash || anyOf clashes ls) ≡ anyOf clashes whole
-  pub sizes : r .bytes + length (spells levelText ls) ≡ length (spells levelText whole)
+  pub sizes : r .bytes + length (encodeAll levelText ls) ≡ length (encodeAll levelText whole)
   pub counts : r .leaves + totalOf ls ≡ totalOf whole
 
 pub sum-start : (ls : List (List Spot)) → Summing (record { over = false; clash = false; bytes = 0; leaves = 0 }) ls ls
 sum-start ls = record { overs = refl; calm = refl; sizes = omega arith; counts = omega arith }
 
-pub added-size : (l : List Spot) {a : ℕ} → a ≡ length (varintBytes (length l)) → a + length (spells entryBytes (keptOf l)) ≡ length (levelText l)
+pub added-size : (l : List Spot) {a : ℕ} → a ≡ length (varintBytes (length l)) → a + length (encodeAll entryBytes (keptOf l)) ≡ length (levelText l)
 unfolding levelText
-added-size l e = let h = length-append (varintBytes (length l)) (spells entryBytes (keptOf l)) in omega (arith, e, h)
+added-size l e = let h = length-append (varintBytes (length l)) (encodeAll entryBytes (keptOf l)) in omega (arith, e, h)
 
 pub sum-on : (r r′ : Tally) (l : List Spot) (ls m whole : List (List Spot)) → Summing r m whole → m ≡ l ∷ ls → Added r l r′ → Summing r′ ls whole
-unfolding Added anyOf totalOf spells
+unfolding Added anyOf totalOf encodeAll
 sum-on r r′ l ls m whole t e a =
     let u = t .sizes in
     let v = t .counts in
-    let w = ap (λ (z : List (List Spot)). length (spells levelText z)) e in
+    let w = ap (λ (z : List (List Spot)). length (encodeAll levelText z)) e in
     let x = ap totalOf e in
-    let y = length-append (levelText l) (spells levelText ls) in
+    let y = length-append (levelText l) (encodeAll levelText ls) in
     let b = a .2 in
     let c = a .3 in
     record {
@@ -63,20 +63,20 @@ sum-on r r′ l ls m whole t e a =
     }
 
 pub sum-end : (r : Tally) (ls whole : List (List Spot)) → Summing r ls whole → ls ≡ [] → r ≡ tallyAll whole
-unfolding tallyAll anyOf totalOf spells
+unfolding tallyAll anyOf totalOf encodeAll
 sum-end r ls whole t e =
     let u = t .sizes in
     let v = t .counts in
-    let w = ap (λ (z : List (List Spot)). length (spells levelText z)) e in
+    let w = ap (λ (z : List (List Spot)). length (encodeAll levelText z)) e in
     let x = ap totalOf e in
     let a : r .over ≡ anyOf overLimit whole = sym (or-false (r .over)) ∙ ap (λ (z : List (List Spot)). r .over || anyOf overLimit z) (sym e) ∙ t .overs in
     let b : r .clash ≡ anyOf clashes whole = sym (or-false (r .clash)) ∙ ap (λ (z : List (List Spot)). r .clash || anyOf clashes z) (sym e) ∙ t .calm in
-    let c : r .bytes ≡ length (spells levelText whole) = omega (arith, u, w) in
+    let c : r .bytes ≡ length (encodeAll levelText whole) = omega (arith, u, w) in
     let d : r .leaves ≡ totalOf whole = omega (arith, v, x) in
     made a b c d
   where
-    made : r .over ≡ anyOf overLimit whole → r .clash ≡ anyOf clashes whole → r .bytes ≡ length (spells levelText whole) → r .leaves ≡ totalOf whole
-        → r ≡ record { over = anyOf overLimit whole; clash = anyOf clashes whole; bytes = length (spells levelText whole); leaves = totalOf whole }
+    made : r .over ≡ anyOf overLimit whole → r .clash ≡ anyOf clashes whole → r .bytes ≡ length (encodeAll levelText whole) → r .leaves ≡ totalOf whole
+        → r ≡ record { over = anyOf overLimit whole; clash = anyOf clashes whole; bytes = length (encodeAll levelText whole); leaves = totalOf whole }
     made a b c d = rw (← a, ← b, ← c, ← d) refl
 
 -- ---- levels one after the other
@@ -97,19 +97,19 @@ module _ (s t : List ℕ) (h k p q : ℕ) where
       ∙ ap (λ (v : ℕ). walkSpots 2048 0 nothing nothing (entries s x) (entries t y) ∷ walkLevels s t (h - (k + 1)) p′ v) (sym (f ∙ ap (λ (r : ℕ). nextIn r t q) b))
 
 -- a level is written
-pub wrote-level : (b : Buffer) (l : List Spot) {c d : Buffer} {n : ℕ} → n ≡ length l → c ≡ writeOn b (varintBytes n) → d ≡ writeOn c (spells entryBytes (keptOf l)) → d ≡ writeOn b (levelText l)
+pub wrote-level : (b : Buffer) (l : List Spot) {c d : Buffer} {n : ℕ} → n ≡ length l → c ≡ writeOn b (varintBytes n) → d ≡ writeOn c (encodeAll entryBytes (keptOf l)) → d ≡ writeOn b (levelText l)
 unfolding levelText
-wrote-level b l f e g = wrote-then b (varintBytes (length l)) (spells entryBytes (keptOf l)) (e ∙ ap (λ (m : ℕ). writeOn b (varintBytes m)) f) g
+wrote-level b l f e g = wrote-then b (varintBytes (length l)) (encodeAll entryBytes (keptOf l)) (e ∙ ap (λ (m : ℕ). writeOn b (varintBytes m)) f) g
 
-pub write-level : (b : Buffer) (l : List Spot) (ls : List (List Spot)) {d : Buffer} → d ≡ writeOn b (levelText l) → writeOn b (spells levelText (l ∷ ls)) ≡ writeOn d (spells levelText ls)
-unfolding spells
-write-level b l ls e = write-then b (levelText l) (spells levelText ls) ∙ ap (λ (v : Buffer). writeOn v (spells levelText ls)) (sym e)
+pub write-level : (b : Buffer) (l : List Spot) (ls : List (List Spot)) {d : Buffer} → d ≡ writeOn b (levelText l) → writeOn b (encodeAll levelText (l ∷ ls)) ≡ writeOn d (encodeAll levelText ls)
+unfolding encodeAll
+write-level b l ls e = write-then b (levelText l) (encodeAll levelText ls) ∙ ap (λ (v : Buffer). writeOn v (encodeAll levelText ls)) (sym e)
 
 pub tally-counts : (r : LevelTally) (l : List Spot) → r ≡ tallyOf l → r .count ≡ length l
 unfolding tallyOf
 tally-counts r l e = ap (λ (z : LevelTally). z .count) e
 
-pub tally-sizes : (r : LevelTally) (l : List Spot) → r ≡ tallyOf l → r .bytes ≡ length (spells entryBytes (keptOf l))
+pub tally-sizes : (r : LevelTally) (l : List Spot) → r ≡ tallyOf l → r .bytes ≡ length (encodeAll entryBytes (keptOf l))
 unfolding tallyOf
 tally-sizes r l e = ap (λ (z : LevelTally). z .bytes) e
 
@@ -125,6 +125,6 @@ over-test n l e = go (ltb 1024 n) refl
     go true f = let h = ltb-true 1024 n f in rw (lt-leb (length l) MAX-LEAVES (omega (arith, h, e))) refl
     go false f = let h = ltb-false 1024 n f in rw (le-leb (length l) MAX-LEAVES (omega (arith, h, e))) refl
 
-pub write-levels-end : (b : Buffer) → writeOn b (spells levelText []) ≡ b
-unfolding spells writeOn
+pub write-levels-end : (b : Buffer) → writeOn b (encodeAll levelText []) ≡ b
+unfolding encodeAll writeOn
 write-levels-end b = refl

@@ -17,13 +17,13 @@ use Rattle.format.proofs.BytesLaws.{same-eq}
 use Rattle.encoding.specs.Buffer.{Buffer, buffer, writeOn}
 use Rattle.encoding.proofs.BufferLaws.{write-whole}
 use Rattle.encoding.specs.Digits.{varintBytes}
-use Rattle.format.specs.Parse.{Parse, got, bad, each, pick, many}
-use Rattle.format.proofs.ParseLaws.{each-got, each-bad, many-told}
+use Rattle.format.specs.Parse.{Parse, ok, fault, each, pick, many}
+use Rattle.format.proofs.ParseLaws.{each-ok, each-fault, many-told}
 use Rattle.format.specs.Refusals.{OVER-LIMIT, ROOTS-DIFFER, NO-ROOM, UNLIKE}
 use Rattle.format.specs.Level.{levelOfTurn, levelInTurn, nextTurn}
-use Rattle.path.specs.Loose.{looseLevel}
-use Rattle.path.proofs.LooseLaws.{level-loose}
-use Rattle.encoding.specs.Spells.{AllBytes, spells}
+use Rattle.path.specs.Unchecked.{uncheckedLevel}
+use Rattle.path.proofs.UncheckedLaws.{level-unchecked}
+use Rattle.encoding.specs.Encode.{AllBytes, encodeAll}
 use Rattle.format.specs.Bump.{Bump, bumpWhole, headOf}
 use Rattle.format.proofs.BumpLaws.{bump-whole-told}
 use Rattle.encoding.specs.BumpBytes.{Content, ContentFit, bumpBytes, contentOf}
@@ -55,15 +55,15 @@ use Rattle.merging.specs.Agreed.{Agreed, Taken}
 
 -- ---- a path whose clients agree
 
-pub agreed-read : (s r : List ℕ) (head : BumpHead) {q : ℕ} → bumpClients s ≡ accepted r → each headOf (bumpWhole s) ≡ got head q → AllBytes s → Agreed s head r
-agreed-read s r head {q} e f b = let x = each-got headOf (bumpWhole s) f in record { bump = x .0; next = q; read = x .1; is = x .2; agrees = e; bytes = b }
+pub agreed-read : (s r : List ℕ) (head : BumpHead) {q : ℕ} → bumpClients s ≡ accepted r → each headOf (bumpWhole s) ≡ ok head q → AllBytes s → Agreed s head r
+agreed-read s r head {q} e f b = let x = each-ok headOf (bumpWhole s) f in record { bump = x .0; next = q; read = x .1; is = x .2; agrees = e; bytes = b }
 
 pub agreed-low : (s r : List ℕ) (head : BumpHead) → Agreed s head r → head .height ≤ 64
 agreed-low s r head g = subst (λ (h : BumpHead). h .height ≤ 64) (g .is) (bump-whole-told s (g .read) .low)
 
 -- it can be read
-pub never-unread : {A : Type 0} (s r : List ℕ) {n p : ℕ} → bumpClients s ≡ accepted r → each headOf (bumpWhole s) ≡ bad n p → A
-never-unread s r e f = let z = sym (clients-agree s r .0 e .read) ∙ each-bad headOf (bumpWhole s) f in absurd (let y : _≡_ {A = ℕ} 0 1 = cc in omega arith)
+pub never-unread : {A : Type 0} (s r : List ℕ) {n p : ℕ} → bumpClients s ≡ accepted r → each headOf (bumpWhole s) ≡ fault n p → A
+never-unread s r e f = let z = sym (clients-agree s r .0 e .read) ∙ each-fault headOf (bumpWhole s) f in absurd (let y : _≡_ {A = ℕ} 0 1 = cc in omega arith)
 
 -- the check's answer
 module _ (c : Check) where
@@ -79,7 +79,7 @@ module _ (c : Check) where
 
 -- ---- each path's own refusals
 
-unread-check : (s : List ℕ) {n q : ℕ} → bumpWhole s ≡ bad n q → bumpClients s ≡ refused (carrying n q)
+unread-check : (s : List ℕ) {n q : ℕ} → bumpWhole s ≡ fault n q → bumpClients s ≡ refused (carrying n q)
 unfolding clientsUpTo
 unread-check s f = rw f refl
 
@@ -91,10 +91,10 @@ checked-refused s why e = go (bumpWhole s) refl
     with-root b r = accepted (record { content = contentOf s b; root = r })
 
     go : (p : Parse Bump) → bumpWhole s ≡ p → afterReading p (λ b. follow (bumpClients s) (λ r. with-root b r)) ≡ refused why
-    go (got b q) f = rw e refl
-    go (bad n q) f = let x = sym (unread-check s f) ∙ e in let y : carrying n q ≡ why = cc in ap refused y
+    go (ok b q) f = rw e refl
+    go (fault n q) f = let x = sym (unread-check s f) ∙ e in let y : carrying n q ≡ why = cc in ap refused y
 
-checked-read : (s r : List ℕ) {b : Bump} {q : ℕ} → bumpWhole s ≡ got b q → bumpClients s ≡ accepted r → checked s ≡ accepted (record { content = contentOf s b; root = r })
+checked-read : (s r : List ℕ) {b : Bump} {q : ℕ} → bumpWhole s ≡ ok b q → bumpClients s ≡ accepted r → checked s ≡ accepted (record { content = contentOf s b; root = r })
 unfolding checked
 checked-read s r e f = rw (e, f) refl
 
@@ -123,18 +123,18 @@ decided-told true false false false f m n e = absurd (let z : _≡_ {A = ℕ} 0 
 decided-told true false false true false m n e = absurd (let z : _≡_ {A = ℕ} 0 1 = cc in omega arith)
 decided-told true false false true true m n e = (refl, refl, refl, refl, refl, cc)
 
-lowest : (s : List ℕ) {b : Bump} {q : ℕ} → bumpWhole s ≡ got b q → (t : ℕ) × (looseLevel Layout.Bump s (b .start) ≡ got (getD (b .levels) 0 []) t)
+lowest : (s : List ℕ) {b : Bump} {q : ℕ} → bumpWhole s ≡ ok b q → (t : ℕ) × (uncheckedLevel Layout.Bump s (b .start) ≡ ok (getD (b .levels) 0 []) t)
 unfolding levelOfTurn
 lowest s {b} {q} e = go (b .height) (bump-whole-told s e .some) (bump-whole-told s e .levels)
   where
-    go : (h : ℕ) → 1 ≤ h → many (levelInTurn Layout.Bump (b .height)) nextTurn h 0 s (b .start) ≡ got (b .levels) q → (t : ℕ) × (looseLevel Layout.Bump s (b .start) ≡ got (getD (b .levels) 0 []) t)
+    go : (h : ℕ) → 1 ≤ h → many (levelInTurn Layout.Bump (b .height)) nextTurn h 0 s (b .start) ≡ ok (b .levels) q → (t : ℕ) × (uncheckedLevel Layout.Bump s (b .start) ≡ ok (getD (b .levels) 0 []) t)
     go zero l f = absurd (omega arith)
     go (suc n) l f =
         let x = many-told (levelInTurn Layout.Bump (b .height)) nextTurn n 0 s (b .start) f in
-        (x .1, level-loose Layout.Bump _ _ s (b .start) (x .3) ∙ ap (λ (ls : List (List Leaf)). got (getD ls 0 []) (x .1)) (x .5))
+        (x .1, level-unchecked Layout.Bump _ _ s (b .start) (x .3) ∙ ap (λ (ls : List (List Leaf)). ok (getD ls 0 []) (x .1)) (x .5))
 
 -- the client that the check speaks of
-some-client : (s r : List ℕ) {b : Bump} {q : ℕ} → bumpWhole s ≡ got b q → bumpClients s ≡ accepted r → HasClient (getD (b .levels) 0 [])
+some-client : (s r : List ℕ) {b : Bump} {q : ℕ} → bumpWhole s ≡ ok b q → bumpClients s ≡ accepted r → HasClient (getD (b .levels) 0 [])
 some-client s r {b} e f =
     let a = clients-agree s r .0 f in
     let i = sym (a .read) ∙ e in
@@ -274,7 +274,7 @@ module _ (a b : List ℕ) (x y : BumpHead) (r t : List ℕ) (ga : Agreed a x r) 
             unfolding tallyAll
             size-is =
                 let u = ap length (merged-bytes X Y (clash-is ∙ calm)) in
-                let v = length-append (varintBytes (ga .bump .block)) (ga .bump .height ∷ spells levelText (allSpots X Y)) in
+                let v = length-append (varintBytes (ga .bump .block)) (ga .bump .height ∷ encodeAll levelText (allSpots X Y)) in
                 let w = ap (λ (h : BumpHead). length (varintBytes (h .block))) (ga .is) in
                 let z = ap (λ (v : Tally). v .bytes) tallied in
                 omega (arith, u, v, w, z, se)
@@ -332,7 +332,7 @@ written-told (accepted m) n k e = (m, refl, cc)
 
 -- ---- what is written
 
-pub build-of : (s : List ℕ) (z : Bump) {q : ℕ} (room : ℕ) → bumpWhole s ≡ got z q → length (listOf s) ≤ room → building s room ≡ accepted (listOf s)
+pub build-of : (s : List ℕ) (z : Bump) {q : ℕ} (room : ℕ) → bumpWhole s ≡ ok z q → length (listOf s) ≤ room → building s room ≡ accepted (listOf s)
 unfolding building fittingList
 build-of s z room e l = rw (e, list-is s z e) (let f = ap length (list-is s z e) in rw (le-leb (length (leafList s z)) room (omega (arith, f, l))) refl)
 
@@ -350,11 +350,11 @@ module _ (s : List ℕ) (x : BumpHead) (t : List ℕ) (y : BumpHead) (n bytes ro
     pub right : hasRoot (g .root) (bumpClients (bumpBytes content)) ≡ true
     pub result : merging s t bytes rows ≡ accepted content
     pub size : n ≡ length (bumpBytes content)
-    pub text : varintBytes (x .block) ++ (x .height ∷ spells levelText (walkLevels s t (x .height) (x .levels .at) (y .levels .at))) ≡ bumpBytes content
+    pub text : varintBytes (x .block) ++ (x .height ∷ encodeAll levelText (walkLevels s t (x .height) (x .levels .at) (y .levels .at))) ≡ bumpBytes content
     pub room : length (bumpBytes content) ≤ bytes
     pub list-room : length (listOf (bumpBytes content)) ≤ rows
     pub back : Bump
-    pub read : bumpWhole (bumpBytes content) ≡ got back (length (bumpBytes content))
+    pub read : bumpWhole (bumpBytes content) ≡ ok back (length (bumpBytes content))
 
   pub facts : Facts
   facts =
@@ -371,8 +371,8 @@ module _ (s : List ℕ) (x : BumpHead) (t : List ℕ) (y : BumpHead) (n bytes ro
         right = d .3;
         result = u .1 ∙ ap accepted (sym (d .5));
         size = u .2 ∙ ap (λ (m : Content). length (bumpBytes m)) (sym (d .5));
-        text = ap (λ (h : BumpHead). varintBytes (h .block) ++ (h .height ∷ spells levelText (walkLevels s t (x .height) (x .levels .at) (y .levels .at)))) (sym (g .first .is))
-            ∙ ap (λ (ls : List (List Spot)). varintBytes (g .first .bump .block) ++ (g .first .bump .height ∷ spells levelText ls)) (walked s t x y (g .root) (g .other) (g .first) (g .second) bytes rows same-test)
+        text = ap (λ (h : BumpHead). varintBytes (h .block) ++ (h .height ∷ encodeAll levelText (walkLevels s t (x .height) (x .levels .at) (y .levels .at)))) (sym (g .first .is))
+            ∙ ap (λ (ls : List (List Spot)). varintBytes (g .first .bump .block) ++ (g .first .bump .height ∷ encodeAll levelText ls)) (walked s t x y (g .root) (g .other) (g .first) (g .second) bytes rows same-test)
             ∙ sym (merged-bytes (contentOf s (g .first .bump)) (contentOf t (g .second .bump)) (d .2));
         room = leb-true (length (bumpBytes content)) bytes (f .0);
         list-room = leb-true (length (listOf (bumpBytes content))) rows (f .1);
@@ -382,7 +382,7 @@ module _ (s : List ℕ) (x : BumpHead) (t : List ℕ) (y : BumpHead) (n bytes ro
 
   -- the bytes, by what was written from the start
   module _ (o o′ : List ℕ) (k : ℕ) (long : length o ≡ bytes)
-      (wrote : buffer o′ k ≡ writeOn (buffer o 0) (varintBytes (x .block) ++ (x .height ∷ spells levelText (walkLevels s t (x .height) (x .levels .at) (y .levels .at))))) where
+      (wrote : buffer o′ k ≡ writeOn (buffer o 0) (varintBytes (x .block) ++ (x .height ∷ encodeAll levelText (walkLevels s t (x .height) (x .levels .at) (y .levels .at))))) where
     stored : o′ ≡ bumpBytes content ++ drop (length (bumpBytes content)) o
     stored =
         let l = facts .room in

@@ -10,8 +10,8 @@ use borrow.Author.Tests.{eqb-true}
 use Rattle.format.proofs.Basics.{and-true}
 use Rattle.format.specs.Bytes.{same}
 use Rattle.format.proofs.BytesLaws.{same-eq}
-use Rattle.format.specs.Parse.{got}
-use Rattle.encoding.specs.Spells.{AllBytes}
+use Rattle.format.specs.Parse.{ok}
+use Rattle.encoding.specs.Encode.{AllBytes}
 use Rattle.format.specs.Bump.{Bump, bumpWhole, headOf}
 use Rattle.encoding.specs.BumpBytes.{Content, bumpBytes, contentOf}
 use Rattle.encoding.proofs.BumpRoundTrip.{bump-written}
@@ -34,8 +34,8 @@ pub record Joined (a b : List ℕ) (bytes rows : ℕ) (m : Content) : Type 0 whe
   pub root : List ℕ
   pub first-end : ℕ
   pub second-end : ℕ
-  pub first-read : bumpWhole a ≡ got first first-end
-  pub second-read : bumpWhole b ≡ got second second-end
+  pub first-read : bumpWhole a ≡ ok first first-end
+  pub second-read : bumpWhole b ≡ ok second second-end
   -- "of the same block height and root"; "a path's root is the one its all-clients check gives, and the merged path still has it"
   pub blocks : first .block ≡ second .block
   pub heights : first .height ≡ second .height
@@ -53,7 +53,7 @@ pub record Joined (a b : List ℕ) (bytes rows : ℕ) (m : Content) : Type 0 whe
   pub rising : (k : ℕ) → InOrder (getD (m .levels) k [])
   -- the bytes are read back to it, and fit
   pub back : Bump
-  pub back-read : bumpWhole (bumpBytes m) ≡ got back (length (bumpBytes m))
+  pub back-read : bumpWhole (bumpBytes m) ≡ ok back (length (bumpBytes m))
   pub back-is : contentOf (bumpBytes m) back ≡ m
   pub fits : length (bumpBytes m) ≤ bytes
   -- "what a fresh build over the merged bytes gives"

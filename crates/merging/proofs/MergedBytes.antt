@@ -5,10 +5,10 @@ use mathlib.Core.Bool.{Bool, true, false, _||_, false≢true}
 use Prim.Native.Nat.{ℕ, suc, _+_}
 use lib.ListN.{length, length-map}
 use Rattle.format.specs.declared.level.Leaf.{Leaf}
-use Rattle.format.specs.Parse.{got}
+use Rattle.format.specs.Parse.{ok}
 use Rattle.encoding.specs.Digits.{varintBytes}
 use Rattle.format.specs.Level.{total}
-use Rattle.encoding.specs.Spells.{spells}
+use Rattle.encoding.specs.Encode.{encodeAll}
 use Rattle.format.specs.Bump.{Bump, bumpWhole}
 use Rattle.encoding.specs.BumpBytes.{Entry, Content, entryBytes, levelBytes, bumpBytes, entryOf, levelsOf, contentOf}
 use Rattle.leaflist.specs.LeafList.{leafList}
@@ -30,15 +30,15 @@ unfolding clashes keptOf
 kept-all [] e = refl
 kept-all (v ∷ l) e = let x = either (isClash (v .kept)) (clashes l) e in kept-more (v .offset) (v .kept) (keptOf l) (x .0) ∙ ap suc (kept-all l (x .1))
 
-text-same : (ls : List (List Spot)) → anyOf clashes ls ≡ false → spells levelText ls ≡ spells levelBytes (map keptOf ls)
-unfolding spells anyOf levelText levelBytes
+text-same : (ls : List (List Spot)) → anyOf clashes ls ≡ false → encodeAll levelText ls ≡ encodeAll levelBytes (map keptOf ls)
+unfolding encodeAll anyOf levelText levelBytes
 text-same [] e = refl
 text-same (l ∷ ls) e =
     let x = either (clashes l) (anyOf clashes ls) e in
-    ap₂ _++_ (ap (λ (n : ℕ). varintBytes n ++ spells entryBytes (keptOf l)) (sym (kept-all l (x .0)))) (text-same ls (x .1))
+    ap₂ _++_ (ap (λ (n : ℕ). varintBytes n ++ encodeAll entryBytes (keptOf l)) (sym (kept-all l (x .0)))) (text-same ls (x .1))
 
 -- block height, tree height, then the levels as the code writes them
-pub merged-bytes : (x y : Content) → anyOf clashes (allSpots x y) ≡ false → bumpBytes (merged x y) ≡ varintBytes (x .block) ++ (x .height ∷ spells levelText (allSpots x y))
+pub merged-bytes : (x y : Content) → anyOf clashes (allSpots x y) ≡ false → bumpBytes (merged x y) ≡ varintBytes (x .block) ++ (x .height ∷ encodeAll levelText (allSpots x y))
 unfolding bumpBytes merged
 merged-bytes x y e = ap (λ (v : List ℕ). varintBytes (x .block) ++ (x .height ∷ v)) (sym (text-same (allSpots x y) e))
 
@@ -57,12 +57,12 @@ unfolding entriesIn totalOf anyOf
 spots-total [] e = refl
 spots-total (l ∷ ls) e = let x = either (clashes l) (anyOf clashes ls) e in ap₂ _+_ (kept-all l (x .0)) (spots-total ls (x .1))
 
-pub list-is : (s : List ℕ) (z : Bump) {q : ℕ} → bumpWhole s ≡ got z q → listOf s ≡ leafList s z
+pub list-is : (s : List ℕ) (z : Bump) {q : ℕ} → bumpWhole s ≡ ok z q → listOf s ≡ leafList s z
 unfolding listOf
 list-is s z f = rw f refl
 
 -- the list of the merged path has as many leaves as the code counts
-pub merged-leaves : (x y : Content) (z : Bump) {q : ℕ} → anyOf clashes (allSpots x y) ≡ false → bumpWhole (bumpBytes (merged x y)) ≡ got z q → contentOf (bumpBytes (merged x y)) z ≡ merged x y
+pub merged-leaves : (x y : Content) (z : Bump) {q : ℕ} → anyOf clashes (allSpots x y) ≡ false → bumpWhole (bumpBytes (merged x y)) ≡ ok z q → contentOf (bumpBytes (merged x y)) z ≡ merged x y
     → length (listOf (bumpBytes (merged x y))) ≡ totalOf (allSpots x y)
 unfolding merged
 merged-leaves x y z {q} e f g =

@@ -16,14 +16,14 @@ use Rattle.format.specs.declared.level.Layout.{Layout}
 use Rattle.format.proofs.Basics.{or-true}
 use Rattle.format.specs.Bytes.{same, hashAt}
 use Rattle.format.proofs.BytesLaws.{same-eq}
-use Rattle.format.specs.Parse.{pick, got}
+use Rattle.format.specs.Parse.{pick, ok}
 use Rattle.format.specs.Level.{holds}
 use Rattle.format.proofs.LevelLaws.{holds-snoc}
 use Rattle.path.specs.Search.{lookup}
 use Rattle.format.specs.Bump.{Bump, bumpWhole, headOf}
 use Rattle.format.proofs.BumpLaws.{bump-whole-told}
 use Rattle.encoding.specs.BumpBytes.{Carried, plain, copy, client, Entry, Content, carriedOf, entryOf, EntryFit, andEntry, LevelFit, nextLevel, ContentFit, bumpBytes, contentOf}
-use Rattle.encoding.specs.Spells.{Fits}
+use Rattle.encoding.specs.Encode.{Fits}
 use Rattle.path.specs.Path.{LAYERS, layersOf, leafIn, leafAtPlace, bumpPathOf, bumpPath}
 use Rattle.format.specs.Refusals.{MAX-HEIGHT}
 use Rattle.path.proofs.PathLaws.{bump-leaf-in}
@@ -34,7 +34,7 @@ use Rattle.spv.proofs.ValuesLaws.{worked-same}
 use Rattle.spv.specs.Siblings.{written, sibling, writtenBy, findIn, findAt, levelSiblings}
 use Rattle.spv.specs.Clients.{bumpClients}
 use Rattle.spv.proofs.ClientsTheorems.{noLeaf, HasClient, AllReach, Agrees, clients-agree}
-use Rattle.levels.specs.Standing.{Standing, stands, nothing, at, standing}
+use Rattle.levels.specs.Standing.{Standing, stands, nothing, standingIn, standing}
 use Rattle.levels.proofs.Within.{Within}
 use Rattle.merging.specs.Merging.{Kept, keeps, clash, hasHash, agree, leftOf, spotsFrom, isClash, clashes, anyOf, allSpots, overLimit, merged}
 use Rattle.merging.proofs.MergingTheorems.{union, clashing, keptStanding, level-clash, spots-get, spots-length, merged-standing, merged-fits, merged-read}
@@ -51,8 +51,8 @@ seen (stands copy) = copied
 seen (stands (client h)) = value h
 seen nothing = absent
 
-found-seen : (s : List ℕ) (q : ℕ) (l : List Leaf) → sibling s (lookup q l) ≡ seen (at q (map (entryOf s) l))
-unfolding lookup at sibling seen written carriedOf
+found-seen : (s : List ℕ) (q : ℕ) (l : List Leaf) → sibling s (lookup q l) ≡ seen (standingIn q (map (entryOf s) l))
+unfolding lookup standingIn sibling seen written carriedOf
 found-seen s q [] = refl
 found-seen s q (leaf ∷ l) = go (eqb (leaf .offset) q) (found-seen s q l)
   where
@@ -61,14 +61,14 @@ found-seen s q (leaf ∷ l) = go (eqb (leaf .offset) q) (found-seen s q l)
     kind Copy = refl
     kind (Client p) = refl
 
-    go : (b : Bool) → sibling s (lookup q l) ≡ seen (at q (map (entryOf s) l))
-        → sibling s (pick b (Here (leaf .kind)) (lookup q l)) ≡ seen (pick b (stands (carriedOf s (leaf .kind))) (at q (map (entryOf s) l)))
+    go : (b : Bool) → sibling s (lookup q l) ≡ seen (standingIn q (map (entryOf s) l))
+        → sibling s (pick b (Here (leaf .kind)) (lookup q l)) ≡ seen (pick b (stands (carriedOf s (leaf .kind))) (standingIn q (map (entryOf s) l)))
     go true r = kind (leaf .kind)
     go false r = r
 
 levels-seen : (s : List ℕ) (b : Bump) (k q : ℕ) → writtenBy s (findIn (b .levels)) k q ≡ seen (standing (contentOf s b) k q)
 unfolding standing
-levels-seen s b k q = found-seen s q (getD (b .levels) k []) ∙ ap (λ (l : List Entry). seen (at q l)) (sym (List·getD-map (map (entryOf s)) (b .levels) k []))
+levels-seen s b k q = found-seen s q (getD (b .levels) k []) ∙ ap (λ (l : List Entry). seen (standingIn q l)) (sym (List·getD-map (map (entryOf s)) (b .levels) k []))
 
 -- ---- one place, where the two agree
 
@@ -212,9 +212,9 @@ module _ (l m : Standing) where
 -- ---- leaves by index and by offset
 
 -- a client that stands at an offset is one of the leaves
-client-index : (s : List ℕ) (l : List Leaf) (o : ℕ) (c : List ℕ) → at o (map (entryOf s) l) ≡ stands (client c)
+client-index : (s : List ℕ) (l : List Leaf) (o : ℕ) (c : List ℕ) → standingIn o (map (entryOf s) l) ≡ stands (client c)
     → (k : ℕ) × (p : ℕ) × (k < length l) × (getD l k noLeaf .kind ≡ Client p) × (getD l k noLeaf .offset ≡ o) × (hashAt s p ≡ c)
-unfolding at carriedOf
+unfolding standingIn carriedOf
 client-index s [] o c e = absurd (let z : _≡_ {A = ℕ} 0 1 = cc in omega arith)
 client-index s (leaf ∷ l) o c e = go (eqb (leaf .offset) o) refl e (λ e. client-index s l o c e)
   where
@@ -224,8 +224,8 @@ client-index s (leaf ∷ l) o c e = go (eqb (leaf .offset) o) refl e (λ e. clie
     here Copy is f e = absurd (let z : _≡_ {A = ℕ} 0 1 = cc in omega arith)
     here (Client p) is f e = (0, p, omega arith, is, f, cc)
 
-    go : (b : Bool) → eqb (leaf .offset) o ≡ b → pick b (stands (carriedOf s (leaf .kind))) (at o (map (entryOf s) l)) ≡ stands (client c)
-        → (at o (map (entryOf s) l) ≡ stands (client c) → (k : ℕ) × (p : ℕ) × (k < length l) × (getD l k noLeaf .kind ≡ Client p) × (getD l k noLeaf .offset ≡ o) × (hashAt s p ≡ c))
+    go : (b : Bool) → eqb (leaf .offset) o ≡ b → pick b (stands (carriedOf s (leaf .kind))) (standingIn o (map (entryOf s) l)) ≡ stands (client c)
+        → (standingIn o (map (entryOf s) l) ≡ stands (client c) → (k : ℕ) × (p : ℕ) × (k < length l) × (getD l k noLeaf .kind ≡ Client p) × (getD l k noLeaf .offset ≡ o) × (hashAt s p ≡ c))
         → (k : ℕ) × (p : ℕ) × (k < length (leaf ∷ l)) × (getD (leaf ∷ l) k noLeaf .kind ≡ Client p) × (getD (leaf ∷ l) k noLeaf .offset ≡ o) × (hashAt s p ≡ c)
     go true f e r = here (leaf .kind) refl (eqb-true (leaf .offset) o f) e
     go false f e r = let x = r e in (suc (x .0), x .1, (let h = x .2 in omega arith), x .3, x .4, x .5)
@@ -243,12 +243,12 @@ fits-fresh s limit level (leaf ∷ l) before (suc k) f h =
     go false e g = refl
 
 leaf-stands : (s : List ℕ) (limit level : ℕ) (l : List Leaf) (before : List ℕ) (k : ℕ) → Fits (EntryFit limit level) andEntry before (map (entryOf s) l) → k < length l
-    → at (getD l k noLeaf .offset) (map (entryOf s) l) ≡ stands (carriedOf s (getD l k noLeaf .kind))
-unfolding Fits at
+    → standingIn (getD l k noLeaf .offset) (map (entryOf s) l) ≡ stands (carriedOf s (getD l k noLeaf .kind))
+unfolding Fits standingIn
 leaf-stands s limit level [] before k f h = absurd (omega arith)
 leaf-stands s limit level (leaf ∷ l) before zero f h = rw (eq-eqb (leaf .offset) (leaf .offset) refl)
 leaf-stands s limit level (leaf ∷ l) before (suc k) f h =
-    ap (λ (b : Bool). pick b (stands (carriedOf s (leaf .kind))) (at (getD l k noLeaf .offset) (map (entryOf s) l))) (ne-eqb (leaf .offset) (getD l k noLeaf .offset) apart) ∙ leaf-stands s limit level l (andEntry before (entryOf s leaf)) k (f .1) (omega arith)
+    ap (λ (b : Bool). pick b (stands (carriedOf s (leaf .kind))) (standingIn (getD l k noLeaf .offset) (map (entryOf s) l))) (ne-eqb (leaf .offset) (getD l k noLeaf .offset) apart) ∙ leaf-stands s limit level l (andEntry before (entryOf s leaf)) k (f .1) (omega arith)
   where
     apart : leaf .offset ≡ getD l k noLeaf .offset → ⊥
     apart e =
@@ -303,9 +303,9 @@ calm-within x y wx wy h calm k o = outer (leb (x .height) k) refl
     outer true e = let i = leb-true (x .height) k e in outside (wx .below k o i) (wy .below k o (subst (λ (v : ℕ). v ≤ k) h i))
     outer false e = inner (leb (2 ^ (x .height - k)) o) refl (leb-false (x .height) k e)
 
-level-zero : (s : List ℕ) (b : Bump) (o : ℕ) → standing (contentOf s b) 0 o ≡ at o (map (entryOf s) (getD (b .levels) 0 []))
+level-zero : (s : List ℕ) (b : Bump) (o : ℕ) → standing (contentOf s b) 0 o ≡ standingIn o (map (entryOf s) (getD (b .levels) 0 []))
 unfolding standing
-level-zero s b o = ap (at o) (List·getD-map (map (entryOf s)) (b .levels) 0 [])
+level-zero s b o = ap (standingIn o) (List·getD-map (map (entryOf s)) (b .levels) 0 [])
 
 -- a client by its index stands at its offset
 client-stands : (s : List ℕ) (b : Bump) → ContentFit (contentOf s b) → (k p : ℕ) → k < length (getD (b .levels) 0 []) → getD (getD (b .levels) 0 []) k noLeaf .kind ≡ Client p
@@ -339,13 +339,13 @@ by-place s z low k j l =
     let inside : k < layersOf (z .height) = omega arith in
     rw (lt-ltb k (layersOf (z .height)) inside, lt-ltb k LAYERS small)
 
-module _ (a b : List ℕ) {x y : Bump} {p q : ℕ} (e : bumpWhole a ≡ got x p) (f : bumpWhole b ≡ got y q)
+module _ (a b : List ℕ) {x y : Bump} {p q : ℕ} (e : bumpWhole a ≡ ok x p) (f : bumpWhole b ≡ ok y q)
     (fx : ContentFit (contentOf a x)) (fy : ContentFit (contentOf b y)) (wx : Within (contentOf a x)) (wy : Within (contentOf b y)) (h : x .height ≡ y .height)
     (few : anyOf overLimit (allSpots (contentOf a x) (contentOf b y)) ≡ false) (calm : anyOf clashes (allSpots (contentOf a x) (contentOf b y)) ≡ false) where
   abbrev both : Content
   both = merged (contentOf a x) (contentOf b y)
 
-  abbrev back : (z : Bump) × (bumpWhole (bumpBytes both) ≡ got z (length (bumpBytes both))) × (contentOf (bumpBytes both) z ≡ both)
+  abbrev back : (z : Bump) × (bumpWhole (bumpBytes both) ≡ ok z (length (bumpBytes both))) × (contentOf (bumpBytes both) z ≡ both)
   back = merged-read (contentOf a x) (contentOf b y) fx fy few calm
 
   here : (k o : ℕ) → clashing (leftOf (standing (contentOf a x) k) o) (leftOf (standing (contentOf b y) k) o) (standing (contentOf a x) k o) (standing (contentOf b y) k o) ≡ false
@@ -356,7 +356,7 @@ module _ (a b : List ℕ) {x y : Bump} {p q : ℕ} (e : bumpWhole a ≡ got x p)
       ≡ union (leftOf (standing (contentOf a x) k) o) (leftOf (standing (contentOf b y) k) o) (standing (contentOf a x) k o) (standing (contentOf b y) k o)
   stood k o = ap (λ (c : Content). standing c k o) (back .2) ∙ merged-standing (contentOf a x) (contentOf b y) wx wy h k o
 
-  as-found : (s : List ℕ) {z : Bump} {n : ℕ} → bumpWhole s ≡ got z n → (k j : ℕ) → k < z .height → seen (standing (contentOf s z) k j) ≡ writtenBy s (findAt Layout.Bump s (bumpPath s z .at)) k j
+  as-found : (s : List ℕ) {z : Bump} {n : ℕ} → bumpWhole s ≡ ok z n → (k j : ℕ) → k < z .height → seen (standing (contentOf s z) k j) ≡ writtenBy s (findAt Layout.Bump s (bumpPath s z .at)) k j
   as-found s {z} g k j l = sym (levels-seen s z k j) ∙ ap (sibling s) (sym (bump-leaf-in s z (bump-whole-told s g) k j l) ∙ by-place s z (bump-whole-told s g .low) k j l)
 
   written-same : (k j : ℕ) → k < x .height → writtenBy (bumpBytes both) (findIn (back .0 .levels)) k j ≡ lookedUp a (bumpPath a x .at) b (bumpPath b y .at) k j

@@ -8,17 +8,17 @@ use lib.Dec.{eqb, leb}
 use native.Mathlib.Omega.{arith}
 use borrow.Author.Tests.{eqb-true, eqb-false, leb-true, leb-false, not-false}
 use Rattle.format.specs.Bytes.{same}
-use Rattle.format.specs.Parse.{pick, got}
+use Rattle.format.specs.Parse.{pick, ok}
 use Rattle.format.specs.Refusals.{MAX-LEAVES}
 use Rattle.format.specs.Level.{holds}
 use Rattle.format.proofs.LevelLaws.{holds-snoc}
 use Rattle.format.specs.Bump.{Bump, bumpWhole}
 use Rattle.encoding.specs.BumpBytes.{Carried, plain, copy, client, Entry, Content, CarriedFit, EntryFit, andEntry, LevelFit, nextLevel, ContentFit, bumpBytes, contentOf}
 use Rattle.encoding.proofs.BumpRoundTrip.{bump-read-back}
-use Rattle.encoding.specs.Spells.{Fits}
-use Rattle.levels.specs.Standing.{Standing, stands, nothing, at, standing}
+use Rattle.encoding.specs.Encode.{Fits}
+use Rattle.levels.specs.Standing.{Standing, stands, nothing, standingIn, standing}
 use Rattle.levels.proofs.Within.{Within}
-use Rattle.levels.proofs.InOrder.{From, Under, InOrder, under-weaken, at-below, at-above, from-weaken}
+use Rattle.levels.proofs.InOrder.{From, Under, InOrder, under-weaken, standing-below, standing-above, from-weaken}
 use Rattle.merging.specs.Merging.{Kept, keeps, clash, hasHash, agree, leftOf, Spot, unite, spotsFrom, spots, isClash, clashes, keep, keptOf, anyOf, allSpots, overLimit, merged}
 
 -- ---- one place
@@ -49,22 +49,22 @@ module _ (c d : ℕ → Standing) where
   here p = union (leftOf c p) (leftOf d p) (c p) (d p)
 
   -- one offset more, in front of those from suc o on
-  kept-at : (o p : ℕ) (l m x y : Standing) (rest : List Spot) → From (suc o) (keptOf rest) → at p (keptOf (unite o l m x y rest)) ≡ pick (eqb o p) (union l m x y) (at p (keptOf rest))
-  unfolding unite keptOf keep union keptStanding at
+  kept-at : (o p : ℕ) (l m x y : Standing) (rest : List Spot) → From (suc o) (keptOf rest) → standingIn p (keptOf (unite o l m x y rest)) ≡ pick (eqb o p) (union l m x y) (standingIn p (keptOf rest))
+  unfolding unite keptOf keep union keptStanding standingIn
   kept-at o p l m nothing nothing rest f = go (eqb o p) refl
     where
-      go : (b : Bool) → eqb o p ≡ b → at p (keptOf rest) ≡ pick b nothing (at p (keptOf rest))
-      go true e = let g = eqb-true o p e in at-below p (suc o) (keptOf rest) f (omega arith)
+      go : (b : Bool) → eqb o p ≡ b → standingIn p (keptOf rest) ≡ pick b nothing (standingIn p (keptOf rest))
+      go true e = let g = eqb-true o p e in standing-below p (suc o) (keptOf rest) f (omega arith)
       go false e = refl
   kept-at o p l m (stands x) nothing rest f = refl
   kept-at o p l m nothing (stands y) rest f = refl
   kept-at o p l m (stands x) (stands y) rest f = both (agree l m x y)
     where
-      go : (b : Bool) → eqb o p ≡ b → at p (keptOf rest) ≡ pick b nothing (at p (keptOf rest))
-      go true e = let g = eqb-true o p e in at-below p (suc o) (keptOf rest) f (omega arith)
+      go : (b : Bool) → eqb o p ≡ b → standingIn p (keptOf rest) ≡ pick b nothing (standingIn p (keptOf rest))
+      go true e = let g = eqb-true o p e in standing-below p (suc o) (keptOf rest) f (omega arith)
       go false e = refl
 
-      both : (v : Kept) → at p (keep o v (keptOf rest)) ≡ pick (eqb o p) (keptStanding v) (at p (keptOf rest))
+      both : (v : Kept) → standingIn p (keep o v (keptOf rest)) ≡ pick (eqb o p) (keptStanding v) (standingIn p (keptOf rest))
       both (keeps e) = refl
       both clash = go (eqb o p) refl
 
@@ -119,13 +119,13 @@ module _ (c d : ℕ → Standing) where
   level-order (suc n) o = kept-order o (leftOf c o) (leftOf d o) (c o) (d o) (spotsFrom c d n (suc o)) (level-from n (suc o)) (level-order n (suc o))
 
   -- what stands at an offset
-  pub level-at : (n o p : ℕ) → o ≤ p → p < o + n → at p (keptOf (spotsFrom c d n o)) ≡ here p
+  pub level-at : (n o p : ℕ) → o ≤ p → p < o + n → standingIn p (keptOf (spotsFrom c d n o)) ≡ here p
   unfolding spotsFrom
   level-at zero o p h g = absurd (omega arith)
   level-at (suc n) o p h g =
       kept-at o p (leftOf c o) (leftOf d o) (c o) (d o) (spotsFrom c d n (suc o)) (level-from n (suc o)) ∙ go (eqb o p) refl (λ i j. level-at n (suc o) p i j)
     where
-      go : (b : Bool) → eqb o p ≡ b → (suc o ≤ p → p < suc o + n → at p (keptOf (spotsFrom c d n (suc o))) ≡ here p) → pick b (here o) (at p (keptOf (spotsFrom c d n (suc o)))) ≡ here p
+      go : (b : Bool) → eqb o p ≡ b → (suc o ≤ p → p < suc o + n → standingIn p (keptOf (spotsFrom c d n (suc o))) ≡ here p) → pick b (here o) (standingIn p (keptOf (spotsFrom c d n (suc o)))) ≡ here p
       go true e r = ap here (eqb-true o p e)
       go false e r = let f = eqb-false o p e in r (omega arith) (omega arith)
 
@@ -192,8 +192,8 @@ unfolding spots
 spots-length x y zero k = refl
 spots-length x y (suc n) k = ap suc (spots-length x y n (suc k))
 
-none-at : (o : ℕ) → at o [] ≡ nothing
-unfolding at
+none-at : (o : ℕ) → standingIn o [] ≡ nothing
+unfolding standingIn
 none-at o = refl
 
 -- contents that stand within their trees, of one height
@@ -216,19 +216,19 @@ module _ (x y : Content) (wx : Within x) (wy : Within y) (h : x .height ≡ y .h
       nowhere : standing x k o ≡ nothing → standing y k o ≡ nothing → nothing ≡ union (leftOf (standing x k) o) (leftOf (standing y k) o) (standing x k o) (standing y k o)
       nowhere e f = rw (e, f) refl
 
-      inner : (b : Bool) → leb (2 ^ (x .height - k)) o ≡ b → (k < x .height) → at o (getD (merged x y .levels) k []) ≡ union (leftOf (standing x k) o) (leftOf (standing y k) o) (standing x k o) (standing y k o)
+      inner : (b : Bool) → leb (2 ^ (x .height - k)) o ≡ b → (k < x .height) → standingIn o (getD (merged x y .levels) k []) ≡ union (leftOf (standing x k) o) (leftOf (standing y k) o) (standing x k o) (standing y k o)
       inner true e g =
           let i = leb-true (2 ^ (x .height - k)) o e in
-          ap (at o) (level k g) ∙ at-above o (0 + 2 ^ (x .height - k)) (keptOf (spotsFrom (standing x k) (standing y k) (2 ^ (x .height - k)) 0)) (level-under (standing x k) (standing y k) (2 ^ (x .height - k)) 0) (omega arith)
+          ap (standingIn o) (level k g) ∙ standing-above o (0 + 2 ^ (x .height - k)) (keptOf (spotsFrom (standing x k) (standing y k) (2 ^ (x .height - k)) 0)) (level-under (standing x k) (standing y k) (2 ^ (x .height - k)) 0) (omega arith)
           ∙ nowhere (wx .inside k o i) (wy .inside k o (subst (λ (v : ℕ). 2 ^ (v - k) ≤ o) h i))
       inner false e g =
           let i = leb-false (2 ^ (x .height - k)) o e in
-          ap (at o) (level k g) ∙ level-at (standing x k) (standing y k) (2 ^ (x .height - k)) 0 o (omega arith) (omega arith)
+          ap (standingIn o) (level k g) ∙ level-at (standing x k) (standing y k) (2 ^ (x .height - k)) 0 o (omega arith) (omega arith)
 
-      outer : (b : Bool) → leb (x .height) k ≡ b → at o (getD (merged x y .levels) k []) ≡ union (leftOf (standing x k) o) (leftOf (standing y k) o) (standing x k o) (standing y k o)
+      outer : (b : Bool) → leb (x .height) k ≡ b → standingIn o (getD (merged x y .levels) k []) ≡ union (leftOf (standing x k) o) (leftOf (standing y k) o) (standing x k o) (standing y k o)
       outer true e =
           let i = leb-true (x .height) k e in
-          ap (at o) (beyond k i) ∙ none-at o ∙ nowhere (wx .below k o i) (wy .below k o (subst (λ (v : ℕ). v ≤ k) h i))
+          ap (standingIn o) (beyond k i) ∙ none-at o ∙ nowhere (wx .below k o i) (wy .below k o (subst (λ (v : ℕ). v ≤ k) h i))
       outer false e = inner (leb (2 ^ (x .height - k)) o) refl (leb-false (x .height) k e)
 
 -- "their offsets rising"
@@ -315,24 +315,24 @@ unfolding holds
 none-held o h = absurd (false≢true h)
 
 -- what stands in a content that fits
-fits-at : (limit k : ℕ) (seen : List ℕ) (l : List Entry) (o : ℕ) → Fits (EntryFit limit k) andEntry seen l → StandingFit k o (at o l)
-unfolding Fits at StandingFit
+fits-at : (limit k : ℕ) (seen : List ℕ) (l : List Entry) (o : ℕ) → Fits (EntryFit limit k) andEntry seen l → StandingFit k o (standingIn o l)
+unfolding Fits standingIn StandingFit
 fits-at limit k seen [] o f = tt
 fits-at limit k seen (e ∷ l) o f = go (eqb (e .offset) o) refl (fits-at limit k (andEntry seen e) l o (f .1))
   where
-    go : (b : Bool) → eqb (e .offset) o ≡ b → StandingFit k o (at o l) → StandingFit k o (pick b (stands (e .carried)) (at o l))
+    go : (b : Bool) → eqb (e .offset) o ≡ b → StandingFit k o (standingIn o l) → StandingFit k o (pick b (stands (e .carried)) (standingIn o l))
     go true h r = subst (λ (p : ℕ). CarriedFit k p (e .carried)) (eqb-true (e .offset) o h) (f .0 .2)
     go false h r = r
 
-levels-fit-at : (height i : ℕ) (ls : List (List Entry)) (j o : ℕ) → Fits (LevelFit height) nextLevel i ls → StandingFit (i + j) o (at o (getD ls j []))
-unfolding Fits StandingFit at
+levels-fit-at : (height i : ℕ) (ls : List (List Entry)) (j o : ℕ) → Fits (LevelFit height) nextLevel i ls → StandingFit (i + j) o (standingIn o (getD ls j []))
+unfolding Fits StandingFit standingIn
 levels-fit-at height i [] j o f = tt
 levels-fit-at height i (l ∷ ls) zero o f = let a : i + zero ≡ i = omega arith in rw a (fits-at (2 ^ (height - i)) i [] l o (f .0 .1))
-levels-fit-at height i (l ∷ ls) (suc j) o f = let a : i + 1 + j ≡ i + suc j = omega arith in subst (λ (v : ℕ). StandingFit v o (at o (getD ls j []))) a (levels-fit-at height (i + 1) ls j o (f .1))
+levels-fit-at height i (l ∷ ls) (suc j) o f = let a : i + 1 + j ≡ i + suc j = omega arith in subst (λ (v : ℕ). StandingFit v o (standingIn o (getD ls j []))) a (levels-fit-at height (i + 1) ls j o (f .1))
 
 content-fits-at : (x : Content) → ContentFit x → (k o : ℕ) → StandingFit k o (standing x k o)
 unfolding standing
-content-fits-at x f k o = let a : 0 + k ≡ k = omega arith in subst (λ (v : ℕ). StandingFit v o (at o (getD (x .levels) k []))) a (levels-fit-at (x .height) 0 (x .levels) k o (f .levels-fit))
+content-fits-at x f k o = let a : 0 + k ≡ k = omega arith in subst (λ (v : ℕ). StandingFit v o (standingIn o (getD (x .levels) k []))) a (levels-fit-at (x .height) 0 (x .levels) k o (f .levels-fit))
 
 -- no level over its limit, and none with a clash
 any-none : {A : Type 0} (t : A → Bool) (a : A) (l : List A) → anyOf t (a ∷ l) ≡ false → (t a ≡ false) × (anyOf t l ≡ false)
@@ -379,5 +379,5 @@ module _ (x y : Content) (fx : ContentFit x) (fy : ContentFit y) where
 
   -- "reading the merged bytes gives the merged content"
   pub merged-read : anyOf overLimit (allSpots x y) ≡ false → anyOf clashes (allSpots x y) ≡ false
-      → (b : Bump) × (bumpWhole (bumpBytes (merged x y)) ≡ got b (length (bumpBytes (merged x y)))) × (contentOf (bumpBytes (merged x y)) b ≡ merged x y)
+      → (b : Bump) × (bumpWhole (bumpBytes (merged x y)) ≡ ok b (length (bumpBytes (merged x y)))) × (contentOf (bumpBytes (merged x y)) b ≡ merged x y)
   merged-read f g = bump-read-back (merged x y) (merged-fits f g)

@@ -16,7 +16,7 @@ use Rattle.encoding.specs.Buffer.{Buffer, putOn, writeOn}
 use Rattle.encoding.proofs.BufferLaws.{write-then, wrote-then, wrote-cons}
 use Rattle.format.specs.Bytes.{hashAt}
 use Rattle.format.proofs.BytesLaws.{hash-at-length}
-use Rattle.encoding.specs.Spells.{spells}
+use Rattle.encoding.specs.Encode.{encodeAll}
 use Rattle.encoding.specs.BumpBytes.{Carried, Entry, carriedBytes, entryBytes, carriedOf}
 use Rattle.levels.specs.declared.level.Next.the-variants.{Offset, End}
 use Rattle.levels.specs.Standing.{Standing, stands, nothing}
@@ -79,16 +79,16 @@ module _ (n i last : ℕ) (f g : Standing) (x y : List Entry) where
         ∙ ap (λ (s : Kept). spot o s ∷ walkSpots (n - (i + 1)) o v w x′ y′) (sym d))
 
 -- the bytes of a merged level, one offset more
-text-on : (o : ℕ) (k : Kept) (l : List Spot) → spells entryBytes (keptOf (spot o k ∷ l)) ≡ keptText o k ++ spells entryBytes (keptOf l)
-unfolding spells keptOf keep keptText
+text-on : (o : ℕ) (k : Kept) (l : List Spot) → encodeAll entryBytes (keptOf (spot o k ∷ l)) ≡ keptText o k ++ encodeAll entryBytes (keptOf l)
+unfolding encodeAll keptOf keep keptText
 text-on o (keeps c) l = refl
 text-on o clash l = refl
 
-pub write-spot : (p : Buffer) (o : ℕ) (k : Kept) (l : List Spot) {q : Buffer} → q ≡ writeOn p (keptText o k) → writeOn p (spells entryBytes (keptOf (spot o k ∷ l))) ≡ writeOn q (spells entryBytes (keptOf l))
-write-spot p o k l e = ap (writeOn p) (text-on o k l) ∙ write-then p (keptText o k) (spells entryBytes (keptOf l)) ∙ ap (λ (b : Buffer). writeOn b (spells entryBytes (keptOf l))) (sym e)
+pub write-spot : (p : Buffer) (o : ℕ) (k : Kept) (l : List Spot) {q : Buffer} → q ≡ writeOn p (keptText o k) → writeOn p (encodeAll entryBytes (keptOf (spot o k ∷ l))) ≡ writeOn q (encodeAll entryBytes (keptOf l))
+write-spot p o k l e = ap (writeOn p) (text-on o k l) ∙ write-then p (keptText o k) (encodeAll entryBytes (keptOf l)) ∙ ap (λ (b : Buffer). writeOn b (encodeAll entryBytes (keptOf l))) (sym e)
 
-pub write-last : (p : Buffer) → writeOn p (spells entryBytes (keptOf [])) ≡ p
-unfolding writeOn spells keptOf
+pub write-last : (p : Buffer) → writeOn p (encodeAll entryBytes (keptOf [])) ≡ p
+unfolding writeOn encodeAll keptOf
 write-last p = refl
 
 -- sizes
@@ -111,7 +111,7 @@ size-kept o c e f = let h = length-append (varintBytes o) (carriedBytes c) in om
 -- a tally so far, and what is left
 pub record Tallying (r : LevelTally) (l whole : List Spot) : Type 0 where
   pub counts : r .count + length l ≡ length whole
-  pub sizes : r .bytes + length (spells entryBytes (keptOf l)) ≡ length (spells entryBytes (keptOf whole))
+  pub sizes : r .bytes + length (encodeAll entryBytes (keptOf l)) ≡ length (encodeAll entryBytes (keptOf whole))
   pub calm : (r .clash || clashes l) ≡ clashes whole
 
 pub tally-start : (l : List Spot) → Tallying (record { count = 0; bytes = 0; clash = false }) l l
@@ -128,7 +128,7 @@ tally-on r o k l m whole {n} {b} t e f g =
     let u = t .counts in
     let v = t .sizes in
     let w = ap length e in
-    let s = ap (λ (z : List Spot). length (spells entryBytes (keptOf z))) e ∙ ap length (text-on o k l) ∙ length-append (keptText o k) (spells entryBytes (keptOf l)) in
+    let s = ap (λ (z : List Spot). length (encodeAll entryBytes (keptOf z))) e ∙ ap length (text-on o k l) ∙ length-append (keptText o k) (encodeAll entryBytes (keptOf l)) in
     record {
       counts = omega (arith, u, w);
       sizes = omega (arith, v, s, f);
@@ -140,18 +140,18 @@ or-false true = refl
 or-false false = refl
 
 pub tally-end : (r : LevelTally) (l whole : List Spot) → Tallying r l whole → l ≡ [] → r ≡ tallyOf whole
-unfolding tallyOf clashes spells keptOf
+unfolding tallyOf clashes encodeAll keptOf
 tally-end r l whole t e =
     let u = t .counts in
     let v = t .sizes in
     let a = ap length e in
-    let b = ap (λ (z : List Spot). length (spells entryBytes (keptOf z))) e in
+    let b = ap (λ (z : List Spot). length (encodeAll entryBytes (keptOf z))) e in
     let c : r .count ≡ length whole = omega (arith, u, a) in
-    let d : r .bytes ≡ length (spells entryBytes (keptOf whole)) = omega (arith, v, b) in
+    let d : r .bytes ≡ length (encodeAll entryBytes (keptOf whole)) = omega (arith, v, b) in
     let f : r .clash ≡ clashes whole = sym (or-false (r .clash)) ∙ ap (λ (z : List Spot). r .clash || clashes z) (sym e) ∙ t .calm in
     made c d f
   where
-    made : r .count ≡ length whole → r .bytes ≡ length (spells entryBytes (keptOf whole)) → r .clash ≡ clashes whole → r ≡ record { count = length whole; bytes = length (spells entryBytes (keptOf whole)); clash = clashes whole }
+    made : r .count ≡ length whole → r .bytes ≡ length (encodeAll entryBytes (keptOf whole)) → r .clash ≡ clashes whole → r ≡ record { count = length whole; bytes = length (encodeAll entryBytes (keptOf whole)); clash = clashes whole }
     made c d f = rw (← c, ← d, ← f) refl
 
 -- a clash before, or now

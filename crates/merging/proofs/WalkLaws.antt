@@ -10,10 +10,10 @@ use borrow.Author.Tests.{eq-eqb, eqb-true}
 use Rattle.format.specs.Parse.{pick}
 use Rattle.encoding.specs.BumpBytes.{Entry}
 use Rattle.levels.specs.declared.level.Next.the-variants.{Offset}
-use Rattle.levels.specs.Standing.{Standing, nothing, at}
-use Rattle.levels.proofs.InOrder.{From, Under, InOrder, under-weaken, at-below}
+use Rattle.levels.specs.Standing.{Standing, nothing, standingIn}
+use Rattle.levels.proofs.InOrder.{From, Under, InOrder, under-weaken, standing-below}
 use Rattle.levels.specs.Fronts.{nextOf, lesser, front, past}
-use Rattle.levels.proofs.FrontsLaws.{at-front, at-past, past-from, past-order, past-under, Turn, here, above, turn, none}
+use Rattle.levels.proofs.FrontsLaws.{standing-front, standing-past, past-from, past-order, past-under, Turn, here, above, turn, none}
 use Rattle.merging.specs.Merging.{leftOf, Spot, unite, spotsFrom}
 use Rattle.merging.specs.Walk.{leftAt, walkSpots}
 
@@ -55,7 +55,7 @@ unite-none o l m v w rest e f = rw (e, f) refl
 -- m offsets from o on, among which all leaves lie
 module _ (c d : ℕ → Standing) where
   pub walk-all : (m n o last : ℕ) (f g : Standing) (x y : List Entry) → InOrder x → InOrder y → From o x → From o y → Under (o + m) x → Under (o + m) y → length x + length y ≤ n
-      → ((p : ℕ) → o ≤ p → at p x ≡ c p) → ((p : ℕ) → o ≤ p → at p y ≡ d p) → Seen c last f o → Seen d last g o → walkSpots n last f g x y ≡ spotsFrom c d m o
+      → ((p : ℕ) → o ≤ p → standingIn p x ≡ c p) → ((p : ℕ) → o ≤ p → standingIn p y ≡ d p) → Seen c last f o → Seen d last g o → walkSpots n last f g x y ≡ spotsFrom c d m o
   unfolding spotsFrom
   walk-all zero n o last f g x y ix iy fx fy ux uy h cx cy sf sg =
       ap (λ (v : List Entry). walkSpots n last f g v y) (none o x fx ux) ∙ ap (walkSpots n last f g []) (none o y fy uy) ∙ walk-none n last f g
@@ -67,21 +67,21 @@ module _ (c d : ℕ → Standing) where
 
       go : Turn o x y → (n : ℕ) → length x + length y ≤ n
           → ((n′ last′ : ℕ) (f′ g′ : Standing) (x′ y′ : List Entry) → InOrder x′ → InOrder y′ → From (suc o) x′ → From (suc o) y′ → Under (suc o + m) x′ → Under (suc o + m) y′ → length x′ + length y′ ≤ n′
-          → ((p : ℕ) → suc o ≤ p → at p x′ ≡ c p) → ((p : ℕ) → suc o ≤ p → at p y′ ≡ d p) → Seen c last′ f′ (suc o) → Seen d last′ g′ (suc o) → walkSpots n′ last′ f′ g′ x′ y′ ≡ spotsFrom c d m (suc o))
+          → ((p : ℕ) → suc o ≤ p → standingIn p x′ ≡ c p) → ((p : ℕ) → suc o ≤ p → standingIn p y′ ≡ d p) → Seen c last′ f′ (suc o) → Seen d last′ g′ (suc o) → walkSpots n′ last′ f′ g′ x′ y′ ≡ spotsFrom c d m (suc o))
           → walkSpots n last f g x y ≡ unite o (leftOf c o) (leftOf d o) (c o) (d o) (spotsFrom c d m (suc o))
       go (above fx′ fy′) n h r =
-          let cn : c o ≡ nothing = sym (cx o (omega arith)) ∙ at-below o (suc o) x fx′ (omega arith) in
-          let dn : d o ≡ nothing = sym (cy o (omega arith)) ∙ at-below o (suc o) y fy′ (omega arith) in
+          let cn : c o ≡ nothing = sym (cx o (omega arith)) ∙ standing-below o (suc o) x fx′ (omega arith) in
+          let dn : d o ≡ nothing = sym (cy o (omega arith)) ∙ standing-below o (suc o) y fy′ (omega arith) in
           r n last f g x y ix iy fx′ fy′ (moved x ux) (moved y uy) h (λ p q. cx p (omega arith)) (λ p q. cy p (omega arith)) (seen-on c last f o sf cn) (seen-on d last g o sg dn)
           ∙ sym (unite-none o (leftOf c o) (leftOf d o) (c o) (d o) (spotsFrom c d m (suc o)) cn dn)
       go (here e fewer) zero h r = absurd (omega arith)
       go (here e fewer) (suc n) h r =
-          let ce : front o x ≡ c o = sym (at-front o x fx ix) ∙ cx o (omega arith) in
-          let de : front o y ≡ d o = sym (at-front o y fy iy) ∙ cy o (omega arith) in
+          let ce : front o x ≡ c o = sym (standing-front o x fx ix) ∙ cx o (omega arith) in
+          let de : front o y ≡ d o = sym (standing-front o y fy iy) ∙ cy o (omega arith) in
           walk-here n last f g o x y e
           ∙ ap (unite o (leftAt last o f) (leftAt last o g) (front o x) (front o y))
           (r n o (front o x) (front o y) (past o x) (past o y) (past-order o x ix) (past-order o y iy) (past-from o x fx ix) (past-from o y fy iy) (past-under o (suc o + m) x (moved x ux)) (past-under o (suc o + m) y (moved y uy)) (omega arith)
-          (λ p q. at-past o p x (omega arith) ∙ cx p (omega arith)) (λ p q. at-past o p y (omega arith) ∙ cy p (omega arith)) (seen-here c o (front o x) ce) (seen-here d o (front o y) de))
+          (λ p q. standing-past o p x (omega arith) ∙ cx p (omega arith)) (λ p q. standing-past o p y (omega arith) ∙ cy p (omega arith)) (seen-here c o (front o x) ce) (seen-here d o (front o y) de))
           ∙ ap (λ (v : Standing). unite o v (leftAt last o g) (front o x) (front o y) (spotsFrom c d m (suc o))) (sf .left)
           ∙ ap (λ (v : Standing). unite o (leftOf c o) v (front o x) (front o y) (spotsFrom c d m (suc o))) (sg .left)
           ∙ ap (λ (v : Standing). unite o (leftOf c o) (leftOf d o) v (front o y) (spotsFrom c d m (suc o))) ce

@@ -3,9 +3,9 @@ use mathlib.Core.Path.{_≡_}
 use mathlib.Core.List.{List}
 use Prim.Native.Nat.{ℕ}
 use Rattle.format.specs.declared.bump.BumpHead.{BumpHead}
-use Rattle.format.specs.Parse.{got}
+use Rattle.format.specs.Parse.{ok}
 use Rattle.format.specs.Bump.{Bump, bumpWhole, headOf}
-use Rattle.encoding.specs.Spells.{AllBytes}
+use Rattle.encoding.specs.Encode.{AllBytes}
 use Rattle.spv.specs.Result.{accepted}
 use Rattle.spv.specs.Clients.{bumpClients}
 use Rattle.merging.specs.declared.merging.Merged.{Merged}
@@ -15,7 +15,7 @@ use Rattle.merging.specs.Merging.{merging, mergedOf}
 pub record Agreed (s : List ℕ) (head : BumpHead) (root : List ℕ) : Type 0 where
   pub bump : Bump
   pub next : ℕ
-  pub read : bumpWhole s ≡ got bump next
+  pub read : bumpWhole s ≡ ok bump next
   pub is : headOf bump ≡ head
   pub agrees : bumpClients s ≡ accepted root
   pub bytes : AllBytes s

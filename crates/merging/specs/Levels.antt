@@ -5,7 +5,7 @@ use mathlib.Core.List.{List, [], _∷_, _++_}
 use Prim.Native.Nat.{ℕ, zero, suc, _+_}
 use lib.ListN.{length}
 use Rattle.encoding.specs.Digits.{varintBytes}
-use Rattle.encoding.specs.Spells.{spells}
+use Rattle.encoding.specs.Encode.{encodeAll}
 use Rattle.encoding.specs.BumpBytes.{entryBytes}
 use Rattle.levels.specs.Standing.{nothing}
 use Rattle.levels.specs.Places.{entries}
@@ -25,7 +25,7 @@ walkLevels s t (suc n) p q = levelSpots s t p q ∷ walkLevels s t n (nextIn 102
 
 -- the bytes of a merged level
 unfoldable pub levelText : List Spot → List ℕ
-levelText l = varintBytes (length l) ++ spells entryBytes (keptOf l)
+levelText l = varintBytes (length l) ++ encodeAll entryBytes (keptOf l)
 
 unfoldable pub totalOf : List (List Spot) → ℕ
 totalOf [] = 0
@@ -33,7 +33,7 @@ totalOf (l ∷ ls) = length l + totalOf ls
 
 -- a level over its limit, a clash, how many bytes and how many leaves
 unfoldable pub tallyAll : List (List Spot) → Tally
-tallyAll ls = record { over = anyOf overLimit ls; clash = anyOf clashes ls; bytes = length (spells levelText ls); leaves = totalOf ls }
+tallyAll ls = record { over = anyOf overLimit ls; clash = anyOf clashes ls; bytes = length (encodeAll levelText ls); leaves = totalOf ls }
 
 -- the tally with a level more
 unfoldable pub Added : Tally → List Spot → Tally → Type 0

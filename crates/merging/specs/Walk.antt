@@ -4,7 +4,7 @@ use Prim.Native.Nat.{ℕ, zero, suc}
 use lib.ListN.{length}
 use lib.Dec.{eqb}
 use Rattle.format.specs.Parse.{pick}
-use Rattle.encoding.specs.Spells.{spells}
+use Rattle.encoding.specs.Encode.{encodeAll}
 use Rattle.encoding.specs.BumpBytes.{Entry, entryBytes, carriedOf}
 use Rattle.levels.specs.declared.level.Next.{Next}
 use Rattle.levels.specs.declared.level.Next.the-variants.{Offset, End}
@@ -60,4 +60,4 @@ keptText o clash = []
 
 -- how many leaves a merged level has, how many bytes they take, and whether two clash
 unfoldable pub tallyOf : List Spot → LevelTally
-tallyOf l = record { count = length l; bytes = length (spells entryBytes (keptOf l)); clash = clashes l }
+tallyOf l = record { count = length l; bytes = length (encodeAll entryBytes (keptOf l)); clash = clashes l }

@@ -8,7 +8,7 @@ ghost use mathlib.Core.Path.{_≡_};
 ghost use mathlib.Core.Bool.{_||_};
 ghost use Prim.Native.Nat.{_+_, _≤_};
 ghost use lib.ListN.{length};
-ghost use Rattle.encoding.specs.Spells.{spells};
+ghost use Rattle.encoding.specs.Encode.{encodeAll};
 ghost use Rattle.encoding.specs.Buffer.{buffer, writeOn};
 ghost use mathlib.Core.List.{List};
 ghost use Rattle.merging.specs.Merging.{Spot};
@@ -106,7 +106,7 @@ pub(crate) fn put_levels(
     at: usize,
 ) -> usize
     requires { ⌜ (length (now x) ≡ 1024) × (length (now y) ≡ 1024) × (length (now room) ≡ 1024) × (height ≤ 64) ⌝ }
-    ensures { λ r. ⌜ buffer (now (out .exit)) r ≡ writeOn (buffer (now (out .entry)) at) (spells levelText (walkLevels (now (s .entry)) (now (t .entry)) height (c .at) (d .at))) ⌝ }
+    ensures { λ r. ⌜ buffer (now (out .exit)) r ≡ writeOn (buffer (now (out .entry)) at) (encodeAll levelText (walkLevels (now (s .entry)) (now (t .entry)) height (c .at) (d .at))) ⌝ }
 {
     let mut at = at;
     let mut p = c;

@@ -20,7 +20,7 @@ ghost use lib.ListN.{length};
 ghost use lib.Dec.{eqb};
 ghost use Rattle.format.specs.Bytes.{same};
 ghost use Rattle.encoding.specs.Digits.{varintBytes};
-ghost use Rattle.encoding.specs.Spells.{spells};
+ghost use Rattle.encoding.specs.Encode.{encodeAll};
 ghost use Rattle.encoding.specs.Buffer.{buffer, writeOn};
 ghost use Rattle.path.specs.Path.{bumpPathOf};
 ghost use Rattle.spv.specs.Result.{accepted};
@@ -72,7 +72,8 @@ fn walk_paths(
     at: usize,
 ) -> Walked
     requires { ⌜ x .height ≤ 64 ⌝ }
-    ensures { λ r. ⌜ (write ≡ false → (r .tally ≡ tallyAll (walkLevels (now (s .entry)) (now (t .entry)) (x .height) (x .levels .at) (y .levels .at))) × (r .tally .bytes ≤ 8388608)) × (write ≡ true → buffer (now (out .exit)) (r .end) ≡ writeOn (buffer (now (out .entry)) at) (spells levelText (walkLevels (now (s .entry)) (now (t .entry)) (x .height) (x .levels .at) (y .levels .at)))) ⌝ }
+    ensures { λ r. ⌜ (write ≡ false → (r .tally ≡ tallyAll (walkLevels (now (s .entry)) (now (t .entry)) (x .height) (x .levels .at) (y .levels .at))) × (r .tally .bytes ≤ 8388608))
+        × (write ≡ true → buffer (now (out .exit)) (r .end) ≡ writeOn (buffer (now (out .entry)) at) (encodeAll levelText (walkLevels (now (s .entry)) (now (t .entry)) (x .height) (x .levels .at) (y .levels .at)))) ⌝ }
 {
     let mut first = [0usize; PLACES];
     let mut second = [0usize; PLACES];
@@ -175,7 +176,7 @@ fn weigh(
 // The merged path's bytes: block height, tree height, levels.
 fn put_path(s: &[u8], x: BumpHead, t: &[u8], y: BumpHead, out: &mut [u8]) -> usize
     requires { ⌜ x .height ≤ 64 ⌝ }
-    ensures { λ r. ⌜ buffer (now (out .exit)) r ≡ writeOn (buffer (now (out .entry)) 0) (varintBytes (x .block) ++ (x .height ∷ spells levelText (walkLevels (now (s .entry)) (now (t .entry)) (x .height) (x .levels .at) (y .levels .at)))) ⌝ }
+    ensures { λ r. ⌜ buffer (now (out .exit)) r ≡ writeOn (buffer (now (out .entry)) 0) (varintBytes (x .block) ++ (x .height ∷ encodeAll levelText (walkLevels (now (s .entry)) (now (t .entry)) (x .height) (x .levels .at) (y .levels .at)))) ⌝ }
 {
     let block = encoding::buffer::write_varint(out, 0, x.block);
     let height = encoding::buffer::put(out, block, x.height as u8);

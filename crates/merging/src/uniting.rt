@@ -17,7 +17,7 @@ ghost use Rattle.merging.specs.Merging.{hasHash, agree, isClash, keptOf}
 ghost use mathlib.Core.List.{List};
 ghost use Prim.Native.Nat.{ℕ, _≤_};
 ghost use lib.ListN.{length};
-ghost use Rattle.encoding.specs.Spells.{spells};
+ghost use Rattle.encoding.specs.Encode.{encodeAll};
 ghost use Rattle.encoding.specs.Buffer.{buffer, writeOn};
 ghost use Rattle.levels.specs.Standing.{nothing};
 ghost use Rattle.levels.specs.Places.{entries};
@@ -253,7 +253,7 @@ pub(crate) fn put_leaves(
     out: &mut [u8],
     at: usize,
 ) -> usize
-    ensures { λ r. ⌜ buffer (now (out .exit)) r ≡ writeOn (buffer (now (out .entry)) at) (spells entryBytes (keptOf (walkSpots 2048 0 nothing nothing (entries (now (s .entry)) (now (x .entry))) (entries (now (t .entry)) (now (y .entry)))))) ⌝ }
+    ensures { λ r. ⌜ buffer (now (out .exit)) r ≡ writeOn (buffer (now (out .entry)) at) (encodeAll entryBytes (keptOf (walkSpots 2048 0 nothing nothing (entries (now (s .entry)) (now (x .entry))) (entries (now (t .entry)) (now (y .entry)))))) ⌝ }
 {
     let mut at = at;
     let mut last: u64 = 0;

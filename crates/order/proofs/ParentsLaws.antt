@@ -10,10 +10,10 @@ use lib.Dec.{eqb, ltb}
 use lib.ListN.{length, getD, set, length-set}
 use lib.Seq.{getD-set-same, getD-set-other}
 use borrow.Author.Tests.{lt-ltb, le-ltb, eqb-true, eqb-false, eq-eqb, ne-eqb}
-use Rattle.format.specs.declared.tx.Input.{Input}
-use Rattle.format.specs.declared.tx.TxHead.{TxHead}
+use Rattle.format.specs.declared.transaction.Input.{Input}
+use Rattle.format.specs.declared.transaction.TxHead.{TxHead}
 use Rattle.format.proofs.Basics.{one-less}
-use Rattle.format.specs.Parse.{pick, each, got, bad}
+use Rattle.format.specs.Parse.{pick, each, ok, fault}
 use Rattle.format.specs.Bytes.{same, hashAt}
 use Rattle.format.proofs.BytesLaws.{same-eq, same-ne, eq-same, ne-same}
 use Rattle.format.specs.Transaction.{inputField, txField, txHeadOf}
@@ -156,7 +156,7 @@ put-length n m i j = go (ltb j n)
 -- ---- put_parents: a loop that has passed k of n inputs of the i-th transaction
 
 module _ (s bytes : List ℕ) (c i n k at : ℕ) (m : List ℕ) where
-  pub putting-refused : {e q : ℕ} → k < n → inputField s at ≡ bad e q → allNamed (hashes c bytes) i m (parentsFrom s (n - k) at) ≡ m
+  pub putting-refused : {e q : ℕ} → k < n → inputField s at ≡ fault e q → allNamed (hashes c bytes) i m (parentsFrom s (n - k) at) ≡ m
   unfolding parentsFrom allNamed
   putting-refused low e = rw (one-less n k low) (rw e)
 
@@ -164,7 +164,7 @@ module _ (s bytes : List ℕ) (c i n k at : ℕ) (m : List ℕ) where
   unfolding parentsFrom allNamed
   putting-end past = let none : n - k ≡ 0 = omega arith in rw none
 
-  pub putting-on : {input : Input} {q j : ℕ} {x m′ : List ℕ} → k < n → inputField s at ≡ got input q → x ≡ hashAt s (input .parent) → j ≡ indexOf x (hashes c bytes)
+  pub putting-on : {input : Input} {q j : ℕ} {x m′ : List ℕ} → k < n → inputField s at ≡ ok input q → x ≡ hashAt s (input .parent) → j ≡ indexOf x (hashes c bytes)
       → m′ ≡ putParent c m i j → allNamed (hashes c bytes) i m (parentsFrom s (n - k) at) ≡ allNamed (hashes c bytes) i m′ (parentsFrom s (n - (k + 1)) q)
   unfolding parentsFrom allNamed named
   putting-on {input} {q} {j} {x} {m′} low e is found new =
@@ -174,7 +174,7 @@ module _ (s bytes : List ℕ) (c i n k at : ℕ) (m : List ℕ) where
 -- ---- fill_parents: a loop that has passed i of n transactions
 
 module _ (s : List ℕ) (ids : List (List ℕ)) (n i at : ℕ) (m : List ℕ) where
-  pub filling-refused : {e q : ℕ} → i < n → each txHeadOf (txField s at) ≡ bad e q → filledFrom s ids (n - i) i at m ≡ m
+  pub filling-refused : {e q : ℕ} → i < n → each txHeadOf (txField s at) ≡ fault e q → filledFrom s ids (n - i) i at m ≡ m
   unfolding filledFrom
   filling-refused low e = rw (one-less n i low) (rw e)
 
@@ -182,7 +182,7 @@ module _ (s : List ℕ) (ids : List (List ℕ)) (n i at : ℕ) (m : List ℕ) wh
   unfolding filledFrom
   filling-end past = let none : n - i ≡ 0 = omega arith in rw none
 
-  pub filling-on : {t : TxHead} {q : ℕ} {m′ : List ℕ} → i < n → each txHeadOf (txField s at) ≡ got t q → m′ ≡ allNamed ids i m (parentsFrom s (t .inputs .count) (t .inputs .at .at))
+  pub filling-on : {t : TxHead} {q : ℕ} {m′ : List ℕ} → i < n → each txHeadOf (txField s at) ≡ ok t q → m′ ≡ allNamed ids i m (parentsFrom s (t .inputs .count) (t .inputs .at .at))
       → filledFrom s ids (n - i) i at m ≡ filledFrom s ids (n - (i + 1)) (i + 1) q m′
   unfolding filledFrom
   filling-on low e new = rw (one-less n i low) (rw (e, new, add-one i))

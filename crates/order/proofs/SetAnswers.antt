@@ -8,8 +8,8 @@ use native.Mathlib.Omega.{arith}
 use lib.Dec.{leb, ltb}
 use lib.ListN.{length, getD, replicate, length-replicate, getD-replicate, length-map}
 use borrow.Author.Tests.{leb-true, eq-eqb, ne-eqb, le-leb, lt-leb}
-use Rattle.format.specs.declared.tx.Input.{Input}
-use Rattle.format.specs.Parse.{Parse, got, bad, pick, each, many, times}
+use Rattle.format.specs.declared.transaction.Input.{Input}
+use Rattle.format.specs.Parse.{Parse, ok, fault, pick, each, many, times}
 use Rattle.format.proofs.ParseLaws.{many-told}
 use Rattle.format.specs.Bytes.{hashAt}
 use Rattle.format.specs.Transaction.{Transaction, inputField, txField}
@@ -38,7 +38,7 @@ pub record Turn (s : List ℕ) (n k at : ℕ) (l : List Transaction) : Type 0 wh
   pub first : Transaction
   pub next : ℕ
   pub rest : List Transaction
-  pub read : txField s at ≡ got first next
+  pub read : txField s at ≡ ok first next
   pub goes : readFrom s n (suc k) next ≡ accepted rest
   pub whole : first ∷ rest ≡ l
 
@@ -46,13 +46,13 @@ pub turn-told : (s : List ℕ) (n k at : ℕ) (l : List Transaction) → readFro
 unfolding readFrom before
 turn-told s n k at l e = go (txField s at) refl e
   where
-    put : (t : Transaction) (next : ℕ) → txField s at ≡ got t next → (r : SetResult (List Transaction)) → readFrom s n (suc k) next ≡ r → before t r ≡ accepted l → Turn s n k at l
+    put : (t : Transaction) (next : ℕ) → txField s at ≡ ok t next → (r : SetResult (List Transaction)) → readFrom s n (suc k) next ≡ r → before t r ≡ accepted l → Turn s n k at l
     put t next h (accepted rest) m f = record { first = t; next = next; rest = rest; read = h; goes = m; whole = cc }
     put t next h (refused why j) m f = absurd (let z : _≡_ {A = ℕ} 0 1 = cc in omega arith)
 
     go : (p : Parse Transaction) → txField s at ≡ p → after p k (λ t next. before t (readFrom s n (suc k) next)) ≡ accepted l → Turn s n k at l
-    go (got t next) h f = put t next h (readFrom s n (suc k) next) refl f
-    go (bad number place) h f = absurd (let z : _≡_ {A = ℕ} 0 1 = cc in omega arith)
+    go (ok t next) h f = put t next h (readFrom s n (suc k) next) refl f
+    go (fault number place) h f = absurd (let z : _≡_ {A = ℕ} 0 1 = cc in omega arith)
 
 pub read-length : (s : List ℕ) (n k at : ℕ) (l : List Transaction) → readFrom s n k at ≡ accepted l → length l ≡ n
 read-length s zero k at l e = go (ltb at (length s)) (unfold readFrom in e)
@@ -64,31 +64,31 @@ read-length s (suc n) k at l e = let w = turn-told s n k at l e in sym (ap lengt
 
 -- ---- the parents of one transaction
 
-parents-read : (s : List ℕ) (n at : ℕ) (l : List Input) (q : ℕ) → times inputField n s at ≡ got l q → parentsFrom s n at ≡ map (λ (i : Input). hashAt s (i .parent)) l
+parents-read : (s : List ℕ) (n at : ℕ) (l : List Input) (q : ℕ) → times inputField n s at ≡ ok l q → parentsFrom s n at ≡ map (λ (i : Input). hashAt s (i .parent)) l
 unfolding parentsFrom many
 parents-read s zero at l q e = none l e
   where
-    none : (l : List Input) → times inputField 0 s at ≡ got l q → [] ≡ map (λ (i : Input). hashAt s (i .parent)) l
+    none : (l : List Input) → times inputField 0 s at ≡ ok l q → [] ≡ map (λ (i : Input). hashAt s (i .parent)) l
     none l e = let z : [] ≡ l = cc in rw (← z)
 parents-read s (suc n) at l q e =
     let w = many-told {S = Unit {0}} (λ _. inputField) (λ u _. u) n tt s at e in
     step (w .0) (w .1) (w .2) (w .3) (parents-read s n (w .1) (w .2) q (w .4)) (w .5)
   where
-    step : (i : Input) (r : ℕ) (rest : List Input) → inputField s at ≡ got i r → parentsFrom s n r ≡ map (λ (i : Input). hashAt s (i .parent)) rest → i ∷ rest ≡ l
+    step : (i : Input) (r : ℕ) (rest : List Input) → inputField s at ≡ ok i r → parentsFrom s n r ≡ map (λ (i : Input). hashAt s (i .parent)) rest → i ∷ rest ≡ l
         → parentsFrom s (suc n) at ≡ map (λ (i : Input). hashAt s (i .parent)) l
     step i r rest h f g = rw (← g) (unfold parentsFrom in rw (h, f))
 
 -- ---- the matrix
 
 module _ (s : List ℕ) (ids : List (List ℕ)) (few : length ids ≤ 256) (different : Distinct ids) where
-  fill-turn : (n i at : ℕ) (m : List ℕ) (t : Transaction) (next : ℕ) → txField s at ≡ got t next
+  fill-turn : (n i at : ℕ) (m : List ℕ) (t : Transaction) (next : ℕ) → txField s at ≡ ok t next
       → filledFrom s ids (suc n) i at m ≡ filledFrom s ids n (suc i) next (allNamed ids i m (handedIn s t .parents))
   fill-turn n i at m t next e = made (tx-told s at e)
     where
       made : TxRead false s at next t → filledFrom s ids (suc n) i at m ≡ filledFrom s ids n (suc i) next (allNamed ids i m (handedIn s t .parents))
       made r = unfold filledFrom each in rw e (ap (λ (x : List (List ℕ)). filledFrom s ids n (suc i) next (allNamed ids i m x)) (found (r .inputs-end) (r .inputs-read)))
         where
-          found : (q : ℕ) → times inputField (length (t .inputs)) s (t .inputsAt) ≡ got (t .inputs) q → parentsFrom s (length (t .inputs)) (t .inputsAt) ≡ handedIn s t .parents
+          found : (q : ℕ) → times inputField (length (t .inputs)) s (t .inputsAt) ≡ ok (t .inputs) q → parentsFrom s (length (t .inputs)) (t .inputsAt) ≡ handedIn s t .parents
           found q h = unfold handedIn in parents-read s (length (t .inputs)) (t .inputsAt) (t .inputs) q h
 
   filled-before : (n i at : ℕ) (m : List ℕ) (l : List Transaction) → readFrom s n i at ≡ accepted l → length m ≡ 8192 → i + n ≤ 256 → (k q : ℕ) → k < i → q < length ids

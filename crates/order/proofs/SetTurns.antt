@@ -9,9 +9,9 @@ use native.Mathlib.Omega.{arith}
 use lib.ListN.{length, getD, set, take, drop, replicate, length-set, length-replicate}
 use lib.Seq.{drop-drop, getD-set-same, getD-set-other}
 use borrow.Author.Tests.{lt-ltb, le-ltb}
-use Rattle.format.specs.declared.tx.TxHead.{TxHead}
-use Rattle.format.specs.Parse.{each, got, bad}
-use Rattle.format.proofs.ParseLaws.{each-got, each-bad}
+use Rattle.format.specs.declared.transaction.TxHead.{TxHead}
+use Rattle.format.specs.Parse.{each, ok, fault}
+use Rattle.format.proofs.ParseLaws.{each-ok, each-fault}
 use Rattle.format.proofs.Basics.{one-less}
 use Rattle.format.specs.Bytes.{hashAt}
 use Rattle.format.proofs.BytesLaws.{hash-there}
@@ -91,17 +91,17 @@ module _ (s : List ℕ) (n : ℕ) where
   }
 
   module _ {places : List ℕ} {i at : ℕ} (r : Reading places i at) where
-    pub reading-refused : {k q : ℕ} → i < n → each txHeadOf (txField s at) ≡ bad k q → idsOf s (readFrom s n 0 0) ≡ refused (carrying k q) i
+    pub reading-refused : {k q : ℕ} → i < n → each txHeadOf (txField s at) ≡ fault k q → idsOf s (readFrom s n 0 0) ≡ refused (carrying k q) i
     reading-refused {k} {q} low e = sym (r .kept) ∙ ap (λ (x : SetResult (List Transaction)). ahead (idsBetween s places i) (idsOf s x)) here ∙ (unfold ahead idsOf in refl)
       where
         here : readFrom s (n - i) i at ≡ refused (carrying k q) i
-        here = rw (one-less n i low) (unfold readFrom in rw (each-bad txHeadOf (txField s at) e))
+        here = rw (one-less n i low) (unfold readFrom in rw (each-fault txHeadOf (txField s at) e))
 
-    pub reading-on : {head : TxHead} {q : ℕ} {places′ : List ℕ} → n ≤ MAX-TXS → length s ≤ MAX-INPUT → i < n → each txHeadOf (txField s at) ≡ got head q
+    pub reading-on : {head : TxHead} {q : ℕ} {places′ : List ℕ} → n ≤ MAX-TXS → length s ≤ MAX-INPUT → i < n → each txHeadOf (txField s at) ≡ ok head q
         → places′ ≡ set places (i + 1) q → Reading places′ (i + 1) q
-    reading-on {head} {q} {places′} few short low e new = go (each-got txHeadOf (txField s at) e)
+    reading-on {head} {q} {places′} few short low e new = go (each-ok txHeadOf (txField s at) e)
       where
-        go : (t : Transaction) × (txField s at ≡ got t q) × (txHeadOf t ≡ head) → Reading places′ (i + 1) q
+        go : (t : Transaction) × (txField s at ≡ ok t q) × (txHeadOf t ≡ head) → Reading places′ (i + 1) q
         go (t, m, h) = rw new (record {
           done = omega arith;
           wide = length-set places (i + 1) q ∙ r .wide;

@@ -6,8 +6,8 @@ use mathlib.Core.List.{List, [], _∷_, _++_, map}
 use mathlib.Core.Option.{Option, none, some}
 use lib.Dec.{ltb, leb}
 use lib.ListN.{length, getD, drop, replicate}
-use Rattle.format.specs.declared.tx.Input.{Input}
-use Rattle.format.specs.Parse.{Parse, got, bad, pick}
+use Rattle.format.specs.declared.transaction.Input.{Input}
+use Rattle.format.specs.Parse.{Parse, ok, fault, pick}
 use Rattle.format.specs.Bytes.{hashAt}
 use Rattle.format.specs.Transaction.{Transaction, txField}
 use Rattle.format.specs.Id.{txid}
@@ -39,8 +39,8 @@ follow (refused why k) f = refused why k
 
 -- what follows the reading of the k-th transaction: "reading faults with place and transaction number"
 abbrev pub after : {A B : Type 0} → Parse A → ℕ → (A → ℕ → SetResult B) → SetResult B
-after (got a next) k f = f a next
-after (bad number place) k f = refused (carrying number place) k
+after (ok a next) k f = f a next
+after (fault number place) k f = refused (carrying number place) k
 
 -- with one more in front
 unfoldable pub before : {A : Type 0} → A → SetResult (List A) → SetResult (List A)

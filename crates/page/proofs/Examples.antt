@@ -10,7 +10,7 @@ use Rattle.format.specs.Level.{levelField}
 use Rattle.format.specs.Bump.{blockField, heightUpTo, bumpUpTo}
 use Rattle.path.specs.Search.{leastOffset}
 use Rattle.spv.specs.Result.{carrying}
-use Rattle.spv.specs.Compare.{proveBy}
+use Rattle.spv.specs.Prove.{proveBy}
 use Rattle.spv.specs.Readings.{starting, levelsReading, bumpReadingUpTo}
 use Rattle.spv.specs.Shapes.{provedOf}
 use Rattle.spv.specs.Hashes.{hashes, hashesOf}

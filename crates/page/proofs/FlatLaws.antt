@@ -11,13 +11,13 @@ use lib.Seq.{getD-set-same, getD-set-other, take-length}
 use borrow.Author.Count.{below-more}
 use borrow.Author.Tests.{lt-ltb, le-ltb, ltb-true}
 use Rattle.path.specs.declared.path.Path.{Path}
-use Rattle.format.specs.Parse.{Parse, got, bad, pick}
+use Rattle.format.specs.Parse.{Parse, ok, fault, pick}
 use Rattle.format.specs.Bump.{Bump}
 use Rattle.path.specs.Path.{bumpPathOf, bumpPath}
 use Rattle.format.specs.Bytes.{setHash, hashAt}
 use Rattle.format.proofs.BytesLaws.{set-inside, hash-there, hash-at-length}
 use Rattle.spv.specs.Result.{refused}
-use Rattle.spv.specs.Compare.{prove}
+use Rattle.spv.specs.Prove.{prove}
 use Rattle.spv.specs.Readings.{pathReading}
 use Rattle.spv.specs.Shapes.{acceptedOf, provedOf}
 use Rattle.spv.proofs.Stored.{stored-here, stored-other}
@@ -146,23 +146,23 @@ module _ (s ids : List ℕ) (room : ℕ) where
   opening-few o k e f = go (bumpFor s ids room) refl (ap (λ (p : Opening). p .paged) (sym e) ∙ f)
     where
       go : (p : Parse Bump) → bumpFor s ids room ≡ p → openingOf s (length ids / 32) p .paged ≡ Paged.Answered k → length ids / 32 ≤ MAX-PAGE
-      go (got b q) g h = page-few s ids room b q g
-      go (bad number place) g h = let z : _≡_ {A = ℕ} 0 1 = cc in absurd (omega arith)
+      go (ok b q) g h = page-few s ids room b q g
+      go (fault number place) g h = let z : _≡_ {A = ℕ} 0 1 = cc in absurd (omega arith)
 
   pub opening-levelled : (o : Opening) (k : ℕ) → o ≡ openingOf s (length ids / 32) (bumpFor s ids room) → o .paged ≡ Paged.Answered k → Levelled (o .path)
   unfolding openingOf unopened bumpPathOf
   opening-levelled o k e f = go (bumpFor s ids room) (sym e) (ap (λ (p : Opening). p .paged) (sym e) ∙ f)
     where
       go : (p : Parse Bump) → openingOf s (length ids / 32) p ≡ o → openingOf s (length ids / 32) p .paged ≡ Paged.Answered k → Levelled (o .path)
-      go (got b q) g h = rw (← g) (record { bump = refl; few = omega arith })
-      go (bad number place) g h = let z : _≡_ {A = ℕ} 0 1 = cc in absurd (omega arith)
+      go (ok b q) g h = rw (← g) (record { bump = refl; few = omega arith })
+      go (fault number place) g h = let z : _≡_ {A = ℕ} 0 1 = cc in absurd (omega arith)
 
   module _ (roots numbers : List ℕ) (long : NUMBERS-ROOM ≤ length numbers) where
     row-is : (p : Parse Bump) → bumpFor s ids room ≡ p
         → ((k : ℕ) → openingOf s (length ids / 32) p .paged ≡ Paged.Answered k → AllRight s ids (openingOf s (length ids / 32) p .path) (length ids / 32) roots numbers)
         → (i : ℕ) → flatAnswer roots numbers (countOf (openingOf s (length ids / 32) p .paged)) i ≡ answerAt s ids (openingOf s (length ids / 32) p) i
     unfolding flatAnswer answerAt answerUnder openingOf unopened AllRight asked
-    row-is (got b q) e all i = go (ltb i (length ids / 32)) refl
+    row-is (ok b q) e all i = go (ltb i (length ids / 32)) refl
       where
         go : (t : Bool) → ltb i (length ids / 32) ≡ t
             → pick t (pick (ltb i MAX-PAGE) (pick (ltb (length numbers) NUMBERS-ROOM) blankAnswer (flatAt roots numbers i)) blankAnswer) blankAnswer ≡ pick t (asked s ids (bumpPath s b) i) blankAnswer
@@ -172,7 +172,7 @@ module _ (s ids : List ℕ) (room : ℕ) where
             let inside : i < MAX-PAGE = omega arith in
             rw (lt-ltb i MAX-PAGE inside, le-ltb (length numbers) NUMBERS-ROOM long) (all (length ids / 32) refl i l l)
         go false f = refl
-    row-is (bad number place) e all i = rw (le-ltb i 0 (omega arith))
+    row-is (fault number place) e all i = rw (le-ltb i 0 (omega arith))
 
     -- the answers of all ids, as a page has them
     pub flat-page : (o : Opening) → o ≡ openingOf s (length ids / 32) (bumpFor s ids room) → ((k : ℕ) → o .paged ≡ Paged.Answered k → AllRight s ids (o .path) (length ids / 32) roots numbers)

@@ -9,14 +9,14 @@ use lib.Dec.{ltb, leb, eqb}
 use lib.ListN.{length, getD, replicate, length-map, List·getD-eq-default}
 use borrow.Author.Tests.{le-leb, lt-leb, leb-true, eq-eqb, ne-eqb, ltb-true, ltb-false}
 use Rattle.format.proofs.Basics.{and-true}
-use Rattle.format.specs.Parse.{Parse, got, bad, pick}
+use Rattle.format.specs.Parse.{Parse, ok, fault, pick}
 use Rattle.format.specs.Bump.{Bump, bumpWhole}
 use Rattle.path.specs.Path.{bumpPath}
 use Rattle.format.specs.Padded.{padded}
 use Rattle.format.specs.Bytes.{hashAt}
 use Rattle.format.specs.Refusals.{OVER-LIMIT, NO-ROOM}
 use Rattle.spv.specs.Result.{Result, accepted, afterReading}
-use Rattle.spv.specs.Compare.{Proof, prove}
+use Rattle.spv.specs.Prove.{Proof, prove}
 use Rattle.spv.specs.Readings.{pathReading}
 use Rattle.spv.proofs.ReadingsLaws.{bump-proves}
 use Rattle.spv.specs.Shapes.{provedOf}
@@ -32,17 +32,17 @@ use Rattle.page.specs.Opening.{unopened, openingOf, answerUnder, answerA
 -- ---- refusals, in their order
 
 module _ (s ids : List ℕ) (room : ℕ) where
-  pub page-part : (length ids % 32 ≡ 0 → ⊥) → bumpFor s ids room ≡ bad OVER-LIMIT 0
+  pub page-part : (length ids % 32 ≡ 0 → ⊥) → bumpFor s ids room ≡ fault OVER-LIMIT 0
   unfolding bumpFor allowed
   page-part h = rw (ne-eqb (length ids % 32) 0 h)
 
   module _ (whole : length ids % 32 ≡ 0) where
-    pub page-over : MAX-PAGE < length ids / 32 → bumpFor s ids room ≡ bad OVER-LIMIT 0
+    pub page-over : MAX-PAGE < length ids / 32 → bumpFor s ids room ≡ fault OVER-LIMIT 0
     unfolding bumpFor allowed
     page-over h = rw (eq-eqb (length ids % 32) 0 whole, lt-leb (length ids / 32) MAX-PAGE h)
 
     module _ (few : length ids / 32 ≤ MAX-PAGE) where
-      pub page-short : room < length ids / 32 → bumpFor s ids room ≡ bad NO-ROOM 0
+      pub page-short : room < length ids / 32 → bumpFor s ids room ≡ fault NO-ROOM 0
       unfolding bumpFor allowed
       page-short h = rw (eq-eqb (length ids % 32) 0 whole, le-leb (length ids / 32) MAX-PAGE few, lt-leb (length ids / 32) room h)
 
@@ -51,17 +51,17 @@ module _ (s ids : List ℕ) (room : ℕ) where
       page-asked h = rw (eq-eqb (length ids % 32) 0 whole, le-leb (length ids / 32) MAX-PAGE few, le-leb (length ids / 32) room h)
 
   -- a page that is answered is not over the limit, it has room, and its BUMP was read
-  page-told : (b : Bump) (q : ℕ) → bumpFor s ids room ≡ got b q → (allowed ids ≡ true) × (length ids / 32 ≤ room) × (bumpWhole s ≡ got b q)
+  page-told : (b : Bump) (q : ℕ) → bumpFor s ids room ≡ ok b q → (allowed ids ≡ true) × (length ids / 32 ≤ room) × (bumpWhole s ≡ ok b q)
   unfolding bumpFor
   page-told b q e = go (allowed ids) (leb (length ids / 32) room) refl refl e
     where
-      go : (t u : Bool) → allowed ids ≡ t → leb (length ids / 32) room ≡ u → pick t (pick u (bumpWhole s) (bad NO-ROOM 0)) (bad OVER-LIMIT 0) ≡ got b q
-          → (allowed ids ≡ true) × (length ids / 32 ≤ room) × (bumpWhole s ≡ got b q)
+      go : (t u : Bool) → allowed ids ≡ t → leb (length ids / 32) room ≡ u → pick t (pick u (bumpWhole s) (fault NO-ROOM 0)) (fault OVER-LIMIT 0) ≡ ok b q
+          → (allowed ids ≡ true) × (length ids / 32 ≤ room) × (bumpWhole s ≡ ok b q)
       go true true g h f = (g, leb-true (length ids / 32) room h, f)
       go true false g h f = let z : _≡_ {A = ℕ} 0 1 = cc in absurd (omega arith)
       go false u g h f = let z : _≡_ {A = ℕ} 0 1 = cc in absurd (omega arith)
 
-  pub page-few : (b : Bump) (q : ℕ) → bumpFor s ids room ≡ got b q → length ids / 32 ≤ MAX-PAGE
+  pub page-few : (b : Bump) (q : ℕ) → bumpFor s ids room ≡ ok b q → length ids / 32 ≤ MAX-PAGE
   unfolding allowed
   page-few b q e = leb-true (length ids / 32) MAX-PAGE (and-true (eqb (length ids % 32) 0) (leb (length ids / 32) MAX-PAGE) (page-told b q e .0) .1)
 
@@ -90,8 +90,8 @@ module _ (s ids : List ℕ) where
 
 module _ (s ids : List ℕ) (room : ℕ) where
   -- row by row, by a BUMP that was read
-  module _ (b : Bump) (q : ℕ) (read : bumpWhole s ≡ got b q) where
-    row-at : (i : ℕ) → answerAt s ids (openingOf s (length ids / 32) (got b q)) i ≡ getD (answers s ids) i blankAnswer
+  module _ (b : Bump) (q : ℕ) (read : bumpWhole s ≡ ok b q) where
+    row-at : (i : ℕ) → answerAt s ids (openingOf s (length ids / 32) (ok b q)) i ≡ getD (answers s ids) i blankAnswer
     unfolding answerAt answerUnder openingOf single
     row-at i = go (ltb i (length ids / 32)) refl
       where
@@ -106,16 +106,16 @@ module _ (s ids : List ℕ) (room : ℕ) where
   opening-row = go (bumpFor s ids room) refl
     where
       go : (p : Parse Bump) → bumpFor s ids room ≡ p → rows (answerAt s ids (openingOf s (length ids / 32) p)) room ≡ rowOf (afterReading p (λ _. accepted (answers s ids))) room
-      go (got b q) e =
+      go (ok b q) e =
           let told = page-told s ids room b q e in
-          rows-list (answerAt s ids (openingOf s (length ids / 32) (got b q))) blankAnswer (answers s ids) room (row-at b q (told .2)) (omega (arith, told .1, answers-length s ids))
-      go (bad number place) e =
-          rows-list (answerAt s ids (openingOf s (length ids / 32) (bad number place))) blankAnswer [] room (λ i. refl) zero-le ∙ ap (λ (k : ℕ). replicate k blankAnswer) (sub-zero room)
+          rows-list (answerAt s ids (openingOf s (length ids / 32) (ok b q))) blankAnswer (answers s ids) room (row-at b q (told .2)) (omega (arith, told .1, answers-length s ids))
+      go (fault number place) e =
+          rows-list (answerAt s ids (openingOf s (length ids / 32) (fault number place))) blankAnswer [] room (λ i. refl) zero-le ∙ ap (λ (k : ℕ). replicate k blankAnswer) (sub-zero room)
 
   pub opening-paged : openingOf s (length ids / 32) (bumpFor s ids room) .paged ≡ pagedOf (page s ids room)
   unfolding page pagedOf openingOf unopened
   opening-paged = go (bumpFor s ids room)
     where
       go : (p : Parse Bump) → openingOf s (length ids / 32) p .paged ≡ pagedOf (afterReading p (λ _. accepted (answers s ids)))
-      go (got b q) = ap Paged.Answered (sym (answers-length s ids))
-      go (bad number place) = refl
+      go (ok b q) = ap Paged.Answered (sym (answers-length s ids))
+      go (fault number place) = refl

@@ -10,7 +10,7 @@ use Rattle.path.specs.declared.path.Path.{Path}
 use Rattle.format.specs.Parse.{pick}
 use Rattle.path.specs.Path.{LAYERS}
 use Rattle.format.specs.Bytes.{hashAt}
-use Rattle.spv.specs.Compare.{prove}
+use Rattle.spv.specs.Prove.{prove}
 use Rattle.spv.specs.Readings.{pathReading}
 use Rattle.spv.specs.Shapes.{provedOf}
 use Rattle.climbs.specs.Proofs.{provedAt}

@@ -5,13 +5,13 @@ use lib.Dec.{ltb}
 use lib.ListN.{length, replicate}
 use Rattle.path.specs.declared.path.Form.{Form}
 use Rattle.path.specs.declared.path.Path.{Path}
-use Rattle.format.specs.Parse.{Parse, got, bad, pick}
+use Rattle.format.specs.Parse.{Parse, ok, fault, pick}
 use Rattle.format.specs.Bump.{Bump}
 use Rattle.path.specs.Path.{LAYERS, bumpPath}
 use Rattle.format.specs.Bytes.{hashAt}
 use Rattle.spv.specs.declared.rejection.Rejection.{Rejection}
 use Rattle.spv.specs.Result.{carrying}
-use Rattle.spv.specs.Compare.{prove}
+use Rattle.spv.specs.Prove.{prove}
 use Rattle.spv.specs.Readings.{pathReading}
 use Rattle.spv.specs.Shapes.{provedOf}
 use Rattle.page.specs.declared.Answer.{Answer}
@@ -24,8 +24,8 @@ unopened why = record { paged = Paged.Refused why; path = record { form = Form.B
 
 -- n ids by what reading their BUMP finds
 unfoldable pub openingOf : List ℕ → ℕ → Parse Bump → Opening
-openingOf s n (got b at) = record { paged = Paged.Answered n; path = bumpPath s b }
-openingOf s n (bad number place) = unopened (carrying number place)
+openingOf s n (ok b at) = record { paged = Paged.Answered n; path = bumpPath s b }
+openingOf s n (fault number place) = unopened (carrying number place)
 
 -- the answer for a row
 unfoldable pub answerUnder : List ℕ → List ℕ → Path → ℕ → Paged → Answer

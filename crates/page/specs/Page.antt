@@ -4,7 +4,7 @@ use mathlib.Core.Bool.{Bool, _&&_}
 use mathlib.Core.List.{List, map}
 use lib.Dec.{eqb, leb}
 use lib.ListN.{length, replicate}
-use Rattle.format.specs.Parse.{Parse, bad, pick}
+use Rattle.format.specs.Parse.{Parse, fault, pick}
 use Rattle.format.specs.Bump.{Bump, bumpWhole}
 use Rattle.format.specs.Padded.{padded}
 use Rattle.format.specs.Refusals.{OVER-LIMIT, NO-ROOM}
@@ -12,7 +12,7 @@ use Rattle.spv.specs.declared.prove.Outcome.{Outcome}
 use Rattle.spv.specs.declared.prove.Outcome.the-variants.{Accepted, Refused}
 use Rattle.spv.specs.declared.prove.Proved.{Proved}
 use Rattle.spv.specs.Result.{Result, accepted, refused, afterReading}
-use Rattle.spv.specs.Compare.{prove}
+use Rattle.spv.specs.Prove.{prove}
 use Rattle.spv.specs.Readings.{bumpReading}
 use Rattle.spv.specs.Shapes.{provedOf}
 use Rattle.spv.specs.Hashes.{hashesOf}
@@ -52,8 +52,8 @@ allowed ids = eqb (length ids % 32) 0 && leb (length ids / 32) MAX-PAGE
 unfoldable pub bumpFor : List ℕ → List ℕ → ℕ → Parse Bump
 bumpFor s ids room =
     pick (allowed ids)
-    (pick (leb (length ids / 32) room) (bumpWhole s) (bad NO-ROOM 0))
-    (bad OVER-LIMIT 0)
+    (pick (leb (length ids / 32) room) (bumpWhole s) (fault NO-ROOM 0))
+    (fault OVER-LIMIT 0)
 
 -- what a page comes to: an answer for each id
 unfoldable pub page : List ℕ → List ℕ → ℕ → Result (List Answer)

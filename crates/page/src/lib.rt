@@ -209,7 +209,8 @@ fn answer_all(s: &[u8], ids: &[u8], path: Path, numbers: &mut [u64], roots: &mut
 // A page as it is asked for, with its answers in flat form. The caller lends room for them; the tests of it stand for a `requires`, which a walk by hand
 // would have to meet.
 fn answer_flat(s: &[u8], ids: &[u8], room: usize, roots: &mut [u8], numbers: &mut [u64]) -> Paged
-    ensures { λ r. ⌜ (ROOTS-ROOM ≤ length (now (roots .entry)) → NUMBERS-ROOM ≤ length (now (numbers .entry)) → (r ≡ pagedOf (page (now (s .entry)) (now (ids .entry)) room)) × (rows (flatAnswer (now (roots .exit)) (now (numbers .exit)) (countOf r)) room ≡ rowOf (page (now (s .entry)) (now (ids .entry)) room) room)) ⌝ }
+    ensures { λ r. ⌜ (ROOTS-ROOM ≤ length (now (roots .entry)) → NUMBERS-ROOM ≤ length (now (numbers .entry)) → (r ≡ pagedOf (page (now (s .entry)) (now (ids .entry)) room))
+        × (rows (flatAnswer (now (roots .exit)) (now (numbers .exit)) (countOf r)) room ≡ rowOf (page (now (s .entry)) (now (ids .entry)) room) room)) ⌝ }
 {
     if roots.len() < ROOTS_ROOM {
         return Paged::Refused(spv::reject(NO_ROOM));

@@ -1,6 +1,6 @@
 pub mod OneLeaf
 pub mod StepLaws
-pub mod LooseLaws
+pub mod UncheckedLaws
 pub mod SearchLaws
 pub mod PathLaws
 pub mod TscPathLaws

@@ -14,7 +14,7 @@ use Rattle.format.specs.declared.level.Layout.{Layout}
 use Rattle.format.specs.declared.level.Leaf.{Leaf}
 use Rattle.path.specs.declared.path.Path.{Path}
 use Rattle.path.specs.declared.path.Found.the-variants.{Missing}
-use Rattle.format.specs.Parse.{Parse, many, otherwise, got, bad}
+use Rattle.format.specs.Parse.{Parse, many, otherwise, ok, fault}
 use Rattle.format.proofs.ParseLaws.{many-told, many-length}
 use Rattle.format.specs.Level.{levelOfTurn, levelInTurn, nextTurn, levelFields}
 use Rattle.format.proofs.LevelLaws.{turn-level-below, turn-level-one}
@@ -24,21 +24,21 @@ use Rattle.format.proofs.BumpLaws.{BumpRead, CmpRead}
 use Rattle.path.specs.Search.{lookup, leastOffset}
 use Rattle.path.proofs.SearchLaws.{leaf-of-level, start-of-level}
 use Rattle.path.specs.Path.{LAYERS, layersOf, leafAtPlace, leafIn, startAtPlace, startIn, placing, places, bumpPathOf, cmpPathOf, bumpPath, cmpPath}
-use Rattle.path.specs.Loose.{looseLevel}
-use Rattle.path.proofs.LooseLaws.{level-loose}
+use Rattle.path.specs.Unchecked.{uncheckedLevel}
+use Rattle.path.proofs.UncheckedLaws.{level-unchecked}
 
 module _ (layout : Layout) (height : ℕ) (s : List ℕ) where
   pub placing-end : (r i at : ℕ) (known : List ℕ) → r ≡ 0 → placing layout height r i s at known ≡ known
   unfolding placing
   placing-end r i at known e = rw e
 
-  pub placing-stop : (r i at k : ℕ) (known : List ℕ) {n q : ℕ} → 0 < r → k ≡ levelOfTurn layout height i → looseLevel layout s at ≡ bad n q
+  pub placing-stop : (r i at k : ℕ) (known : List ℕ) {n q : ℕ} → 0 < r → k ≡ levelOfTurn layout height i → uncheckedLevel layout s at ≡ fault n q
       → placing layout height r i s at known ≡ set known k at
   unfolding placing
   placing-stop zero i at k known h f e = absurd (omega arith)
   placing-stop (suc r) i at k known h f e = rw (e, f)
 
-  pub placing-on : (r r′ i at k : ℕ) (known : List ℕ) {l : List Leaf} {q : ℕ} → r ≡ r′ + 1 → k ≡ levelOfTurn layout height i → looseLevel layout s at ≡ got l q
+  pub placing-on : (r r′ i at k : ℕ) (known : List ℕ) {l : List Leaf} {q : ℕ} → r ≡ r′ + 1 → k ≡ levelOfTurn layout height i → uncheckedLevel layout s at ≡ ok l q
       → placing layout height r i s at known ≡ placing layout height r′ (i + 1) s q (set known k at)
   unfolding placing
   placing-on r r′ i at k known h f e = rw (h, add-one, e, f)
@@ -50,31 +50,31 @@ module _ (layout : Layout) (height : ℕ) (s : List ℕ) where
   unfolding placing
   placing-keeps zero i at known k h = refl
   placing-keeps (suc n) i at known k h =
-      kept (looseLevel layout s at)
+      kept (uncheckedLevel layout s at)
       (λ q. placing-keeps n (i + 1) q (set known (levelOfTurn layout height i) at) k (λ j g e. h (j + 1) (omega arith) (e ∙ ap (levelOfTurn layout height) (omega arith))))
       (getD-set-other known (levelOfTurn layout height i) k at 0 (λ e. h 0 (omega arith) (e ∙ ap (levelOfTurn layout height) (sym (add-zero i)))))
     where
       kept : (p : Parse (List Leaf)) → ((q : ℕ) → getD (placing layout height n (i + 1) s q (set known (levelOfTurn layout height i) at)) k 0 ≡ getD (set known (levelOfTurn layout height i) at) k 0)
           → getD (set known (levelOfTurn layout height i) at) k 0 ≡ getD known k 0
           → getD (otherwise p (set known (levelOfTurn layout height i) at) (λ _ next. placing layout height n (i + 1) s next (set known (levelOfTurn layout height i) at))) k 0 ≡ getD known k 0
-      kept (bad m q) later stays = stays
-      kept (got l q) later stays = later q ∙ stays
+      kept (fault m q) later stays = stays
+      kept (ok l q) later stays = later q ∙ stays
 
-  places-found : (n i at : ℕ) (known : List ℕ) {ls : List (List Leaf)} {q : ℕ} → many (levelInTurn layout height) nextTurn n i s at ≡ got ls q → i + n ≡ height → height ≤ length known
-      → (j k : ℕ) → j < n → k ≡ levelOfTurn layout height (i + j) → (t : ℕ) × (looseLevel layout s (getD (placing layout height n i s at known) k 0) ≡ got (getD ls j []) t)
+  places-found : (n i at : ℕ) (known : List ℕ) {ls : List (List Leaf)} {q : ℕ} → many (levelInTurn layout height) nextTurn n i s at ≡ ok ls q → i + n ≡ height → height ≤ length known
+      → (j k : ℕ) → j < n → k ≡ levelOfTurn layout height (i + j) → (t : ℕ) × (uncheckedLevel layout s (getD (placing layout height n i s at known) k 0) ≡ ok (getD ls j []) t)
   places-found zero i at known e f g j k h w = absurd (omega arith)
   places-found (suc n) i at known {ls} e f g j k h w =
       let x = many-told (levelInTurn layout height) nextTurn n i s at e in
-      found (x .0) (x .1) (x .2) (level-loose layout _ _ s at (x .3)) (x .5)
+      found (x .0) (x .1) (x .2) (level-unchecked layout _ _ s at (x .3)) (x .5)
       (λ more g j w h. places-found n (i + 1) (x .1) more (x .4) (omega arith) g j k h w) j h w
     where
       known′ : List ℕ
       known′ = set known (levelOfTurn layout height i) at
 
-      found : (l : List Leaf) (r : ℕ) (rest : List (List Leaf)) → looseLevel layout s at ≡ got l r → l ∷ rest ≡ ls
-          → ((more : List ℕ) → height ≤ length more → (j : ℕ) → k ≡ levelOfTurn layout height (i + 1 + j) → j < n → (t : ℕ) × (looseLevel layout s (getD (placing layout height n (i + 1) s r more) k 0) ≡ got (getD rest j []) t))
+      found : (l : List Leaf) (r : ℕ) (rest : List (List Leaf)) → uncheckedLevel layout s at ≡ ok l r → l ∷ rest ≡ ls
+          → ((more : List ℕ) → height ≤ length more → (j : ℕ) → k ≡ levelOfTurn layout height (i + 1 + j) → j < n → (t : ℕ) × (uncheckedLevel layout s (getD (placing layout height n (i + 1) s r more) k 0) ≡ ok (getD rest j []) t))
           → (j : ℕ) → j < suc n → k ≡ levelOfTurn layout height (i + j)
-          → (t : ℕ) × (looseLevel layout s (getD (placing layout height (suc n) i s at known) k 0) ≡ got (getD ls j []) t)
+          → (t : ℕ) × (uncheckedLevel layout s (getD (placing layout height (suc n) i s at known) k 0) ≡ ok (getD ls j []) t)
       found l r rest e d later zero h w =
           let first : k ≡ levelOfTurn layout height i = w ∙ ap (levelOfTurn layout height) (add-zero i) in
           let below = turn-level-below layout height i (omega arith) in
@@ -86,8 +86,8 @@ module _ (layout : Layout) (height : ℕ) (s : List ℕ) where
           (y .0, rw (placing-on layout height s (suc n) n i at (levelOfTurn layout height i) known (omega arith) refl e, ← d) (y .1))
 
   -- the level written in turn j is found at its level's place
-  pub level-found : (at : ℕ) {ls : List (List Leaf)} {q : ℕ} → height ≤ LAYERS → levelFields layout height s at ≡ got ls q → (j k : ℕ) → j < height → k ≡ levelOfTurn layout height j
-      → (t : ℕ) × (looseLevel layout s (getD (places layout height s at) k 0) ≡ got (getD ls j []) t)
+  pub level-found : (at : ℕ) {ls : List (List Leaf)} {q : ℕ} → height ≤ LAYERS → levelFields layout height s at ≡ ok ls q → (j k : ℕ) → j < height → k ≡ levelOfTurn layout height j
+      → (t : ℕ) × (uncheckedLevel layout s (getD (places layout height s at) k 0) ≡ ok (getD ls j []) t)
   level-found at h e j k l w = places-found height 0 at (replicate LAYERS 0) e (zero-add height) h j k l (w ∙ ap (levelOfTurn layout height) (sym (zero-add j)))
 
 getD-reverse : {A : Type 0} (l : List A) (k : ℕ) (d : A) → k < length l → getD (reverse l) k d ≡ getD l (length l - (k + 1)) d
@@ -112,7 +112,7 @@ past-layers s path k j h = rw (le-ltb k (path .layers) h)
 
 -- the searches in a BUMP's path find what was read
 module _ (s : List ℕ) {q : ℕ} (b : Bump) (r : BumpRead s q b) where
-  bump-level : (k : ℕ) → k < b .height → (t : ℕ) × (looseLevel Layout.Bump s (getD (bumpPath s b .at) k 0) ≡ got (getD (b .levels) k []) t)
+  bump-level : (k : ℕ) → k < b .height → (t : ℕ) × (uncheckedLevel Layout.Bump s (getD (bumpPath s b .at) k 0) ≡ ok (getD (b .levels) k []) t)
   unfolding bumpPathOf levelOfTurn
   bump-level k h =
       let few : min (b .height) LAYERS ≡ b .height = let low = r .low in omega arith in
@@ -131,12 +131,12 @@ module _ (s : List ℕ) {q : ℕ} (b : Bump) (r : BumpRead s q b) where
 
 -- the searches in a CMP's path find what was read
 module _ (s : List ℕ) {q : ℕ} (p : Cmp) (r : CmpRead s q p) where
-  cmp-level : (k : ℕ) → k < p .height → (t : ℕ) × (looseLevel Layout.Cmp s (getD (cmpPath s p .at) k 0) ≡ got (getD (p .levels) k []) t)
+  cmp-level : (k : ℕ) → k < p .height → (t : ℕ) × (uncheckedLevel Layout.Cmp s (getD (cmpPath s p .at) k 0) ≡ ok (getD (p .levels) k []) t)
   unfolding cmpPathOf levelOfTurn
   cmp-level k h =
       let few : min (p .height) LAYERS ≡ p .height = let low = r .low in omega arith in
       let x = level-found Layout.Cmp (p .height) s (p .start) (let low = r .low in omega arith) (r .levels .1) (p .height - (k + 1)) k (omega arith) (omega arith) in
-      rw few (x .0, x .1 ∙ ap (λ (l : List Leaf). got l (x .0)) (turned (r .levels .0) (many-length _ _ _ _ s (p .start) (r .levels .1)) (r .levels .2)))
+      rw few (x .0, x .1 ∙ ap (λ (l : List Leaf). ok l (x .0)) (turned (r .levels .0) (many-length _ _ _ _ s (p .start) (r .levels .1)) (r .levels .2)))
     where
       turned : (down : List (List Leaf)) → length down ≡ p .height → reverse down ≡ p .levels → getD down (p .height - (k + 1)) [] ≡ getD (p .levels) k []
       turned down e f =

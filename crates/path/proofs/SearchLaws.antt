@@ -11,11 +11,11 @@ use Rattle.format.specs.declared.level.Leaf.{Leaf}
 use Rattle.path.specs.declared.path.Found.the-variants.{Here, Missing}
 use Rattle.path.specs.declared.path.Start.{Start}
 use Rattle.path.specs.declared.path.Start.the-variants.{At, Nowhere}
-use Rattle.format.specs.Parse.{many, times, got, bad}
+use Rattle.format.specs.Parse.{many, times, ok, fault}
 use Rattle.format.proofs.ParseLaws.{onward-told, many-told, many-length}
 use Rattle.format.specs.Field.{varint}
-use Rattle.path.specs.Search.{lookup, carrying, lesser, leastOffset, seek, leafOfLevel, seekId, startOfLevel}
-use Rattle.path.specs.Loose.{looseLeaf, looseLevel}
+use Rattle.path.specs.Search.{lookup, leafStart, lesser, leastOffset, seek, leafOfLevel, seekId, startOfLevel}
+use Rattle.path.specs.Unchecked.{uncheckedLeaf, uncheckedLevel}
 
 -- a search for the offset j among r leaves
 module _ (layout : Layout) (j : ℕ) (s : List ℕ) where
@@ -23,28 +23,28 @@ module _ (layout : Layout) (j : ℕ) (s : List ℕ) where
   unfolding seek
   seek-end r at e = rw e
 
-  pub seek-stop : (r at : ℕ) {n q : ℕ} → 0 < r → looseLeaf layout s at ≡ bad n q → seek layout j r s at ≡ Missing
+  pub seek-stop : (r at : ℕ) {n q : ℕ} → 0 < r → uncheckedLeaf layout s at ≡ fault n q → seek layout j r s at ≡ Missing
   unfolding seek
   seek-stop zero at h e = refl
   seek-stop (suc r) at h e = rw e
 
-  pub seek-here : (r at : ℕ) {leaf : Leaf} {q : ℕ} → 0 < r → looseLeaf layout s at ≡ got leaf q → leaf .offset ≡ j → seek layout j r s at ≡ Here (leaf .kind)
+  pub seek-here : (r at : ℕ) {leaf : Leaf} {q : ℕ} → 0 < r → uncheckedLeaf layout s at ≡ ok leaf q → leaf .offset ≡ j → seek layout j r s at ≡ Here (leaf .kind)
   unfolding seek
   seek-here zero at h e f = absurd (omega arith)
   seek-here (suc r) at h e f = rw (e, eq-eqb _ _ f)
 
-  pub seek-on : (r r′ at : ℕ) {leaf : Leaf} {q : ℕ} → r ≡ r′ + 1 → looseLeaf layout s at ≡ got leaf q → (leaf .offset ≡ j → ⊥) → seek layout j r s at ≡ seek layout j r′ s q
+  pub seek-on : (r r′ at : ℕ) {leaf : Leaf} {q : ℕ} → r ≡ r′ + 1 → uncheckedLeaf layout s at ≡ ok leaf q → (leaf .offset ≡ j → ⊥) → seek layout j r s at ≡ seek layout j r′ s q
   unfolding seek
   seek-on r r′ at h e f = rw (h, add-one, e, ne-eqb _ _ f)
 
-  pub seek-found : (n : ℕ) (at : ℕ) {l : List Leaf} {q : ℕ} → times (looseLeaf layout) n s at ≡ got l q → seek layout j n s at ≡ lookup j l
+  pub seek-found : (n : ℕ) (at : ℕ) {l : List Leaf} {q : ℕ} → times (uncheckedLeaf layout) n s at ≡ ok l q → seek layout j n s at ≡ lookup j l
   unfolding seek lookup many
   seek-found zero at {l} e = let z : [] ≡ l = cc in ap (lookup j) z
   seek-found (suc n) at {l} e =
-      let x = many-told (λ _. looseLeaf layout) (λ u _. u) n tt s at e in
+      let x = many-told (λ _. uncheckedLeaf layout) (λ u _. u) n tt s at e in
       found (x .0) (x .1) (x .2) (x .3) (seek-found n (x .1) (x .4)) (x .5)
     where
-      found : (leaf : Leaf) (r : ℕ) (rest : List Leaf) → looseLeaf layout s at ≡ got leaf r → seek layout j n s r ≡ lookup j rest → leaf ∷ rest ≡ l → seek layout j (suc n) s at ≡ lookup j l
+      found : (leaf : Leaf) (r : ℕ) (rest : List Leaf) → uncheckedLeaf layout s at ≡ ok leaf r → seek layout j n s r ≡ lookup j rest → leaf ∷ rest ≡ l → seek layout j (suc n) s at ≡ lookup j l
       found leaf r rest e f g = rw (e, f, ← g)
 
 nowhere-lesser : (a : Start) → lesser Nowhere a ≡ a
@@ -62,12 +62,12 @@ module _ (layout : Layout) (id : List ℕ) (s : List ℕ) where
   unfolding seekId
   least-end r at best e = rw e
 
-  pub least-stop : (r at : ℕ) (best : Start) {n q : ℕ} → 0 < r → looseLeaf layout s at ≡ bad n q → seekId layout id r s at best ≡ Nowhere
+  pub least-stop : (r at : ℕ) (best : Start) {n q : ℕ} → 0 < r → uncheckedLeaf layout s at ≡ fault n q → seekId layout id r s at best ≡ Nowhere
   unfolding seekId
   least-stop zero at best h e = absurd (omega arith)
   least-stop (suc r) at best h e = rw e
 
-  pub least-on : (r r′ at : ℕ) (best best′ : Start) {leaf : Leaf} {q : ℕ} → r ≡ r′ + 1 → looseLeaf layout s at ≡ got leaf q → best′ ≡ lesser best (carrying s id leaf)
+  pub least-on : (r r′ at : ℕ) (best best′ : Start) {leaf : Leaf} {q : ℕ} → r ≡ r′ + 1 → uncheckedLeaf layout s at ≡ ok leaf q → best′ ≡ lesser best (leafStart s id leaf)
       → seekId layout id r s at best ≡ seekId layout id r′ s q best′
   unfolding seekId
   least-on r r′ at best best′ h e f = rw (h, add-one, e, f)
@@ -80,40 +80,40 @@ module _ (layout : Layout) (id : List ℕ) (s : List ℕ) where
   lesser-assoc (At x) (At y) Nowhere = refl
   lesser-assoc (At x) (At y) (At z) = ap At (omega arith)
 
-  pub least-found : (n : ℕ) (at : ℕ) (best : Start) {l : List Leaf} {q : ℕ} → times (looseLeaf layout) n s at ≡ got l q → seekId layout id n s at best ≡ lesser best (leastOffset s id l)
+  pub least-found : (n : ℕ) (at : ℕ) (best : Start) {l : List Leaf} {q : ℕ} → times (uncheckedLeaf layout) n s at ≡ ok l q → seekId layout id n s at best ≡ lesser best (leastOffset s id l)
   unfolding seekId leastOffset many
   least-found zero at best {l} e = let z : [] ≡ l = cc in sym (ap (λ (m : List Leaf). lesser best (leastOffset s id m)) (sym z) ∙ lesser-nowhere best)
   least-found (suc n) at best {l} e =
-      let x = many-told (λ _. looseLeaf layout) (λ u _. u) n tt s at e in
-      found (x .0) (x .1) (x .2) (x .3) (least-found n (x .1) (lesser best (carrying s id (x .0))) (x .4)) (x .5)
+      let x = many-told (λ _. uncheckedLeaf layout) (λ u _. u) n tt s at e in
+      found (x .0) (x .1) (x .2) (x .3) (least-found n (x .1) (lesser best (leafStart s id (x .0))) (x .4)) (x .5)
     where
-      found : (leaf : Leaf) (r : ℕ) (rest : List Leaf) → looseLeaf layout s at ≡ got leaf r
-          → seekId layout id n s r (lesser best (carrying s id leaf)) ≡ lesser (lesser best (carrying s id leaf)) (leastOffset s id rest) → leaf ∷ rest ≡ l
+      found : (leaf : Leaf) (r : ℕ) (rest : List Leaf) → uncheckedLeaf layout s at ≡ ok leaf r
+          → seekId layout id n s r (lesser best (leafStart s id leaf)) ≡ lesser (lesser best (leafStart s id leaf)) (leastOffset s id rest) → leaf ∷ rest ≡ l
           → seekId layout id (suc n) s at best ≡ lesser best (leastOffset s id l)
-      found leaf r rest e f g = rw (e, f, ← g) (lesser-assoc best (carrying s id leaf) (leastOffset s id rest))
+      found leaf r rest e f g = rw (e, f, ← g) (lesser-assoc best (leafStart s id leaf) (leastOffset s id rest))
 
 -- a search in a level that was read finds what was read
-module _ (layout : Layout) (s : List ℕ) (at : ℕ) {l : List Leaf} {q : ℕ} (e : looseLevel layout s at ≡ got l q) where
+module _ (layout : Layout) (s : List ℕ) (at : ℕ) {l : List Leaf} {q : ℕ} (e : uncheckedLevel layout s at ≡ ok l q) where
   pub leaf-of-level : (j : ℕ) → leafOfLevel layout s at j ≡ lookup j l
-  unfolding looseLevel leafOfLevel
+  unfolding uncheckedLevel leafOfLevel
   leaf-of-level j =
       let x = onward-told (varint s at) _ e in
       rw (x .2) (seek-found layout j s (x .0) (x .1) (x .3))
 
   pub start-of-level : (id : List ℕ) → startOfLevel layout s at id ≡ leastOffset s id l
-  unfolding looseLevel startOfLevel
+  unfolding uncheckedLevel startOfLevel
   start-of-level id =
       let x = onward-told (varint s at) _ e in
       rw (x .2) (least-found layout id s (x .0) (x .1) Nowhere (x .3) ∙ nowhere-lesser (leastOffset s id l))
 
 -- the level as a walk meets it: its count, then its leaves one after the other
-pub level-walk : (layout : Layout) (s : List ℕ) (at : ℕ) {l : List Leaf} {q : ℕ} → looseLevel layout s at ≡ got l q
-    → (first : ℕ) × (varint s at ≡ got (length l) first) × (times (looseLeaf layout) (length l) s first ≡ got l q)
-unfolding looseLevel
+pub level-walk : (layout : Layout) (s : List ℕ) (at : ℕ) {l : List Leaf} {q : ℕ} → uncheckedLevel layout s at ≡ ok l q
+    → (first : ℕ) × (varint s at ≡ ok (length l) first) × (times (uncheckedLeaf layout) (length l) s first ≡ ok l q)
+unfolding uncheckedLevel
 level-walk layout s at {l} {q} e =
     let x = onward-told (varint s at) _ e in
     walk (x .0) (x .1) (x .2) (x .3)
   where
-    walk : (n first : ℕ) → varint s at ≡ got n first → times (looseLeaf layout) n s first ≡ got l q
-        → (first : ℕ) × (varint s at ≡ got (length l) first) × (times (looseLeaf layout) (length l) s first ≡ got l q)
-    walk n first e f = rw (many-length (λ _. looseLeaf layout) (λ u _. u) n tt s first f) (first, e, f)
+    walk : (n first : ℕ) → varint s at ≡ ok n first → times (uncheckedLeaf layout) n s first ≡ ok l q
+        → (first : ℕ) × (varint s at ≡ ok (length l) first) × (times (uncheckedLeaf layout) (length l) s first ≡ ok l q)
+    walk n first e f = rw (many-length (λ _. uncheckedLeaf layout) (λ u _. u) n tt s first f) (first, e, f)

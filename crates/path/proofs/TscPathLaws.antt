@@ -7,7 +7,7 @@ use native.Mathlib.Omega.{arith}
 use borrow.Author.Tests.{lt-ltb}
 use Rattle.format.specs.declared.level.Kind.{Kind}
 use Rattle.path.specs.declared.path.Found.the-variants.{Here}
-use Rattle.format.specs.Parse.{each, many, times, got, bad}
+use Rattle.format.specs.Parse.{each, many, times, ok, fault}
 use Rattle.format.proofs.ParseLaws.{many-told}
 use Rattle.format.specs.Padded.{padded}
 use Rattle.format.proofs.Gather.{padded-here, each-sames}
@@ -19,11 +19,11 @@ use Rattle.path.specs.TscPath.{nodePlaceField, nodePlaces, tscPathOf, ts
 
 -- a loop that kept the places
 module _ (n : ℕ) (s : List ℕ) (at : ℕ) where
-  pub places-kept : {l kept : List ℕ} {q : ℕ} → each (map (λ (k : ℕ). k)) (times nodePlaceField n s at) ≡ got l q → kept ≡ padded 64 0 l → kept ≡ nodePlaces n s at
+  pub places-kept : {l kept : List ℕ} {q : ℕ} → each (map (λ (k : ℕ). k)) (times nodePlaceField n s at) ≡ ok l q → kept ≡ padded 64 0 l → kept ≡ nodePlaces n s at
   unfolding nodePlaces
   places-kept e k = rw (sym (each-sames (times nodePlaceField n s at)) ∙ e, k)
 
-  pub places-refused : {k q : ℕ} → each (map (λ (k : ℕ). k)) (times nodePlaceField n s at) ≡ bad k q → replicate 64 0 ≡ nodePlaces n s at
+  pub places-refused : {k q : ℕ} → each (map (λ (k : ℕ). k)) (times nodePlaceField n s at) ≡ fault k q → replicate 64 0 ≡ nodePlaces n s at
   unfolding nodePlaces
   places-refused e = rw (sym (each-sames (times nodePlaceField n s at)) ∙ e)
 
@@ -31,10 +31,10 @@ module _ (n : ℕ) (s : List ℕ) (at : ℕ) where
 record Placed (n : ℕ) (s : List ℕ) (at q : ℕ) (l : List Kind) : Type 0 where
   places : List ℕ
   all : length places ≡ length l
-  read : times nodePlaceField n s at ≡ got places q
+  read : times nodePlaceField n s at ≡ ok places q
   node : (k : ℕ) → k < length l → nodeAt s (getD places k 0) ≡ Here (getD l k Kind.Copy)
 
-placed : (s : List ℕ) (n at : ℕ) {l : List Kind} {q : ℕ} → times nodeField n s at ≡ got l q → Placed n s at q l
+placed : (s : List ℕ) (n at : ℕ) {l : List Kind} {q : ℕ} → times nodeField n s at ≡ ok l q → Placed n s at q l
 unfolding many each nodePlaceField nodeAt
 placed s zero at {l} {q} e =
     let el : [] ≡ l = cc in
@@ -44,7 +44,7 @@ placed s (suc n) at {l} {q} e =
     let x = many-told {S = Unit {0}} (λ _. nodeField) (λ u _. u) n tt s at e in
     rw (← x .5) (more (x .0) (x .1) (x .2) (x .3) (placed s n (x .1) (x .4)))
   where
-    more : (a : Kind) (r : ℕ) (rest : List Kind) → nodeField s at ≡ got a r → Placed n s r q rest → Placed (suc n) s at q (a ∷ rest)
+    more : (a : Kind) (r : ℕ) (rest : List Kind) → nodeField s at ≡ ok a r → Placed n s r q rest → Placed (suc n) s at q (a ∷ rest)
     more a r rest e p = record { places = at ∷ p .places; all = ap suc (p .all); read = rw (e, p .read); node = node }
       where
         node : (k : ℕ) → k < suc (length rest) → nodeAt s (getD (at ∷ p .places) k 0) ≡ Here (getD (a ∷ rest) k Kind.Copy)

@@ -19,7 +19,7 @@ use Rattle.format.specs.Bump.{Bump, headOf}
 use Rattle.format.specs.Cmp.{Cmp, cmpHeadOf}
 use Rattle.format.specs.Node.{nodeField}
 use Rattle.path.specs.Search.{leafOfLevel, startOfLevel}
-use Rattle.path.specs.Loose.{looseLevel}
+use Rattle.path.specs.Unchecked.{uncheckedLevel}
 
 -- layers that a path has room for
 abbrev pub LAYERS : ℕ
@@ -52,7 +52,7 @@ startIn s path id = startAtPlace s (path .form) (getD (path .at) 0 0) id
 unfoldable pub placing : Layout → ℕ → ℕ → ℕ → List ℕ → ℕ → List ℕ → List ℕ
 placing layout height zero i s at known = known
 placing layout height (suc n) i s at known =
-    otherwise (looseLevel layout s at) (set known (levelOfTurn layout height i) at)
+    otherwise (uncheckedLevel layout s at) (set known (levelOfTurn layout height i) at)
     (λ _ next. placing layout height n (i + 1) s next (set known (levelOfTurn layout height i) at))
 
 -- the places of a tree's levels, 0 past the layers

@@ -1,5 +1,5 @@
 -- What is asked of levels that were read: the leaf at an offset, and the least offset that carries an id. Code reads them
--- again without their tests, by the loose layouts; `SearchLaws` says that this finds the same leaves.
+-- again without their tests, by the unchecked layouts; `SearchLaws` says that this finds the same leaves.
 use mathlib.Core.List.{List, [], _∷_}
 use mathlib.Core.Bool.{Bool, false}
 use Prim.Native.Nat.{ℕ, zero, suc, min}
@@ -15,7 +15,7 @@ use Rattle.path.specs.declared.path.Start.the-variants.{At, Nowhere}
 use Rattle.format.specs.Parse.{pick, otherwise}
 use Rattle.format.specs.Field.{varint}
 use Rattle.format.specs.Bytes.{same, hashAt}
-use Rattle.path.specs.Loose.{looseLeaf}
+use Rattle.path.specs.Unchecked.{uncheckedLeaf}
 
 -- the leaf at the offset j
 unfoldable pub lookup : ℕ → List Leaf → Found
@@ -28,8 +28,8 @@ carries s id (Plain p) = same (hashAt s p) id
 carries s id Copy = false
 carries s id (Client p) = same (hashAt s p) id
 
-abbrev pub carrying : List ℕ → List ℕ → Leaf → Start
-carrying s id leaf = pick (carries s id (leaf .kind)) (At (leaf .offset)) Nowhere
+abbrev pub leafStart : List ℕ → List ℕ → Leaf → Start
+leafStart s id leaf = pick (carries s id (leaf .kind)) (At (leaf .offset)) Nowhere
 
 unfoldable pub lesser : Start → Start → Start
 lesser Nowhere b = b
@@ -39,13 +39,13 @@ lesser (At x) (At y) = At (min x y)
 -- of several leaves that carry the id, the least offset
 unfoldable pub leastOffset : List ℕ → List ℕ → List Leaf → Start
 leastOffset s id [] = Nowhere
-leastOffset s id (leaf ∷ l) = lesser (carrying s id leaf) (leastOffset s id l)
+leastOffset s id (leaf ∷ l) = lesser (leafStart s id leaf) (leastOffset s id l)
 
 -- the leaf at the offset j among n leaves from a place, as far as they can be read
 unfoldable pub seek : Layout → ℕ → ℕ → List ℕ → ℕ → Found
 seek layout j zero s at = Missing
 seek layout j (suc n) s at =
-    otherwise (looseLeaf layout s at) Missing (λ leaf next. pick (eqb (leaf .offset) j) (Here (leaf .kind)) (seek layout j n s next))
+    otherwise (uncheckedLeaf layout s at) Missing (λ leaf next. pick (eqb (leaf .offset) j) (Here (leaf .kind)) (seek layout j n s next))
 
 -- the leaf at the offset j of the level at a place
 unfoldable pub leafOfLevel : Layout → List ℕ → ℕ → ℕ → Found
@@ -55,7 +55,7 @@ leafOfLevel layout s at j = otherwise (varint s at) Missing (λ n next. seek lay
 unfoldable pub seekId : Layout → List ℕ → ℕ → List ℕ → ℕ → Start → Start
 seekId layout id zero s at best = best
 seekId layout id (suc n) s at best =
-    otherwise (looseLeaf layout s at) Nowhere (λ leaf next. seekId layout id n s next (lesser best (carrying s id leaf)))
+    otherwise (uncheckedLeaf layout s at) Nowhere (λ leaf next. seekId layout id n s next (lesser best (leafStart s id leaf)))
 
 -- the least offset that carries the id in the level at a place
 unfoldable pub startOfLevel : Layout → List ℕ → ℕ → List ℕ → Start

@@ -26,7 +26,7 @@ ghost use Rattle.path.specs.Steps.{kindThere};
 ghost use Rattle.format.specs.FieldAnswer.{runOf};
 ghost use Rattle.path.specs.Path.{nodeAt, leafIn, startIn, LAYERS, places, layersOf, bumpPathOf, cmpPathOf};
 ghost use Rattle.path.specs.TscPath.{nodePlaceField, nodePlaces, tscPathOf};
-ghost use Rattle.path.specs.Loose.{looseLeaf};
+ghost use Rattle.path.specs.Unchecked.{uncheckedLeaf};
 
 // Layers that a path has room for.
 pub const LAYERS: usize = Bump::MAX_HEIGHT as usize;
@@ -57,7 +57,7 @@ pub enum Start {
 }
 
 fn kind_at(s: &[u8], c: Cursor, layout: Layout) -> Found
-    ensures { λ r. ⌜ r ≡ kindThere (looseLeaf layout (now (s .entry)) (c .at)) ⌝ }
+    ensures { λ r. ⌜ r ≡ kindThere (uncheckedLeaf layout (now (s .entry)) (c .at)) ⌝ }
 {
     let field = leaf_at(s, c, layout);
     let LeafAnswer::Value(leaf, _) = field else {

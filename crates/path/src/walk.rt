@@ -1,4 +1,4 @@
-// Leaves and levels that were read before, without their tests (specs/Loose.antt).
+// Leaves and levels that were read before, without their tests (specs/Unchecked.antt).
 use format::Cursor;
 use format::KindAnswer;
 use format::Layout;
@@ -17,7 +17,7 @@ ghost use Rattle.format.specs.FieldAnswer.{numberOf};
 ghost use Rattle.format.specs.Level.{kindField};
 ghost use Rattle.path.specs.Steps.{leafWith, Tells, refusalAt};
 ghost use Rattle.format.specs.LevelAnswer.{kindOf};
-ghost use Rattle.path.specs.Loose.{looseCarried, looseLeaf, looseLevel};
+ghost use Rattle.path.specs.Unchecked.{uncheckedCarried, uncheckedLeaf, uncheckedLevel};
 ghost use Rattle.path.specs.LeafAnswer.{leafOf, refusalOfLeaf};
 
 pub enum LeafAnswer {
@@ -39,8 +39,8 @@ impl LeafAnswer {
     }
 }
 
-fn loose_flagged(s: &[u8], c: Cursor) -> KindAnswer
-    ensures { λ r. ⌜ kindOf r ≡ looseCarried Layout.Bump (now (s .entry)) (c .at) ⌝ }
+fn unchecked_flagged(s: &[u8], c: Cursor) -> KindAnswer
+    ensures { λ r. ⌜ kindOf r ≡ uncheckedCarried Layout.Bump (now (s .entry)) (c .at) ⌝ }
 {
     let first = one_byte(s, c);
     let Number::Value(flag, next) = first else {
@@ -49,24 +49,24 @@ fn loose_flagged(s: &[u8], c: Cursor) -> KindAnswer
     read_kind(s, next, flag)
 }
 
-fn loose_carried(s: &[u8], c: Cursor, layout: Layout) -> KindAnswer
-    ensures { λ r. ⌜ kindOf r ≡ looseCarried layout (now (s .entry)) (c .at) ⌝ }
+fn unchecked_carried(s: &[u8], c: Cursor, layout: Layout) -> KindAnswer
+    ensures { λ r. ⌜ kindOf r ≡ uncheckedCarried layout (now (s .entry)) (c .at) ⌝ }
 {
     match layout {
-        Layout::Bump => loose_flagged(s, c),
+        Layout::Bump => unchecked_flagged(s, c),
         Layout::Cmp => read_kind(s, c, 0),
     }
 }
 
 // A leaf of a level that was read before: no test of its offset or flags.
 pub fn leaf_at(s: &[u8], c: Cursor, layout: Layout) -> LeafAnswer
-    ensures { λ r. ⌜ leafOf r ≡ looseLeaf layout (now (s .entry)) (c .at) ⌝ }
+    ensures { λ r. ⌜ leafOf r ≡ uncheckedLeaf layout (now (s .entry)) (c .at) ⌝ }
 {
     let first = read_varint(s, c);
     let Number::Value(offset, second_at) = first else {
         return LeafAnswer::Refused(first.refusal());
     };
-    let second = loose_carried(s, second_at, layout);
+    let second = unchecked_carried(s, second_at, layout);
     let KindAnswer::Value(kind, next) = second else {
         return LeafAnswer::Refused(second.refusal());
     };
@@ -94,7 +94,7 @@ fn step_kind(s: &[u8], c: Cursor, flags: u64, offset: u64) -> Step
 }
 
 fn step_flagged(s: &[u8], c: Cursor, offset: u64) -> Step
-    ensures { λ r. ⌜ Tells r (leafWith offset (looseCarried Layout.Bump (now (s .entry)) (c .at))) ⌝ }
+    ensures { λ r. ⌜ Tells r (leafWith offset (uncheckedCarried Layout.Bump (now (s .entry)) (c .at))) ⌝ }
 {
     let first = one_byte(s, c);
     let Number::Value(flags, next) = first else {
@@ -104,7 +104,7 @@ fn step_flagged(s: &[u8], c: Cursor, offset: u64) -> Step
 }
 
 fn step_carried(s: &[u8], c: Cursor, layout: Layout, offset: u64) -> Step
-    ensures { λ r. ⌜ Tells r (leafWith offset (looseCarried layout (now (s .entry)) (c .at))) ⌝ }
+    ensures { λ r. ⌜ Tells r (leafWith offset (uncheckedCarried layout (now (s .entry)) (c .at))) ⌝ }
 {
     match layout {
         Layout::Bump => step_flagged(s, c, offset),
@@ -114,7 +114,7 @@ fn step_carried(s: &[u8], c: Cursor, layout: Layout, offset: u64) -> Step
 
 // A leaf of a level that was read before, as a search passes it.
 pub(crate) fn pass_leaf(s: &[u8], c: Cursor, layout: Layout) -> Step
-    ensures { λ r. ⌜ Tells r (looseLeaf layout (now (s .entry)) (c .at)) ⌝ }
+    ensures { λ r. ⌜ Tells r (uncheckedLeaf layout (now (s .entry)) (c .at)) ⌝ }
 {
     let first = read_varint(s, c);
     let Number::Value(offset, next) = first else {
@@ -125,14 +125,14 @@ pub(crate) fn pass_leaf(s: &[u8], c: Cursor, layout: Layout) -> Step
 
 // The refusal of a leaf that can't be read.
 fn unread_leaf(s: &[u8], c: Cursor, layout: Layout) -> Number
-    ensures { λ r. ⌜ r ≡ Number.Refused (refusalAt (looseLeaf layout (now (s .entry)) (c .at))) ⌝ }
+    ensures { λ r. ⌜ r ≡ Number.Refused (refusalAt (uncheckedLeaf layout (now (s .entry)) (c .at))) ⌝ }
 {
     let field = leaf_at(s, c, layout);
     Number::Refused(field.refusal())
 }
 
 fn skip_leaves(s: &[u8], c: Cursor, layout: Layout, count: u64) -> Number
-    ensures { λ r. ⌜ numberOf r ≡ each length (times (looseLeaf layout) count (now (s .entry)) (c .at)) ⌝ }
+    ensures { λ r. ⌜ numberOf r ≡ each length (times (uncheckedLeaf layout) count (now (s .entry)) (c .at)) ⌝ }
 {
     let mut next = c;
     let mut i: u64 = 0;
@@ -150,7 +150,7 @@ fn skip_leaves(s: &[u8], c: Cursor, layout: Layout, count: u64) -> Number
 
 // A level that was read before: how many leaves it has, and the cursor after it.
 pub fn skip_level(s: &[u8], c: Cursor, layout: Layout) -> Number
-    ensures { λ r. ⌜ numberOf r ≡ each length (looseLevel layout (now (s .entry)) (c .at)) ⌝ }
+    ensures { λ r. ⌜ numberOf r ≡ each length (uncheckedLevel layout (now (s .entry)) (c .at)) ⌝ }
 {
     let field = read_varint(s, c);
     let Number::Value(count, next) = field else {

@@ -17,12 +17,12 @@ use Rattle.path.specs.Search.{leastOffset}
 use Rattle.spv.specs.Result.{Result, accepted, refused}
 use Rattle.spv.specs.Climb.{Sibling, value, copied, absent, Siblings, Step, joins, fails, Ascent, top, up, stop, endOf, siblingPosition, odd, step, ascend, ascendBy, endBy}
 use Rattle.spv.proofs.ClimbLaws.{ascended}
-use Rattle.spv.specs.Compare.{any, Reading, Proof, settle, proofOf, prove, proveBy}
 use Rattle.spv.proofs.CompareLaws.{prove-climb}
 use Rattle.spv.specs.Siblings.{writtenBy, findIn, levelSiblings}
 use Rattle.spv.specs.Values.{workedOut}
 use Rattle.spv.proofs.ValuesLaws.{value-written, value-copied}
 use Rattle.spv.specs.Readings.{starting, levelsReading}
+use Rattle.spv.specs.Prove.{Reading, Proof, settle, proofOf, prove, proveBy, any}
 
 -- what is written stays
 pub worked-keeps : (w : Siblings) (k q : ℕ) → (w k q ≡ absent → ⊥) → workedOut w k q ≡ w k q

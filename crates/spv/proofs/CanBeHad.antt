@@ -15,7 +15,7 @@ use Rattle.format.proofs.BytesLaws.{eq-same, ne-same}
 use Rattle.format.specs.declared.level.Leaf.{Leaf}
 use Rattle.path.specs.declared.path.Start.{Start}
 use Rattle.path.specs.declared.path.Start.the-variants.{At, Nowhere}
-use Rattle.format.specs.Parse.{got, pick}
+use Rattle.format.specs.Parse.{ok, pick}
 use Rattle.format.specs.Refusals.{NOT-LISTED, MISSING, TWIN}
 use Rattle.format.specs.Bump.{Bump, bumpWhole}
 use Rattle.format.specs.Cmp.{Cmp, cmpWhole}
@@ -26,13 +26,13 @@ use Rattle.spv.specs.Climb.{Sibling, value, copied, absent, Siblings, od
 use Rattle.spv.proofs.ClimbLaws.{joined-odd, sibling-odd, sibling-even, ascended, turn-fails}
 use Rattle.spv.specs.Values.{joinBoth, joinOf, valueOf, workedOut}
 use Rattle.spv.proofs.ValuesLaws.{join-zero, value-written, value-copied, value-absent}
-use Rattle.spv.specs.Compare.{any, Proof, hits, settle, prove, proveBy}
 use Rattle.spv.proofs.CompareLaws.{prove-stop}
 use Rattle.spv.specs.Siblings.{writtenBy, findIn, levelSiblings}
 use Rattle.spv.specs.Readings.{starting, levelsReading, bumpReading, cmpReading}
 use Rattle.spv.proofs.ReadingsLaws.{bump-read, cmp-read}
 use Rattle.spv.proofs.Turns.{Climbing, climbing-start, climbing-up}
 use Rattle.spv.proofs.OddCopies.{OddCopies, bump-copies, cmp-copies}
+use Rattle.spv.specs.Prove.{Proof, hits, settle, prove, proveBy, any}
 
 -- ---- values that can be had
 
@@ -330,11 +330,11 @@ module _ (s id : List ℕ) (h : ℕ) (levels : List (List Leaf)) (odds : OddCopi
       go Nowhere = ((λ e. absurd (not-listed why (e .0) (e .1))), (λ m. absurd (let z = m .starts in let y : _≡_ {A = ℕ} 0 1 = cc in omega arith)))
 
 -- a BUMP that was read: its proof of an id is refused with 14 exactly when the climb lacks a sibling so, and then with that layer and sibling
-pub bump-missing : (s id : List ℕ) (b : Bump) (q : ℕ) → bumpWhole s ≡ got b q → (why : Rejection)
+pub bump-missing : (s id : List ℕ) (b : Bump) (q : ℕ) → bumpWhole s ≡ ok b q → (why : Rejection)
     → ((prove (bumpReading s id) ≡ refused why) × (why .number ≡ MISSING)) ↔ Missing (writtenBy s (findIn (b .levels))) (b .height) id (leastOffset s id (getD (b .levels) 0 [])) why
 bump-missing s id b q e why = rw (bump-read s id b q e) (levels-missing s id (b .height) (b .levels) (bump-copies s b q e) why)
 
 -- "CMP follows the same rule"
-pub cmp-missing : (s id : List ℕ) (p : Cmp) (q : ℕ) → cmpWhole s ≡ got p q → (why : Rejection)
+pub cmp-missing : (s id : List ℕ) (p : Cmp) (q : ℕ) → cmpWhole s ≡ ok p q → (why : Rejection)
     → ((prove (cmpReading s id) ≡ refused why) × (why .number ≡ MISSING)) ↔ Missing (writtenBy s (findIn (p .levels))) (p .height) id (leastOffset s id (getD (p .levels) 0 [])) why
 cmp-missing s id p q e why = rw (cmp-read s id p q e) (levels-missing s id (p .height) (p .levels) (cmp-copies s p q e) why)

@@ -10,16 +10,16 @@ use Rattle.format.specs.declared.level.Kind.{Kind}
 use Rattle.format.specs.declared.level.Kind.the-variants.{Plain, Copy, Client}
 use Rattle.format.specs.declared.level.Leaf.{Leaf}
 use Rattle.format.proofs.BytesLaws.{same-eq, eq-same}
-use Rattle.format.specs.Parse.{Parse, got, bad, pick}
+use Rattle.format.specs.Parse.{Parse, ok, fault, pick}
 use Rattle.format.specs.Refusals.{ROOTS-DIFFER}
 use Rattle.format.specs.Bytes.{hashAt}
 use Rattle.format.specs.Bump.{Bump, bumpWhole}
 use Rattle.spv.specs.Result.{Result, accepted, refused, carrying, follow, afterReading}
 use Rattle.spv.specs.Climb.{Siblings, ascend, endOf}
-use Rattle.spv.specs.Compare.{Target, any, bound, hits, read, settle, proofOf, proveBy, prove}
 use Rattle.spv.proofs.CompareLaws.{prove-root}
 use Rattle.spv.specs.Siblings.{levelSiblings}
 use Rattle.spv.specs.Clients.{wantedBy, afterKind, afterLeaf, closing, clients, bumpClients, clientsUpTo}
+use Rattle.spv.specs.Prove.{Target, hits, settle, proofOf, proveBy, prove, any, bound, read}
 
 abbrev pub noLeaf : Leaf
 noLeaf = record { offset = 0; kind = Copy }
@@ -142,7 +142,7 @@ module _ (σ : Siblings) (h : ℕ) (s r : List ℕ) where
 pub record Agrees (s r : List ℕ) : Type 0 where
   pub bump : Bump
   pub next : ℕ
-  pub read : bumpWhole s ≡ got bump next
+  pub read : bumpWhole s ≡ ok bump next
   pub some : HasClient (getD (bump .levels) 0 [])
   pub all : AllReach (levelSiblings s (bump .levels)) (bump .height) s r (getD (bump .levels) 0 [])
 
@@ -152,7 +152,7 @@ unfolding clientsUpTo Still
 clients-agree s r = (λ e. told (bumpWhole s) refl e, λ a. rw (a .read) (told-agreed (levelSiblings s (a .bump .levels)) (a .bump .height) s r any (getD (a .bump .levels) 0 []) (a .some) (a .all)))
   where
     told : (p : Parse Bump) → bumpWhole s ≡ p → afterReading p (λ b. clients (levelSiblings s (b .levels)) (b .height) s any (getD (b .levels) 0 [])) ≡ accepted r → Agrees s r
-    told (got b q) h m =
+    told (ok b q) h m =
         let x = agreed-told (levelSiblings s (b .levels)) (b .height) s r any (getD (b .levels) 0 []) m in
         record { bump = b; next = q; read = h; some = x .0; all = x .1 }
-    told (bad number place) h m = absurd (let z : _≡_ {A = ℕ} 0 1 = cc in omega arith)
+    told (fault number place) h m = absurd (let z : _≡_ {A = ℕ} 0 1 = cc in omega arith)

@@ -16,8 +16,9 @@ use Rattle.format.specs.Refusals.{TWIN, UNLIKE, SAME-ID}
 use Rattle.spv.specs.Result.{Result, accepted, refused, carrying}
 use Rattle.spv.specs.Climb.{Sibling, value, copied, absent, Siblings, Step, joins, fails, Ascent, odd, siblingPosition, joined, step, ascendBy, endBy, preimagesOf}
 use Rattle.spv.proofs.ClimbLaws.{ascendedBy}
-use Rattle.spv.specs.Compare.{Reading, unread, read, Proof, proveBy, Met, at, never, meetBy, stringsOf, alike, againstBy, compareBy, CollisionBy, Strings, pair}
+use Rattle.spv.specs.Compare.{Met, meets, never, meetBy, stringsOf, alike, againstBy, compareBy, CollisionBy, Strings, pair}
 use Rattle.spv.proofs.CompareLaws.{prove-accepted-by, alike-told}
+use Rattle.spv.specs.Prove.{Reading, Proof, proveBy, unread, read}
 
 -- ---- what a hash of 32 bytes stands in
 
@@ -68,7 +69,7 @@ module _ (hash : List ℕ → List ℕ) where
   Linked j c (t ∷ ts) r = (side (odd j) t ≡ c) × (length t ≡ 64) × Linked (j / 2) (hash t) ts r
 
   abbrev Collides : List (List ℕ) → List (List ℕ) → Type 0
-  Collides ts us = (t : List ℕ) × (u : List ℕ) × (meetBy hash ts us ≡ at t u) × CollisionBy hash ts us t u
+  Collides ts us = (t : List ℕ) × (u : List ℕ) × (meetBy hash ts us ≡ meets t u) × CollisionBy hash ts us t u
 
   -- nothing met at this layer, so the layer above is the next
   pub further : (t u : List ℕ) (ts us : List (List ℕ)) → same (hash t) (hash u) ≡ false → Collides ts us → Collides (t ∷ ts) (u ∷ us)
@@ -153,14 +154,14 @@ module _ (hash : List ℕ → List ℕ) where
     pub position : x .position ≡ y .position
     pub layers : x .layers ≡ y .layers
     pub differ : x .id ≡ y .id → ⊥
-    pub met : meetBy hash (x .preimages) (y .preimages) ≡ at t u
+    pub met : meetBy hash (x .preimages) (y .preimages) ≡ meets t u
 
   -- the strings of an answer are those where the climbs meet
-  pair-told : {t u : List ℕ} (t′ u′ : List ℕ) → pair t′ u′ ≡ pair t u → at t′ u′ ≡ at t u
+  pair-told : {t u : List ℕ} (t′ u′ : List ℕ) → pair t′ u′ ≡ pair t u → meets t′ u′ ≡ meets t u
   pair-told t′ u′ e = ap of-result e
     where
       of-result : Result Strings → Met
-      of-result (accepted x) = at (x .first) (x .second)
+      of-result (accepted x) = meets (x .first) (x .second)
       of-result (refused why) = never
 
   pub compare-pair : (v w : Result Proof) (t u : List ℕ) → compareBy hash v w ≡ pair t u → CollidingBy v w t u
@@ -174,7 +175,7 @@ module _ (hash : List ℕ → List ℕ) where
       go false ea b eb m em f = let z : _≡_ {A = ℕ} 0 1 = cc in absurd (omega arith)
       go true ea true eb m em f = let z : _≡_ {A = ℕ} 0 1 = cc in absurd (omega arith)
       go true ea false eb never em f = let z : _≡_ {A = ℕ} 0 1 = cc in absurd (omega arith)
-      go true ea false eb (at t′ u′) em f =
+      go true ea false eb (meets t′ u′) em f =
           let g = alike-told x y ea in
           record {
             x = x;

@@ -15,7 +15,8 @@ use Rattle.format.specs.Refusals.{ROOTS-DIFFER, UNLIKE, SAME-ID}
 use Rattle.spv.specs.declared.rejection.Rejection.{Rejection}
 use Rattle.spv.specs.Result.{Result, accepted, refused, carrying}
 use Rattle.spv.specs.Climb.{Siblings, Ascent, ascendBy, ascend, endBy, endOf, preimagesOf, siblingsOf}
-use Rattle.spv.specs.Compare.{Target, Proof, hits, settle, proofBy, proveBy, meetBy, stringsOf, alike, againstBy, compareBy, proofOf, prove, meet, against, compare, read, at, never}
+use Rattle.spv.specs.Compare.{meetBy, stringsOf, alike, againstBy, compareBy, meet, against, compare, meets, never}
+use Rattle.spv.specs.Prove.{Target, Proof, hits, settle, proofBy, proveBy, proofOf, prove, read}
 
 -- ---- where two climbs meet
 
@@ -29,7 +30,7 @@ meet-right [] = refl
 meet-right (t ∷ ts) = refl
 
 module _ (t u : List ℕ) (ts us : List (List ℕ)) where
-  pub meet-here : same (sha256d t) (sha256d u) ≡ true → meet (t ∷ ts) (u ∷ us) ≡ at t u
+  pub meet-here : same (sha256d t) (sha256d u) ≡ true → meet (t ∷ ts) (u ∷ us) ≡ meets t u
   unfolding meetBy
   meet-here e = rw (meetBy, e)
 

@@ -11,14 +11,14 @@ use Rattle.format.specs.declared.tsc.Subject.{Subject}
 use Rattle.path.specs.declared.path.Form.{Form}
 use Rattle.path.specs.declared.path.Start.{Start}
 use Rattle.path.specs.declared.path.Start.the-variants.{At, Nowhere}
-use Rattle.format.specs.Parse.{Parse, got, bad}
+use Rattle.format.specs.Parse.{Parse, ok, fault}
 use Rattle.path.specs.Search.{leastOffset}
 use Rattle.format.proofs.BytesLaws.{hash-at-length}
 use Rattle.format.specs.Bump.{bumpWhole}
 use Rattle.format.specs.Cmp.{cmpWhole}
 use Rattle.format.specs.Tsc.{tscWhole}
 use Rattle.spv.specs.Result.{Result, accepted, refused}
-use Rattle.spv.specs.Compare.{Reading, Proof, proveBy, prove, compareBy, compare, Collision, Strings, pair}
+use Rattle.spv.specs.Compare.{compareBy, compare, Collision, Strings, pair}
 use Rattle.spv.proofs.Collide.{WholeReading, CollidedBy, Collided, demand3-whole, Colliding, compare-pair}
 use Rattle.spv.specs.Siblings.{levelSiblings, nodeSiblings}
 use Rattle.spv.proofs.SiblingsLaws.{written-whole, levelSiblings-whole}
@@ -30,8 +30,9 @@ use Rattle.spv.specs.Shapes.{acceptedOf, provedOf, refusedPair, compared
 use Rattle.spv.proofs.ShapesLaws.{told-accepted}
 use Rattle.spv.specs.declared.prove.Outcome.the-variants.{Accepted}
 use Rattle.spv.specs.declared.prove.Proved.{Proved}
-use Rattle.spv.specs.declared.comparing.Comparison.{Comparison}
-use Rattle.spv.specs.declared.comparing.Compared.{Compared}
+use Rattle.spv.specs.declared.compare.Comparison.{Comparison}
+use Rattle.spv.specs.declared.compare.Compared.{Compared}
+use Rattle.spv.specs.Prove.{Reading, Proof, proveBy, prove}
 
 -- ---- whatever a form reads has ids and siblings of 32 bytes
 
@@ -51,8 +52,8 @@ subject-long s (Subject.Transaction start end) = sha256d-length _
 
 read-whole : {A : Type 0} (x : Parse A) (f : A → Reading) → ((a : A) → WholeReading (f a)) → WholeReading (readAs x f)
 unfolding WholeReading
-read-whole (got a q) f h = h a
-read-whole (bad number place) f h = tt
+read-whole (ok a q) f h = h a
+read-whole (fault number place) f h = tt
 
 pub reading-whole : (form : Form) (s id : List ℕ) → WholeReading (reading form s id)
 unfolding readingUpTo bumpReadingUpTo cmpReadingUpTo tscReadingUpTo WholeReading nodeSiblings

@@ -15,12 +15,12 @@ use Rattle.path.specs.declared.path.Form.{Form}
 use Rattle.format.proofs.Basics.{and-true}
 use Rattle.format.specs.Bytes.{same}
 use Rattle.format.proofs.BytesLaws.{same-eq, same-ne, eq-same}
-use Rattle.format.specs.Parse.{Parse, pick, got, bad}
+use Rattle.format.specs.Parse.{Parse, pick, ok, fault}
 use Rattle.format.specs.Refusals.{UNLIKE}
 use Rattle.format.specs.Transaction.{Transaction, txWhole}
 use Rattle.format.proofs.TransactionLaws.{tx-whole-size}
 use Rattle.spv.specs.Result.{Result, accepted, refused, carrying, afterReading}
-use Rattle.spv.specs.Compare.{Reading, Proof, at, proveBy, prove, CollisionBy}
+use Rattle.spv.specs.Compare.{meets, CollisionBy}
 use Rattle.spv.proofs.Collide.{Linked, WholeReading, collide, linked-long, prove-sound}
 use Rattle.spv.specs.Readings.{reading}
 use Rattle.spv.proofs.Demand3.{reading-whole}
@@ -31,6 +31,7 @@ use Rattle.spv.specs.declared.prove.Outcome.the-variants.{Accepted}
 use Rattle.spv.specs.declared.prove.Proved.{Proved}
 use Rattle.spv.specs.declared.depth.DepthComparison.{DepthComparison}
 use Rattle.spv.specs.declared.depth.DepthCompared.{DepthCompared}
+use Rattle.spv.specs.Prove.{Reading, Proof, proveBy, prove}
 
 -- x a shorter proof, y a longer one to its root, m the raw transaction of x
 pub record DeeperBy (hash : List ℕ → List ℕ) (m : List ℕ) (x y : Proof) : Type 0 where
@@ -125,7 +126,7 @@ module _ (hash : List ℕ → List ℕ) where
   abbrev pub Answers : Result Proof → Result Proof → List ℕ → Pair → Type 0
   Answers v w m p = (depthBy hash v w m ≡ accepted p) × (depthBy hash w v m ≡ accepted p)
 
-  depth-answers : (v w : Result Proof) (m : List ℕ) (x y : Proof) (t : Transaction) (q : ℕ) (p : Pair) → v ≡ accepted x → w ≡ accepted y → txWhole m ≡ got t q
+  depth-answers : (v w : Result Proof) (m : List ℕ) (x y : Proof) (t : Transaction) (q : ℕ) (p : Pair) → v ≡ accepted x → w ≡ accepted y → txWhole m ≡ ok t q
       → DeeperBy hash m x y → lowestBy hash (hash m) (x .preimages) (matched x y) ≡ accepted p → Answers v w m p
   unfolding depthBy
   depth-answers v w m x y t q p ev ew et r e = let k = uneven-answers m x y p r e in (rw (ev, ew, et) (k .0), rw (ev, ew, et) (k .1))
@@ -143,7 +144,7 @@ module _ (hash : List ℕ → List ℕ) where
     pub ordered : Ordered v w x y
     pub tx : Transaction
     pub end : ℕ
-    pub read : txWhole m ≡ got tx end
+    pub read : txWhole m ≡ ok tx end
     pub relation : DeeperBy hash m x y
     pub met : lowestBy hash (hash m) (x .preimages) (matched x y) ≡ accepted p
 
@@ -166,14 +167,14 @@ module _ (hash : List ℕ → List ℕ) where
   depth-pair (accepted x) (refused why) m p e = let z : _≡_ {A = ℕ} 0 1 = cc in absurd (omega arith)
   depth-pair (accepted x) (accepted y) m p e = go (txWhole m) refl e
     where
-      turn : (t : Transaction) (q : ℕ) → txWhole m ≡ got t q → (b : Bool) → pick b (againstDeeperBy hash (hash m) y x) (againstDeeperBy hash (hash m) x y) ≡ accepted p
+      turn : (t : Transaction) (q : ℕ) → txWhole m ≡ ok t q → (b : Bool) → pick b (againstDeeperBy hash (hash m) y x) (againstDeeperBy hash (hash m) x y) ≡ accepted p
           → DepthCollidingBy (accepted x) (accepted y) m p
       turn t q r true f = let k = deeper-told m y x p f in record { x = y; y = x; ordered = turned refl refl; tx = t; end = q; read = r; relation = k .0; met = k .1 }
       turn t q r false f = let k = deeper-told m x y p f in record { x = x; y = y; ordered = as-given refl refl; tx = t; end = q; read = r; relation = k .0; met = k .1 }
 
       go : (a : Parse Transaction) → txWhole m ≡ a → afterReading a (λ _. unevenBy hash (hash m) x y) ≡ accepted p → DepthCollidingBy (accepted x) (accepted y) m p
-      go (bad n q) r f = let z : _≡_ {A = ℕ} 0 1 = cc in absurd (omega arith)
-      go (got t q) r f = turn t q r (ltb (y .layers) (x .layers)) f
+      go (fault n q) r f = let z : _≡_ {A = ℕ} 0 1 = cc in absurd (omega arith)
+      go (ok t q) r f = turn t q r (ltb (y .layers) (x .layers)) f
 
 -- ---- demand 3, beyond one number of layers
 
@@ -182,7 +183,7 @@ module _ (hash : List ℕ → List ℕ) (wide : (t : List ℕ) → length (hash 
   DepthCollided v w m x y = (p : Pair) × Answers hash v w m p × DepthCollisionBy hash m x y p
 
   pub depth-whole : (a b : Reading) → WholeReading a → WholeReading b → (x y : Proof) → proveBy hash a ≡ accepted x → proveBy hash b ≡ accepted y
-      → (m : List ℕ) (t : Transaction) (q : ℕ) → txWhole m ≡ got t q → (length m ≡ 64 → ⊥) → DeeperBy hash m x y → DepthCollided (proveBy hash a) (proveBy hash b) m x y
+      → (m : List ℕ) (t : Transaction) (q : ℕ) → txWhole m ≡ ok t q → (length m ≡ 64 → ⊥) → DeeperBy hash m x y → DepthCollided (proveBy hash a) (proveBy hash b) m x y
   unfolding matched
   depth-whole a b wa wb x y ea eb m t q et nm r =
       let sx = prove-sound hash wide a x wa ea in
@@ -202,12 +203,12 @@ module _ (f g : Form) (s t id jd m : List ℕ) where
   -- by any hash of 32 bytes; a raw transaction that was read doesn't have 64 bytes (`tx-whole-size`)
   pub demand3-depth-by : (hash : List ℕ → List ℕ) (wide : (l : List ℕ) → length (hash l) ≡ 32)
       → (x y : Proof) → proveBy hash (reading f s id) ≡ accepted x → proveBy hash (reading g t jd) ≡ accepted y
-      → (tx : Transaction) (q : ℕ) → txWhole m ≡ got tx q → DeeperBy hash m x y
+      → (tx : Transaction) (q : ℕ) → txWhole m ≡ ok tx q → DeeperBy hash m x y
       → DepthCollided hash wide (proveBy hash (reading f s id)) (proveBy hash (reading g t jd)) m x y
   demand3-depth-by hash wide x y ea eb tx q et = depth-whole hash wide (reading f s id) (reading g t jd) (reading-whole f s id) (reading-whole g t jd) x y ea eb m tx q et (tx-whole-size m et)
 
   pub demand3-depth : (x y : Proof) → prove (reading f s id) ≡ accepted x → prove (reading g t jd) ≡ accepted y
-      → (tx : Transaction) (q : ℕ) → txWhole m ≡ got tx q → DeeperBy sha256d m x y
+      → (tx : Transaction) (q : ℕ) → txWhole m ≡ ok tx q → DeeperBy sha256d m x y
       → DepthCollided sha256d sha256d-length (prove (reading f s id)) (prove (reading g t jd)) m x y
   demand3-depth = demand3-depth-by sha256d sha256d-length
 
@@ -231,7 +232,7 @@ pub record Deeper (m : List ℕ) (x y : Proved) : Type 0 where
   pub id : sha256d m ≡ x .id
   pub tx : Transaction
   pub end : ℕ
-  pub read : txWhole m ≡ got tx end
+  pub read : txWhole m ≡ ok tx end
 
 -- the shorter proof's string: the transaction, which is not handed back, or the one that is
 unfoldable pub firstBy : DepthComparison → List ℕ → List ℕ → List ℕ
@@ -264,7 +265,7 @@ unfolding depthOf found
 answer-pair (accepted p) e = (p, refl)
 answer-pair (refused why) e = let z : _≡_ {A = ℕ} 0 1 = cc in absurd (omega arith)
 
-deeper-built : (m : List ℕ) (v w : Result Proof) (x y : Proved) (p q : Proof) (tx : Transaction) (end : ℕ) → x ≡ provedOf v → y ≡ provedOf w → v ≡ accepted p → w ≡ accepted q → txWhole m ≡ got tx end
+deeper-built : (m : List ℕ) (v w : Result Proof) (x y : Proved) (p q : Proof) (tx : Transaction) (end : ℕ) → x ≡ provedOf v → y ≡ provedOf w → v ≡ accepted p → w ≡ accepted q → txWhole m ≡ ok tx end
     → DeeperBy sha256d m p q → Deeper m x y
 unfolding provedOf acceptedOf
 deeper-built m v w x y p q tx end ex ey ev ew et r =
@@ -325,6 +326,6 @@ module _ (f g : Form) (s t id jd m : List ℕ) (x y : Proved) (ex : x ≡ proved
       let k = demand3-depth-back f g s t id jd m (r .0) (r .1) in
       go (k .x) (k .y) (k .ordered) (k .tx) (k .end) (k .read) (k .relation)
     where
-      go : (p q : Proof) → Ordered sha256d (prove (reading f s id)) (prove (reading g t jd)) p q → (tx : Transaction) (end : ℕ) → txWhole m ≡ got tx end → DeeperBy sha256d m p q → DeeperEither m x y
+      go : (p q : Proof) → Ordered sha256d (prove (reading f s id)) (prove (reading g t jd)) p q → (tx : Transaction) (end : ℕ) → txWhole m ≡ ok tx end → DeeperBy sha256d m p q → DeeperEither m x y
       go p q (Ordered.as-given ev ew) tx end et r = DeeperEither.as-given (deeper-built m _ _ x y p q tx end ex ey ev ew et r)
       go p q (Ordered.turned ew ev) tx end et r = DeeperEither.turned (deeper-built m _ _ y x p q tx end ey ex ew ev et r)

@@ -6,7 +6,7 @@ use mathlib.Core.List.{List, [], _∷_, _++_}
 use lib.ListN.{take, replicate}
 use Rattle.path.specs.declared.path.Form.{Form}
 use Rattle.format.specs.Bytes.{same, hashAt}
-use Rattle.format.specs.Parse.{each, many, whole, got}
+use Rattle.format.specs.Parse.{each, many, whole, ok}
 use Rattle.format.specs.Field.{bytes, byte, varint}
 use Rattle.format.specs.Level.{holds, offsetField, flagField, kindField, carriedField, leafField, levelField, levelOfTurn}
 use Rattle.format.specs.Bump.{blockField, heightUpTo, bumpUpTo}
@@ -14,13 +14,14 @@ use Rattle.format.specs.Transaction.{scriptField, inputField, takes, outputFiel
 use Rattle.path.specs.Search.{carries, lesser, lookup, leastOffset}
 use Rattle.spv.specs.Result.{accepted}
 use Rattle.spv.specs.Climb.{value, siblingPosition, joined, step, ascendBy, endBy, preimagesOf, siblingsOf}
-use Rattle.spv.specs.Compare.{Proof, hits, settle, proveBy, meetBy}
+use Rattle.spv.specs.Compare.{meetBy}
 use Rattle.spv.specs.Siblings.{written, sibling, levelSiblings}
 use Rattle.spv.specs.Values.{valueBy, valueOf, workedOut}
 use Rattle.spv.specs.Readings.{starting, levelsReading, bumpReadingUpTo, reading, readingUpTo}
 use Rattle.spv.proofs.PairExample.{firstHalf, half-wide, hashOf, cmp, proofFrom, cmp-accepted}
 use Rattle.spv.specs.Depth.{halved, deeper, transaction, strings, pairOf, lowestBy, matched, againstDeeperBy, unevenBy, depthBy}
 use Rattle.spv.proofs.Demand3Depth.{DeeperBy, DepthCollided, demand3-depth-by}
+use Rattle.spv.specs.Prove.{Proof, hits, settle, proveBy}
 
 -- a raw transaction of 62 bytes: one input, one output
 abbrev pub raw : List ℕ
@@ -29,7 +30,7 @@ raw = 1 ∷ 0 ∷ 0 ∷ 0 ∷ 1 ∷ (replicate 36 0 ++ (2 ∷ 7 ∷ 7 ∷ 8 ∷ 
 abbrev pub rawRead : Transaction
 rawRead = record { start = 0; end = 62; inputsAt = 5; inputs = record { parent = 5; output = 37 } ∷ []; outputsAt = 49; outputs = 0 ∷ [] }
 
-pub raw-reads : txWhole raw ≡ got rawRead 62
+pub raw-reads : txWhole raw ≡ ok rawRead 62
 unfolding fieldsBy txFieldBy listField scriptField someField inputField outputField outputsField takes varint bytes byte many each whole
 raw-reads = refl
 

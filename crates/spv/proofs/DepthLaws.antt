@@ -12,16 +12,16 @@ use borrow.Author.Tests.{ltb-true, eqb-true, lt-ltb, le-ltb}
 use Rattle.hash.specs.Sha256.{sha256d}
 use Rattle.format.proofs.Basics.{and-true, one-less}
 use Rattle.format.specs.Bytes.{same}
-use Rattle.format.specs.Parse.{pick, got, bad}
+use Rattle.format.specs.Parse.{pick, ok, fault}
 use Rattle.format.specs.Refusals.{UNLIKE}
 use Rattle.format.specs.Transaction.{Transaction, txWhole}
 use Rattle.spv.specs.declared.rejection.Rejection.{Rejection}
 use Rattle.spv.specs.Result.{Result, accepted, refused, carrying, afterReading}
 use Rattle.spv.specs.Climb.{Siblings, Step, joins, fails, odd, siblingPosition, step, Ascent, ascendBy, ascend, endBy, endOf, preimagesOf}
 use Rattle.spv.proofs.ClimbLaws.{ascended, ascend-joins, ascend-fails}
-use Rattle.spv.specs.Compare.{Proof, Met, meet, prove}
-use Rattle.spv.specs.Low.{Low}
-use Rattle.spv.proofs.LowLaws.{low-start, low-half}
+use Rattle.spv.specs.Compare.{Met, meet}
+use Rattle.spv.specs.PositionFits.{PositionFits}
+use Rattle.spv.proofs.PositionFitsLaws.{low-start, low-half}
 use Rattle.spv.specs.Siblings.{pathSiblings}
 use Rattle.spv.specs.Shapes.{provedOf, joinedOf, isJoins, meetingOf, claimed, claimProof}
 use Rattle.spv.proofs.ShapesLaws.{is-joins, told-joins, told-met, told-never, told-accepted, claimed-proved}
@@ -31,9 +31,10 @@ use Rattle.spv.specs.declared.prove.Claim.{Claim}
 use Rattle.spv.specs.declared.prove.Outcome.the-variants.{Accepted}
 use Rattle.spv.specs.declared.prove.Proved.{Proved}
 use Rattle.spv.specs.declared.climb.Joined.{Joined}
-use Rattle.spv.specs.declared.comparing.Meeting.{Meeting}
+use Rattle.spv.specs.declared.compare.Meeting.{Meeting}
 use Rattle.spv.specs.declared.depth.DepthComparison.{DepthComparison}
 use Rattle.spv.specs.declared.depth.DepthCompared.{DepthCompared}
+use Rattle.spv.specs.Prove.{Proof, prove}
 
 -- ---- halving
 
@@ -47,13 +48,13 @@ unfolding halved
 halved-done n k j b = let e : n - k ≡ 0 = omega arith in ap (λ (m : ℕ). halved m j) e
 
 -- a position of layer k, halved n times, is one of layer k + n
-low-halved : (n k j : ℕ) → Low k j → Low (k + n) (halved n j)
+low-halved : (n k j : ℕ) → PositionFits k j → PositionFits (k + n) (halved n j)
 unfolding halved
-low-halved zero k j l = subst (λ (m : ℕ). Low m j) (sym (add-zero k)) l
-low-halved (suc n) k j l = let e : k + 1 + n ≡ k + suc n = omega arith in subst (λ (m : ℕ). Low m (halved n (j / 2))) e (low-halved n (k + 1) (j / 2) (low-half k j l))
+low-halved zero k j l = subst (λ (m : ℕ). PositionFits m j) (sym (add-zero k)) l
+low-halved (suc n) k j l = let e : k + 1 + n ≡ k + suc n = omega arith in subst (λ (m : ℕ). PositionFits m (halved n (j / 2))) e (low-halved n (k + 1) (j / 2) (low-half k j l))
 
-pub low-layer : (n j i : ℕ) → j < 2 ^ 64 → i ≡ halved n j → Low n i
-low-layer n j i b e = let z : 0 + n ≡ n = omega arith in subst (λ (m : ℕ). Low n m) (sym e) (subst (λ (m : ℕ). Low m (halved n j)) z (low-halved n 0 j (low-start j b)))
+pub low-layer : (n j i : ℕ) → j < 2 ^ 64 → i ≡ halved n j → PositionFits n i
+low-layer n j i b e = let z : 0 + n ≡ n = omega arith in subst (λ (m : ℕ). PositionFits n m) (sym e) (subst (λ (m : ℕ). PositionFits m (halved n j)) z (low-halved n 0 j (low-start j b)))
 
 -- ---- one layer of the longer proof beside the transaction
 
@@ -211,11 +212,11 @@ module _ (r : Meeting) (m : Met) (e : r ≡ meetingOf m) where
 
 -- ---- the transaction, then both proofs
 
-pub reading-bad : (m : List ℕ) (n q : ℕ) (k : Result Pair) → txWhole m ≡ bad n q → afterReading (txWhole m) (λ _. k) ≡ refused (carrying n q)
-reading-bad m n q k e = rw e
+pub reading-fault : (m : List ℕ) (n q : ℕ) (k : Result Pair) → txWhole m ≡ fault n q → afterReading (txWhole m) (λ _. k) ≡ refused (carrying n q)
+reading-fault m n q k e = rw e
 
-pub reading-got : (m : List ℕ) (t : Transaction) (q : ℕ) (k : Result Pair) → txWhole m ≡ got t q → afterReading (txWhole m) (λ _. k) ≡ k
-reading-got m t q k e = rw e
+pub reading-ok : (m : List ℕ) (t : Transaction) (q : ℕ) (k : Result Pair) → txWhole m ≡ ok t q → afterReading (txWhole m) (λ _. k) ≡ k
+reading-ok m t q k e = rw e
 
 module _ (m : List ℕ) (v w : Result Proof) where
   pub depth-first : (f : Rejection) → v ≡ refused f → depth v w m ≡ refused f

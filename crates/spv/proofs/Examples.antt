@@ -3,7 +3,7 @@ use mathlib.Core.Path.{_≡_, refl}
 use mathlib.Core.Bool.{Bool, true, false}
 use mathlib.Core.List.{List, [], _∷_, map}
 use Prim.Native.Nat.{ℕ}
-use Rattle.format.specs.Parse.{Parse, each, many, whole, got, bad}
+use Rattle.format.specs.Parse.{Parse, each, many, whole, ok, fault}
 use Rattle.format.specs.Field.{bytes, byte, varint}
 use Rattle.format.specs.Level.{holds, offsetField, flagField, kindField, carriedField, leafField, levelField, levelOfTurn}
 use Rattle.format.specs.Bump.{Bump, blockField, heightUpTo, bumpUpTo, bumpWhole}
@@ -11,7 +11,7 @@ use Rattle.path.specs.Search.{leastOffset}
 use Rattle.format.specs.Tsc.{indexFits}
 use Rattle.spv.specs.Result.{Result, refused, carrying}
 use Rattle.spv.specs.Climb.{siblingPosition, siblingPositions}
-use Rattle.spv.specs.Compare.{proveBy, prove, Proof}
+use Rattle.spv.specs.Prove.{proveBy, prove, Proof}
 use Rattle.spv.specs.Readings.{starting, levelsReading, bumpReading, bumpReadingUpTo}
 
 pub data Input : Type 0 where
@@ -42,17 +42,17 @@ case i a = record { input = i; answer = a }
 
 -- a BUMP that is refused, and so is every id by it
 abbrev pub refusedPath : ℕ → ℕ → Given
-refusedPath n place = path (bad n place) (λ id. refused (carrying n place))
+refusedPath n place = path (fault n place) (λ id. refused (carrying n place))
 
 unfoldable pub cases : List Case
 cases =
-    case (varIntOf (0xfc ∷ [])) (number (got 252 1)) ∷
-    case (varIntOf (0xfd ∷ 0xfd ∷ 0x00 ∷ [])) (number (got 253 3)) ∷
-    case (varIntOf (0xfd ∷ 0xfc ∷ 0x00 ∷ [])) (number (bad 3 0)) ∷
-    case (varIntOf (0xfe ∷ 0x63 ∷ 0x6d ∷ 0x0c ∷ 0x00 ∷ [])) (number (got 814435 5)) ∷
-    case (varIntOf (0xfe ∷ 0xff ∷ 0xff ∷ 0x00 ∷ 0x00 ∷ [])) (number (bad 3 0)) ∷
-    case (varIntOf []) (number (bad 2 0)) ∷
-    case (bumpOf (0x00 ∷ 0x01 ∷ 0x00 ∷ [])) (path (got (record { block = 0; height = 1; start = 2; levels = [] ∷ [] }) 3) (λ id. refused (carrying 13 0))) ∷
+    case (varIntOf (0xfc ∷ [])) (number (ok 252 1)) ∷
+    case (varIntOf (0xfd ∷ 0xfd ∷ 0x00 ∷ [])) (number (ok 253 3)) ∷
+    case (varIntOf (0xfd ∷ 0xfc ∷ 0x00 ∷ [])) (number (fault 3 0)) ∷
+    case (varIntOf (0xfe ∷ 0x63 ∷ 0x6d ∷ 0x0c ∷ 0x00 ∷ [])) (number (ok 814435 5)) ∷
+    case (varIntOf (0xfe ∷ 0xff ∷ 0xff ∷ 0x00 ∷ 0x00 ∷ [])) (number (fault 3 0)) ∷
+    case (varIntOf []) (number (fault 2 0)) ∷
+    case (bumpOf (0x00 ∷ 0x01 ∷ 0x00 ∷ [])) (path (ok (record { block = 0; height = 1; start = 2; levels = [] ∷ [] }) 3) (λ id. refused (carrying 13 0))) ∷
     case (bumpOf (0x00 ∷ 0x00 ∷ [])) (refusedPath 4 1) ∷
     case (bumpOf (0x00 ∷ 0x21 ∷ [])) (refusedPath 2 2) ∷
     case (bumpOf (0x00 ∷ 0x41 ∷ [])) (refusedPath 4 1) ∷

@@ -4,7 +4,7 @@ use mathlib.Core.Path.{_≡_, refl}
 use mathlib.Core.List.{List, []}
 use lib.ListN.{length, getD}
 use native.Mathlib.Omega.{arith}
-use Rattle.format.specs.Parse.{Parse, got, bad, whole}
+use Rattle.format.specs.Parse.{Parse, ok, fault, whole}
 use Rattle.format.specs.Bump.{bumpUpTo}
 use Rattle.format.specs.Cmp.{cmpUpTo}
 use Rattle.format.specs.Tsc.{tscUpTo}
@@ -12,23 +12,24 @@ use Rattle.format.specs.Id.{subjectId}
 use Rattle.format.proofs.MoreLayers.{bump-stays, cmp-stays, tsc-stays}
 use Rattle.path.specs.declared.path.Form.{Form}
 use Rattle.spv.specs.Result.{Result, accepted, afterReading}
-use Rattle.spv.specs.Compare.{any, Reading, read, Proof, prove, proveBy, compare}
+use Rattle.spv.specs.Compare.{compare}
 use Rattle.spv.specs.Siblings.{levelSiblings, nodeSiblings}
 use Rattle.spv.specs.Readings.{readAs, levelsReading, bumpReadingUpTo, cmpReadingUpTo, tscTarget, tscReadingUpTo, readingUpTo}
 use Rattle.spv.specs.Clients.{clients, clientsUpTo}
+use Rattle.spv.specs.Prove.{Reading, Proof, prove, proveBy, any, read}
 
 -- a reader that reads what another one reads answers what that one answers
 abbrev pub Stays : {A : Type 0} → Parse A → Parse A → Type 0
-Stays {A} x y = (a : A) (end : ℕ) → x ≡ got a end → y ≡ got a end
+Stays {A} x y = (a : A) (end : ℕ) → x ≡ ok a end → y ≡ ok a end
 
 pub result-stays : {A B : Type 0} (x y : Parse A) (f : A → Result B) (b : B) → Stays x y → afterReading x f ≡ accepted b → afterReading y f ≡ accepted b
-result-stays (got a end) y f b h e = rw (h a end refl) e
-result-stays (bad number place) y f b h e = let z : _≡_ {A = ℕ} 0 1 = cc in absurd (omega arith)
+result-stays (ok a end) y f b h e = rw (h a end refl) e
+result-stays (fault number place) y f b h e = let z : _≡_ {A = ℕ} 0 1 = cc in absurd (omega arith)
 
 proof-stays : {A : Type 0} (x y : Parse A) (f : A → Reading) (p : Proof) → Stays x y → prove (readAs x f) ≡ accepted p → prove (readAs y f) ≡ accepted p
 unfolding proveBy
-proof-stays (got a end) y f p h e = rw (h a end refl) e
-proof-stays (bad number place) y f p h e = let z : _≡_ {A = ℕ} 0 1 = cc in absurd (omega arith)
+proof-stays (ok a end) y f p h e = rw (h a end refl) e
+proof-stays (fault number place) y f p h e = let z : _≡_ {A = ℕ} 0 1 = cc in absurd (omega arith)
 
 module _ (most more : ℕ) (low : most ≤ more) where
   -- proving an id by a BUMP, a CMP or a TSC proof

@@ -12,7 +12,7 @@ pub mod ValuesLaws
 pub mod Asked
 pub mod AskedLaws
 pub mod SiblingsLaws
-pub mod LowLaws
+pub mod PositionFitsLaws
 pub mod MarksLaws
 pub mod JoinsLaws
 pub mod ShapesLaws

@@ -12,22 +12,22 @@ use borrow.Author.Tests.{leb-true, le-leb, eqb-true, eqb-false}
 use Rattle.format.specs.declared.level.Layout.{Layout}
 use Rattle.format.specs.declared.level.Leaf.{Leaf}
 use Rattle.path.specs.declared.path.Found.the-variants.{Missing}
-use Rattle.format.specs.Parse.{Parse, got, bad, pick, otherwise}
+use Rattle.format.specs.Parse.{Parse, ok, fault, pick, otherwise}
 use Rattle.format.specs.Field.{varint}
 use Rattle.path.specs.Search.{seek, leafOfLevel}
 use Rattle.path.proofs.SearchLaws.{seek-stop, seek-on}
 use Rattle.spv.specs.Marks.{rises, after, narrowed, Mark, IsMark, Marked, MayStart}
-use Rattle.path.specs.Loose.{looseLeaf}
+use Rattle.path.specs.Unchecked.{uncheckedLeaf}
 
 -- ---- levels whose offsets rise
 
 module _ (layout : Layout) (s : List ℕ) where
   -- one leaf less
-  rises-cons : (n at lo : ℕ) {leaf : Leaf} {next : ℕ} → looseLeaf layout s at ≡ got leaf next → rises layout s (suc n) at lo ≡ pick (leb lo (leaf .offset)) (rises layout s n next (leaf .offset + 1)) false
+  rises-cons : (n at lo : ℕ) {leaf : Leaf} {next : ℕ} → uncheckedLeaf layout s at ≡ ok leaf next → rises layout s (suc n) at lo ≡ pick (leb lo (leaf .offset)) (rises layout s n next (leaf .offset + 1)) false
   unfolding rises
   rises-cons n at lo e = rw e
 
-  rises-parts : (n at lo : ℕ) {leaf : Leaf} {next : ℕ} → looseLeaf layout s at ≡ got leaf next → rises layout s (suc n) at lo ≡ true → (lo ≤ leaf .offset) × (rises layout s n next (leaf .offset + 1) ≡ true)
+  rises-parts : (n at lo : ℕ) {leaf : Leaf} {next : ℕ} → uncheckedLeaf layout s at ≡ ok leaf next → rises layout s (suc n) at lo ≡ true → (lo ≤ leaf .offset) × (rises layout s n next (leaf .offset + 1) ≡ true)
   rises-parts n at lo {leaf} {next} e h = go (leb lo (leaf .offset)) refl (sym (rises-cons n at lo e) ∙ h)
     where
       go : (b : Bool) → leb lo (leaf .offset) ≡ b → pick b (rises layout s n next (leaf .offset + 1)) false ≡ true → (lo ≤ leaf .offset) × (rises layout s n next (leaf .offset + 1) ≡ true)
@@ -38,22 +38,22 @@ module _ (layout : Layout) (s : List ℕ) where
   pub rises-lower : (n at lo low : ℕ) → low ≤ lo → rises layout s n at lo ≡ true → rises layout s n at low ≡ true
   unfolding rises
   rises-lower zero at lo low b h = refl
-  rises-lower (suc n) at lo low b h = go (looseLeaf layout s at) refl
+  rises-lower (suc n) at lo low b h = go (uncheckedLeaf layout s at) refl
     where
-      go : (p : Parse Leaf) → looseLeaf layout s at ≡ p → otherwise p true (λ leaf next. pick (leb low (leaf .offset)) (rises layout s n next (leaf .offset + 1)) false) ≡ true
-      go (bad m x) e = refl
-      go (got leaf next) e = let r = rises-parts n at lo e h in let l : low ≤ leaf .offset = omega (arith, r .0) in rw (le-leb low (leaf .offset) l) (r .1)
+      go : (p : Parse Leaf) → uncheckedLeaf layout s at ≡ p → otherwise p true (λ leaf next. pick (leb low (leaf .offset)) (rises layout s n next (leaf .offset + 1)) false) ≡ true
+      go (fault m x) e = refl
+      go (ok leaf next) e = let r = rises-parts n at lo e h in let l : low ≤ leaf .offset = omega (arith, r .0) in rw (le-leb low (leaf .offset) l) (r .1)
 
   -- r leaves are left
-  pub rises-next : (r r′ at lo : ℕ) {leaf : Leaf} {next : ℕ} → r ≡ r′ + 1 → looseLeaf layout s at ≡ got leaf next → rises layout s r at lo ≡ true → rises layout s r′ next (leaf .offset + 1) ≡ true
+  pub rises-next : (r r′ at lo : ℕ) {leaf : Leaf} {next : ℕ} → r ≡ r′ + 1 → uncheckedLeaf layout s at ≡ ok leaf next → rises layout s r at lo ≡ true → rises layout s r′ next (leaf .offset + 1) ≡ true
   rises-next r r′ at lo h e t = let g : r ≡ suc r′ = omega arith in rises-parts r′ at lo e (ap (λ (n : ℕ). rises layout s n at lo) (sym g) ∙ t) .1
 
-  pub rises-step : (r r′ at lo : ℕ) {leaf : Leaf} {next : ℕ} → r ≡ r′ + 1 → looseLeaf layout s at ≡ got leaf next → lo ≤ leaf .offset → rises layout s r′ next (leaf .offset + 1) ≡ true → rises layout s r at lo ≡ true
+  pub rises-step : (r r′ at lo : ℕ) {leaf : Leaf} {next : ℕ} → r ≡ r′ + 1 → uncheckedLeaf layout s at ≡ ok leaf next → lo ≤ leaf .offset → rises layout s r′ next (leaf .offset + 1) ≡ true → rises layout s r at lo ≡ true
   rises-step r r′ at lo {leaf} {next} h e b t =
       let g : r ≡ suc r′ = omega arith in
       ap (λ (n : ℕ). rises layout s n at lo) g ∙ rises-cons r′ at lo e ∙ ap (λ (x : Bool). pick x (rises layout s r′ next (leaf .offset + 1)) false) (le-leb lo (leaf .offset) b) ∙ t
 
-  pub rises-stop : (r at lo : ℕ) {m x : ℕ} → looseLeaf layout s at ≡ bad m x → rises layout s r at lo ≡ true
+  pub rises-stop : (r at lo : ℕ) {m x : ℕ} → uncheckedLeaf layout s at ≡ fault m x → rises layout s r at lo ≡ true
   unfolding rises
   rises-stop zero at lo e = refl
   rises-stop (suc r) at lo e = rw e
@@ -66,32 +66,32 @@ module _ (layout : Layout) (s : List ℕ) where
   pub rises-below : (n at lo q : ℕ) → rises layout s n at lo ≡ true → q < lo → seek layout q n s at ≡ Missing
   unfolding seek
   rises-below zero at lo q h b = refl
-  rises-below (suc n) at lo q h b = go (looseLeaf layout s at) refl (λ next l g c. rises-below n next l q g c)
+  rises-below (suc n) at lo q h b = go (uncheckedLeaf layout s at) refl (λ next l g c. rises-below n next l q g c)
     where
-      go : (p : Parse Leaf) → looseLeaf layout s at ≡ p → ((next l : ℕ) → rises layout s n next l ≡ true → q < l → seek layout q n s next ≡ Missing) → seek layout q (suc n) s at ≡ Missing
-      go (bad m x) e ih = seek-stop layout q s (suc n) at (omega arith) e
-      go (got leaf next) e ih =
+      go : (p : Parse Leaf) → uncheckedLeaf layout s at ≡ p → ((next l : ℕ) → rises layout s n next l ≡ true → q < l → seek layout q n s next ≡ Missing) → seek layout q (suc n) s at ≡ Missing
+      go (fault m x) e ih = seek-stop layout q s (suc n) at (omega arith) e
+      go (ok leaf next) e ih =
           let r = rises-parts n at lo e h in
           seek-on layout q s (suc n) n at (omega arith) e (λ z. omega (arith, r .0)) ∙ ih next (leaf .offset + 1) (r .1) (omega (arith, r .0))
 
   -- nor is what is lower than the next of them
-  pub past-rising : (r at q : ℕ) {leaf : Leaf} {next : ℕ} → 0 < r → looseLeaf layout s at ≡ got leaf next → q < leaf .offset → rises layout s r at 0 ≡ true → seek layout q r s at ≡ Missing
+  pub past-rising : (r at q : ℕ) {leaf : Leaf} {next : ℕ} → 0 < r → uncheckedLeaf layout s at ≡ ok leaf next → q < leaf .offset → rises layout s r at 0 ≡ true → seek layout q r s at ≡ Missing
   past-rising zero at q b e l h = absurd (omega arith)
   past-rising (suc r) at q {leaf} {next} b e l h =
       seek-on layout q s (suc r) r at (omega arith) e (λ z. omega arith) ∙ rises-below r next (leaf .offset + 1) q (rises-parts r at 0 e h .1) (omega arith)
 
   -- ---- the place after m leaves
 
-  after-cons : (m at : ℕ) {leaf : Leaf} {next : ℕ} → looseLeaf layout s at ≡ got leaf next → after layout s (suc m) at ≡ after layout s m next
+  after-cons : (m at : ℕ) {leaf : Leaf} {next : ℕ} → uncheckedLeaf layout s at ≡ ok leaf next → after layout s (suc m) at ≡ after layout s m next
   unfolding after
   after-cons m at e = rw e
 
-  pub after-stuck : (m at : ℕ) {n x : ℕ} → looseLeaf layout s at ≡ bad n x → after layout s m at ≡ at
+  pub after-stuck : (m at : ℕ) {n x : ℕ} → uncheckedLeaf layout s at ≡ fault n x → after layout s m at ≡ at
   unfolding after
   after-stuck zero at e = refl
   after-stuck (suc m) at e = rw e
 
-  pub after-next : (r r′ at : ℕ) {leaf : Leaf} {next : ℕ} → r ≡ r′ + 1 → looseLeaf layout s at ≡ got leaf next → after layout s r at ≡ after layout s r′ next
+  pub after-next : (r r′ at : ℕ) {leaf : Leaf} {next : ℕ} → r ≡ r′ + 1 → uncheckedLeaf layout s at ≡ ok leaf next → after layout s r at ≡ after layout s r′ next
   after-next r r′ at h e = let g : r ≡ suc r′ = omega arith in ap (λ (n : ℕ). after layout s n at) g ∙ after-cons r′ at e
 
   pub after-none : (r at : ℕ) → r ≡ 0 → after layout s r at ≡ at
@@ -101,39 +101,39 @@ module _ (layout : Layout) (s : List ℕ) where
   pub after-add : (m r at : ℕ) → after layout s (m + r) at ≡ after layout s r (after layout s m at)
   unfolding after
   after-add zero r at = let e : 0 + r ≡ r = omega arith in ap (λ (n : ℕ). after layout s n at) e
-  after-add (suc m) r at = let e : suc m + r ≡ suc (m + r) = omega arith in ap (λ (n : ℕ). after layout s n at) e ∙ go (looseLeaf layout s at) refl (λ next. after-add m r next)
+  after-add (suc m) r at = let e : suc m + r ≡ suc (m + r) = omega arith in ap (λ (n : ℕ). after layout s n at) e ∙ go (uncheckedLeaf layout s at) refl (λ next. after-add m r next)
     where
-      go : (p : Parse Leaf) → looseLeaf layout s at ≡ p → ((next : ℕ) → after layout s (m + r) next ≡ after layout s r (after layout s m next))
+      go : (p : Parse Leaf) → uncheckedLeaf layout s at ≡ p → ((next : ℕ) → after layout s (m + r) next ≡ after layout s r (after layout s m next))
           → otherwise p at (λ leaf next. after layout s (m + r) next) ≡ after layout s r (otherwise p at (λ leaf next. after layout s m next))
-      go (bad n x) e ih = sym (after-stuck r at e)
-      go (got leaf next) e ih = ih next
+      go (fault n x) e ih = sym (after-stuck r at e)
+      go (ok leaf next) e ih = ih next
 
   -- a leaf further on has an offset of at least lo
-  after-low : (m n at lo : ℕ) {leaf : Leaf} {x : ℕ} → m < n → rises layout s n at lo ≡ true → looseLeaf layout s (after layout s m at) ≡ got leaf x → lo ≤ leaf .offset
+  after-low : (m n at lo : ℕ) {leaf : Leaf} {x : ℕ} → m < n → rises layout s n at lo ≡ true → uncheckedLeaf layout s (after layout s m at) ≡ ok leaf x → lo ≤ leaf .offset
   unfolding after
   after-low zero zero at lo b h e = absurd (omega arith)
   after-low zero (suc n) at lo b h e = rises-parts n at lo e h .0
   after-low (suc m) zero at lo b h e = absurd (omega arith)
-  after-low (suc m) (suc n) at lo {leaf} {x} b h e = go (looseLeaf layout s at) refl e (λ next l g f. after-low m n next l (omega arith) g f)
+  after-low (suc m) (suc n) at lo {leaf} {x} b h e = go (uncheckedLeaf layout s at) refl e (λ next l g f. after-low m n next l (omega arith) g f)
     where
-      go : (p : Parse Leaf) → looseLeaf layout s at ≡ p → looseLeaf layout s (otherwise p at (λ leaf next. after layout s m next)) ≡ got leaf x
-          → ((next l : ℕ) → rises layout s n next l ≡ true → looseLeaf layout s (after layout s m next) ≡ got leaf x → l ≤ leaf .offset) → lo ≤ leaf .offset
-      go (bad k y) f g ih = absurd (let z = sym f ∙ g in let z′ : _≡_ {A = ℕ} 0 1 = cc in omega arith)
-      go (got first next) f g ih = let r = rises-parts n at lo f h in omega (arith, r .0, ih next (first .offset + 1) (r .1) g)
+      go : (p : Parse Leaf) → uncheckedLeaf layout s at ≡ p → uncheckedLeaf layout s (otherwise p at (λ leaf next. after layout s m next)) ≡ ok leaf x
+          → ((next l : ℕ) → rises layout s n next l ≡ true → uncheckedLeaf layout s (after layout s m next) ≡ ok leaf x → l ≤ leaf .offset) → lo ≤ leaf .offset
+      go (fault k y) f g ih = absurd (let z = sym f ∙ g in let z′ : _≡_ {A = ℕ} 0 1 = cc in omega arith)
+      go (ok first next) f g ih = let r = rises-parts n at lo f h in omega (arith, r .0, ih next (first .offset + 1) (r .1) g)
 
   -- a search may start at a leaf whose offset is no greater
-  pub after-seek : (m n at lo q : ℕ) {leaf : Leaf} {x : ℕ} → m < n → rises layout s n at lo ≡ true → looseLeaf layout s (after layout s m at) ≡ got leaf x → leaf .offset ≤ q
+  pub after-seek : (m n at lo q : ℕ) {leaf : Leaf} {x : ℕ} → m < n → rises layout s n at lo ≡ true → uncheckedLeaf layout s (after layout s m at) ≡ ok leaf x → leaf .offset ≤ q
       → seek layout q n s at ≡ seek layout q (n - m) s (after layout s m at)
   unfolding after
   after-seek zero n at lo q b h e l = ap (λ (r : ℕ). seek layout q r s at) (sym (sub-zero n))
   after-seek (suc m) zero at lo q b h e l = absurd (omega arith)
-  after-seek (suc m) (suc n) at lo q {leaf} {x} b h e l = go (looseLeaf layout s at) refl e (λ next lo′ g f. after-seek m n next lo′ q (omega arith) g f l)
+  after-seek (suc m) (suc n) at lo q {leaf} {x} b h e l = go (uncheckedLeaf layout s at) refl e (λ next lo′ g f. after-seek m n next lo′ q (omega arith) g f l)
     where
-      go : (p : Parse Leaf) → looseLeaf layout s at ≡ p → looseLeaf layout s (otherwise p at (λ leaf next. after layout s m next)) ≡ got leaf x
-          → ((next lo′ : ℕ) → rises layout s n next lo′ ≡ true → looseLeaf layout s (after layout s m next) ≡ got leaf x → seek layout q n s next ≡ seek layout q (n - m) s (after layout s m next))
+      go : (p : Parse Leaf) → uncheckedLeaf layout s at ≡ p → uncheckedLeaf layout s (otherwise p at (λ leaf next. after layout s m next)) ≡ ok leaf x
+          → ((next lo′ : ℕ) → rises layout s n next lo′ ≡ true → uncheckedLeaf layout s (after layout s m next) ≡ ok leaf x → seek layout q n s next ≡ seek layout q (n - m) s (after layout s m next))
           → seek layout q (suc n) s at ≡ seek layout q (suc n - suc m) s (otherwise p at (λ leaf next. after layout s m next))
-      go (bad k y) f g ih = absurd (let z = sym f ∙ g in let z′ : _≡_ {A = ℕ} 0 1 = cc in omega arith)
-      go (got first next) f g ih =
+      go (fault k y) f g ih = absurd (let z = sym f ∙ g in let z′ : _≡_ {A = ℕ} 0 1 = cc in omega arith)
+      go (ok first next) f g ih =
           let r = rises-parts n at lo f h in
           let low = after-low m n next (first .offset + 1) (omega arith) (r .1) g in
           let d : suc n - suc m ≡ n - m = omega arith in
@@ -144,15 +144,15 @@ module _ (layout : Layout) (s : List ℕ) where
   unfolding after
   after-rises zero n at lo h = ap (λ (r : ℕ). rises layout s r at 0) (sub-zero n) ∙ rises-lower n at lo 0 (omega arith) h
   after-rises (suc m) zero at lo h = rises-end (zero - suc m) _ 0 (omega arith)
-  after-rises (suc m) (suc n) at lo h = go (looseLeaf layout s at) refl (λ next l g. after-rises m n next l g)
+  after-rises (suc m) (suc n) at lo h = go (uncheckedLeaf layout s at) refl (λ next l g. after-rises m n next l g)
     where
       d : suc n - suc m ≡ n - m
       d = omega arith
 
-      go : (p : Parse Leaf) → looseLeaf layout s at ≡ p → ((next l : ℕ) → rises layout s n next l ≡ true → rises layout s (n - m) (after layout s m next) 0 ≡ true)
+      go : (p : Parse Leaf) → uncheckedLeaf layout s at ≡ p → ((next l : ℕ) → rises layout s n next l ≡ true → rises layout s (n - m) (after layout s m next) 0 ≡ true)
           → rises layout s (suc n - suc m) (otherwise p at (λ leaf next. after layout s m next)) 0 ≡ true
-      go (bad k y) f ih = rises-stop (suc n - suc m) at 0 f
-      go (got first next) f ih = ap (λ (t : ℕ). rises layout s t (after layout s m next) 0) d ∙ ih next (first .offset + 1) (rises-parts n at lo f h .1)
+      go (fault k y) f ih = rises-stop (suc n - suc m) at 0 f
+      go (ok first next) f ih = ap (λ (t : ℕ). rises layout s t (after layout s m next) 0) d ∙ ih next (first .offset + 1) (rises-parts n at lo f h .1)
 
 -- ---- marks
 
@@ -169,7 +169,7 @@ mark-narrowed layout s places y p g = go (ltb p (2 ^ 32))
     go true = g
     go false = mark-zero layout s places y 0 refl
 
-module _ (layout : Layout) (s : List ℕ) (at i p : ℕ) (m : Mark layout s at i p) (n first : ℕ) (e : varint s at ≡ got n first) where
+module _ (layout : Layout) (s : List ℕ) (at i p : ℕ) (m : Mark layout s at i p) (n first : ℕ) (e : varint s at ≡ ok n first) where
   mark-count : m .count ≡ n
   mark-count = let z = sym (m .read) ∙ e in cc
 
@@ -201,7 +201,7 @@ module _ (layout : Layout) (s : List ℕ) (at i p : ℕ) (m : Mark layout s at i
       go false f =
           let z = eqb-false i 0 f in
           let l = h z in
-          after-seek layout s (64 * i) (m .count) (m .first) 0 q (m .within z) (m .rising) (ap (looseLeaf layout s) (sym (m .place)) ∙ l .2) (l .3)
+          after-seek layout s (64 * i) (m .count) (m .first) 0 q (m .within z) (m .rising) (ap (uncheckedLeaf layout s) (sym (m .place)) ∙ l .2) (l .3)
 
 -- ---- the last mark from which a search may start
 
@@ -217,20 +217,20 @@ module _ (layout : Layout) (s marks : List ℕ) (base q : ℕ) where
       let e : base + 0 ≡ base = omega arith in
       record { low = omega arith; there = λ z. n (ap (λ (x : ℕ). getD marks x 0) (sym e) ∙ z); may = λ m. absurd (m refl) }
 
-  pub chosen-next : (i : ℕ) {leaf : Leaf} {x : ℕ} → i < 15 → (getD marks (base + i + 1) 0 ≡ 0 → ⊥) → looseLeaf layout s (getD marks (base + i + 1) 0) ≡ got leaf x → leaf .offset ≤ q → Chosen (i + 1)
+  pub chosen-next : (i : ℕ) {leaf : Leaf} {x : ℕ} → i < 15 → (getD marks (base + i + 1) 0 ≡ 0 → ⊥) → uncheckedLeaf layout s (getD marks (base + i + 1) 0) ≡ ok leaf x → leaf .offset ≤ q → Chosen (i + 1)
   unfolding MayStart
   chosen-next i {leaf} {x} b n e l =
       let a : base + (i + 1) ≡ base + i + 1 = omega arith in
       record {
         low = omega arith;
         there = λ z. n (ap (λ (y : ℕ). getD marks y 0) (sym a) ∙ z);
-        may = λ m. (leaf, x, ap (λ (y : ℕ). looseLeaf layout s (getD marks y 0)) a ∙ e, l);
+        may = λ m. (leaf, x, ap (λ (y : ℕ). uncheckedLeaf layout s (getD marks y 0)) a ∙ e, l);
       }
 
 -- ---- making the marks, one after the other
 
 module _ (layout : Layout) (s places : List ℕ) where
-  pub mark-first : (y n first : ℕ) → y % 16 ≡ 0 → varint s (getD places (y / 16) 0) ≡ got n first → rises layout s n first 0 ≡ true → IsMark layout s places y first
+  pub mark-first : (y n first : ℕ) → y % 16 ≡ 0 → varint s (getD places (y / 16) 0) ≡ ok n first → rises layout s n first 0 ≡ true → IsMark layout s places y first
   unfolding IsMark
   mark-first y n first z e h =
       λ m. record {
@@ -242,7 +242,7 @@ module _ (layout : Layout) (s places : List ℕ) where
         within = λ w. absurd (w z);
       }
 
-  pub mark-next : (y before n first : ℕ) → (y % 16 ≡ 0 → ⊥) → IsMark layout s places (y - 1) before → (before ≡ 0 → ⊥) → varint s (getD places (y / 16) 0) ≡ got n first → 64 * (y % 16) < n
+  pub mark-next : (y before n first : ℕ) → (y % 16 ≡ 0 → ⊥) → IsMark layout s places (y - 1) before → (before ≡ 0 → ⊥) → varint s (getD places (y / 16) 0) ≡ ok n first → 64 * (y % 16) < n
       → (r : ℕ) → r ≡ after layout s 64 before → IsMark layout s places y r
   unfolding IsMark
   mark-next y before n first z g b e l r f = go (g b)
@@ -251,7 +251,7 @@ module _ (layout : Layout) (s places : List ℕ) where
       go m w =
           let k : (y - 1) / 16 ≡ y / 16 = omega arith in
           let i : 64 * ((y - 1) % 16) + 64 ≡ 64 * (y % 16) = omega arith in
-          let read : varint s (getD places (y / 16) 0) ≡ got (m .count) (m .first) = ap (λ (x : ℕ). varint s (getD places x 0)) (sym k) ∙ m .read in
+          let read : varint s (getD places (y / 16) 0) ≡ ok (m .count) (m .first) = ap (λ (x : ℕ). varint s (getD places x 0)) (sym k) ∙ m .read in
           let c : n ≡ m .count = (let t = sym e ∙ read in cc) in
           record {
             count = m .count;

@@ -8,7 +8,7 @@ use lib.ListN.{length, getD}
 use lib.Dec.{ltb, leb, eqb}
 use native.Mathlib.Omega.{arith}
 use Rattle.format.specs.declared.level.Layout.{Layout}
-use Rattle.format.specs.Parse.{Parse, Reader, pick, pure, here, onward, _>>=_, each, given, _passing_else_, at-start, many, require, whole, got, bad}
+use Rattle.format.specs.Parse.{Parse, Reader, pick, pure, here, onward, _>>=_, each, given, _passing_else_, at-start, many, require, whole, ok, fault}
 use Rattle.format.specs.Field.{bytes, byte, le2, le4, le8, number, announced, varint}
 use Rattle.format.specs.Level.{holds, offsetField, flagAllowed, flagField, kindField, carriedField, leafField, levelField, levelFields}
 use Rattle.format.specs.Node.{nodeField}
@@ -21,15 +21,15 @@ use Rattle.format.specs.Refusals.{TOO-LONG, SHORT, LONG-VARINT, BAD-HEIGHT, OVE
 use Rattle.path.specs.Search.{leastOffset}
 use Rattle.spv.specs.declared.rejection.Rejection.{Rejection}
 use Rattle.spv.specs.Result.{refused, carrying}
-use Rattle.spv.specs.Compare.{unread, prove, proveBy}
 use Rattle.spv.specs.Siblings.{writtenBy, findIn}
 use Rattle.spv.specs.Readings.{bumpReading, cmpReading}
 use Rattle.spv.proofs.ReadingsLaws.{bump-refused, cmp-refused}
 use Rattle.spv.proofs.CanBeHad.{Missing, bump-missing, cmp-missing}
+use Rattle.spv.specs.Prove.{prove, proveBy, unread}
 
 abbrev Other : {A : Type 0} → Parse A → Type 0
-Other (got a at) = Unit {0}
-Other (bad n at) = n ≡ MISSING → ⊥
+Other (ok a at) = Unit {0}
+Other (fault n at) = n ≡ MISSING → ⊥
 
 record Spares {A : Type 0} (x : Parse A) : Type 0 where
   other : Other x
@@ -41,38 +41,38 @@ record Never {A : Type 0} (p : Reader A) : Type 0 where
 -- ---- how readers are put together
 
 onward-spares : {A B : Type 0} (x : Parse A) (f : A → ℕ → Parse B) → Spares x → ((a : A) (at : ℕ) → Spares (f a at)) → Spares (onward x f)
-onward-spares (got a at) f h k = k a at
-onward-spares (bad n at) f h k = record { other = h .other }
+onward-spares (ok a at) f h k = k a at
+onward-spares (fault n at) f h k = record { other = h .other }
 
 pick-spares : {A : Type 0} (t : Bool) {x y : Parse A} → Spares x → Spares y → Spares (pick t x y)
 pick-spares true h k = h
 pick-spares false h k = k
 
-got-spares : {A : Type 0} (a : A) (at : ℕ) → Spares (got a at)
-got-spares a at = record { other = tt }
+ok-spares : {A : Type 0} (a : A) (at : ℕ) → Spares (ok a at)
+ok-spares a at = record { other = tt }
 
-bad-spares : {A : Type 0} (n at : ℕ) → (n ≡ MISSING → ⊥) → Spares {A = A} (bad n at)
-bad-spares n at h = record { other = h }
+fault-spares : {A : Type 0} (n at : ℕ) → (n ≡ MISSING → ⊥) → Spares {A = A} (fault n at)
+fault-spares n at h = record { other = h }
 
 each-spares : {A B : Type 0} (f : A → B) (x : Parse A) → Spares x → Spares (each f x)
 unfolding each
-each-spares f x h = onward-spares x (λ a at. got (f a) at) h (λ a at. got-spares (f a) at)
+each-spares f x h = onward-spares x (λ a at. ok (f a) at) h (λ a at. ok-spares (f a) at)
 
 andThen : {A B : Type 0} {p : Reader A} {f : A → Reader B} → Never p → ((a : A) → Never (f a)) → Never (p >>= f)
 andThen {p = p} {f = f} h k = record { spares = λ s at. onward-spares (p s at) (λ a next. f a s next) (h .spares s at) (λ a next. k a .spares s next) }
 
 pure-never : {A : Type 0} (a : A) → Never (pure a)
-pure-never a = record { spares = λ s at. got-spares a at }
+pure-never a = record { spares = λ s at. ok-spares a at }
 
 here-never : Never here
-here-never = record { spares = λ s at. got-spares at at }
+here-never = record { spares = λ s at. ok-spares at at }
 
 given-never : {A B : Type 0} (f : A → B) {p : Reader A} → Never p → Never (given f p)
 given-never f {p} h = record { spares = λ s at. each-spares f (p s at) (h .spares s at) }
 
-under : {A : Type 0} {p : Reader A} (ok : A → Bool) (n : ℕ) → (n ≡ MISSING → ⊥) → Never p → Never (p passing ok else n)
-under {p = p} ok n m h =
-    record { spares = λ s at. onward-spares (p s at) (λ a next. pick (ok a) (got a next) (bad n at)) (h .spares s at) (λ a next. pick-spares (ok a) (got-spares a next) (bad-spares n at m)) }
+under : {A : Type 0} {p : Reader A} (test : A → Bool) (n : ℕ) → (n ≡ MISSING → ⊥) → Never p → Never (p passing test else n)
+under {p = p} test n m h =
+    record { spares = λ s at. onward-spares (p s at) (λ a next. pick (test a) (ok a next) (fault n at)) (h .spares s at) (λ a next. pick-spares (test a) (ok-spares a next) (fault-spares n at m)) }
 
 picked : {A : Type 0} (t : Bool) {p q : Reader A} → Never p → Never q → Never (pick t p q)
 picked true h k = h
@@ -81,7 +81,7 @@ picked false h k = k
 module _ {S A : Type 0} (item : S → Reader A) (next : S → A → S) (h : (st : S) → Never (item st)) where
   many-spares : (n : ℕ) (st : S) (s : List ℕ) (at : ℕ) → Spares (many item next n st s at)
   unfolding many
-  many-spares zero st s at = got-spares [] at
+  many-spares zero st s at = ok-spares [] at
   many-spares (suc n) st s at =
       onward-spares (item st s at) (λ a at′. each (a ∷_) (many item next n (next st a) s at′)) (h st .spares s at)
       (λ a at′. each-spares (a ∷_) (many item next n (next st a) s at′) (many-spares n (next st a) s at′))
@@ -93,26 +93,26 @@ whole-spares : {A : Type 0} {p : Reader A} → Never p → (s : List ℕ) → Sp
 unfolding whole
 whole-spares {p = p} h s =
     pick-spares (leb (length s) MAX-INPUT)
-    (onward-spares (p s 0) (λ a next. pick (ltb next (length s)) (bad EXTRA next) (got a next)) (h .spares s 0)
-    (λ a next. pick-spares (ltb next (length s)) (bad-spares EXTRA next (λ z. omega arith)) (got-spares a next)))
-    (bad-spares TOO-LONG 0 (λ z. omega arith))
+    (onward-spares (p s 0) (λ a next. pick (ltb next (length s)) (fault EXTRA next) (ok a next)) (h .spares s 0)
+    (λ a next. pick-spares (ltb next (length s)) (fault-spares EXTRA next (λ z. omega arith)) (ok-spares a next)))
+    (fault-spares TOO-LONG 0 (λ z. omega arith))
 
 -- ---- fields
 
 bytes-never : (n : ℕ) → Never (bytes n)
 unfolding bytes
-bytes-never n = record { spares = λ s at. pick-spares (leb (at + n) (length s)) (got-spares at (at + n)) (bad-spares SHORT at (λ z. omega arith)) }
+bytes-never n = record { spares = λ s at. pick-spares (leb (at + n) (length s)) (ok-spares at (at + n)) (fault-spares SHORT at (λ z. omega arith)) }
 
 byte-never : Never byte
 unfolding byte
-byte-never = record { spares = λ s at. pick-spares (ltb at (length s)) (got-spares (getD s at 0) (at + 1)) (bad-spares SHORT at (λ z. omega arith)) }
+byte-never = record { spares = λ s at. pick-spares (ltb at (length s)) (ok-spares (getD s at 0) (at + 1)) (fault-spares SHORT at (λ z. omega arith)) }
 
 number-never : (value : List ℕ → ℕ → ℕ) (width : ℕ) → Never (number value width)
-number-never value width = record { spares = λ s at. onward-spares (bytes width s at) (λ place next. got (value s place) next) (bytes-never width .spares s at) (λ place next. got-spares (value s place) next) }
+number-never value width = record { spares = λ s at. onward-spares (bytes width s at) (λ place next. ok (value s place) next) (bytes-never width .spares s at) (λ place next. ok-spares (value s place) next) }
 
 start-spares : {A : Type 0} (start : ℕ) (x : Parse A) → Spares x → Spares (at-start start x)
-start-spares start (got a at) h = h
-start-spares start (bad n at) h = record { other = h .other }
+start-spares start (ok a at) h = h
+start-spares start (fault n at) h = record { other = h .other }
 
 announced-never : (first : ℕ) → Never (announced first)
 announced-never first =
@@ -184,8 +184,8 @@ tx-never limited =
 -- ---- TSC proofs
 
 exactly-spares : {A : Type 0} (start end : ℕ) (x : Parse A) → Spares (exactly start end x)
-exactly-spares start end (got a q) = pick-spares (eqb q end) (got-spares a q) (bad-spares BAD-TX start (λ z. omega arith))
-exactly-spares start end (bad n q) = bad-spares BAD-TX start (λ z. omega arith)
+exactly-spares start end (ok a q) = pick-spares (eqb q end) (ok-spares a q) (fault-spares BAD-TX start (λ z. omega arith))
+exactly-spares start end (fault n q) = fault-spares BAD-TX start (λ z. omega arith)
 
 exact-never : (n : ℕ) → Never (exactField n)
 unfolding exactField
@@ -196,8 +196,8 @@ subject-never : (flags : ℕ) → Never (subjectField flags)
 unfolding subjectField statedField
 subject-never flags = picked (hasTransaction flags) (andThen varint-never (λ n. given-never asSubject (exact-never n))) (given-never _ (bytes-never 32))
 
-require-never : (ok : Bool) (n place : ℕ) → (n ≡ MISSING → ⊥) → Never (require ok n place)
-require-never ok n place m = record { spares = λ s at. pick-spares ok (got-spares tt at) (bad-spares n place m) }
+require-never : (test : Bool) (n place : ℕ) → (n ≡ MISSING → ⊥) → Never (require test n place)
+require-never test n place m = record { spares = λ s at. pick-spares test (ok-spares tt at) (fault-spares n place m) }
 
 node-never : Never nodeField
 unfolding nodeField
@@ -241,23 +241,23 @@ beef-never most room =
 
 -- ---- inputs
 
-told : {A : Type 0} {x : Parse A} → Spares x → {n q : ℕ} → x ≡ bad n q → n ≡ MISSING → ⊥
+told : {A : Type 0} {x : Parse A} → Spares x → {n q : ℕ} → x ≡ fault n q → n ≡ MISSING → ⊥
 told h e = subst (λ (y : Parse _). Other y) e (h .other)
 
 module _ (s : List ℕ) {n q : ℕ} where
-  pub bump-not-missing : bumpWhole s ≡ bad n q → n ≡ MISSING → ⊥
+  pub bump-not-missing : bumpWhole s ≡ fault n q → n ≡ MISSING → ⊥
   bump-not-missing = told (whole-spares (bump-never MAX-HEIGHT) s)
 
-  pub cmp-not-missing : cmpWhole s ≡ bad n q → n ≡ MISSING → ⊥
+  pub cmp-not-missing : cmpWhole s ≡ fault n q → n ≡ MISSING → ⊥
   cmp-not-missing = told (whole-spares (cmp-never MAX-HEIGHT) s)
 
-  pub tsc-not-missing : tscWhole s ≡ bad n q → n ≡ MISSING → ⊥
+  pub tsc-not-missing : tscWhole s ≡ fault n q → n ≡ MISSING → ⊥
   tsc-not-missing = told (whole-spares (tsc-never MAX-HEIGHT) s)
 
-  pub tx-not-missing : txWhole s ≡ bad n q → n ≡ MISSING → ⊥
+  pub tx-not-missing : txWhole s ≡ fault n q → n ≡ MISSING → ⊥
   tx-not-missing = told (whole-spares (tx-never false) s)
 
-  pub beef-not-missing : (room : ℕ) → beefWhole room s ≡ bad n q → n ≡ MISSING → ⊥
+  pub beef-not-missing : (room : ℕ) → beefWhole room s ≡ fault n q → n ≡ MISSING → ⊥
   beef-not-missing room = told (whole-spares (beef-never MAX-HEIGHT room) s)
 
 unread-number : (n q : ℕ) (why : Rejection) → prove (unread (carrying n q)) ≡ refused why → n ≡ why .number
@@ -267,19 +267,19 @@ unread-number n q why e = let f : carrying n q ≡ why = cc in ap (λ (r : Rejec
 -- of any input: 14 exactly when it is read and the climb lacks a sibling (`Missing`)
 module _ (s id : List ℕ) (why : Rejection) where
   pub bump-missing-exactly : ((prove (bumpReading s id) ≡ refused why) × (why .number ≡ MISSING))
-      ↔ ((b : Bump) × (q : ℕ) × (bumpWhole s ≡ got b q) × Missing (writtenBy s (findIn (b .levels))) (b .height) id (leastOffset s id (getD (b .levels) 0 [])) why)
+      ↔ ((b : Bump) × (q : ℕ) × (bumpWhole s ≡ ok b q) × Missing (writtenBy s (findIn (b .levels))) (b .height) id (leastOffset s id (getD (b .levels) 0 [])) why)
   bump-missing-exactly = (λ e. go (bumpWhole s) refl e, λ x. bump-missing s id (x .0) (x .1) (x .2) why .1 (x .3))
     where
       go : (x : Parse Bump) → bumpWhole s ≡ x → (prove (bumpReading s id) ≡ refused why) × (why .number ≡ MISSING)
-          → (b : Bump) × (q : ℕ) × (bumpWhole s ≡ got b q) × Missing (writtenBy s (findIn (b .levels))) (b .height) id (leastOffset s id (getD (b .levels) 0 [])) why
-      go (got b q) h e = (b, q, h, bump-missing s id b q h why .0 e)
-      go (bad n q) h e = absurd (bump-not-missing s h (unread-number n q why (sym (ap prove (bump-refused s id n q h)) ∙ e .0) ∙ e .1))
+          → (b : Bump) × (q : ℕ) × (bumpWhole s ≡ ok b q) × Missing (writtenBy s (findIn (b .levels))) (b .height) id (leastOffset s id (getD (b .levels) 0 [])) why
+      go (ok b q) h e = (b, q, h, bump-missing s id b q h why .0 e)
+      go (fault n q) h e = absurd (bump-not-missing s h (unread-number n q why (sym (ap prove (bump-refused s id n q h)) ∙ e .0) ∙ e .1))
 
   pub cmp-missing-exactly : ((prove (cmpReading s id) ≡ refused why) × (why .number ≡ MISSING))
-      ↔ ((p : Cmp) × (q : ℕ) × (cmpWhole s ≡ got p q) × Missing (writtenBy s (findIn (p .levels))) (p .height) id (leastOffset s id (getD (p .levels) 0 [])) why)
+      ↔ ((p : Cmp) × (q : ℕ) × (cmpWhole s ≡ ok p q) × Missing (writtenBy s (findIn (p .levels))) (p .height) id (leastOffset s id (getD (p .levels) 0 [])) why)
   cmp-missing-exactly = (λ e. go (cmpWhole s) refl e, λ x. cmp-missing s id (x .0) (x .1) (x .2) why .1 (x .3))
     where
       go : (x : Parse Cmp) → cmpWhole s ≡ x → (prove (cmpReading s id) ≡ refused why) × (why .number ≡ MISSING)
-          → (p : Cmp) × (q : ℕ) × (cmpWhole s ≡ got p q) × Missing (writtenBy s (findIn (p .levels))) (p .height) id (leastOffset s id (getD (p .levels) 0 [])) why
-      go (got p q) h e = (p, q, h, cmp-missing s id p q h why .0 e)
-      go (bad n q) h e = absurd (cmp-not-missing s h (unread-number n q why (sym (ap prove (cmp-refused s id n q h)) ∙ e .0) ∙ e .1))
+          → (p : Cmp) × (q : ℕ) × (cmpWhole s ≡ ok p q) × Missing (writtenBy s (findIn (p .levels))) (p .height) id (leastOffset s id (getD (p .levels) 0 [])) why
+      go (ok p q) h e = (p, q, h, cmp-missing s id p q h why .0 e)
+      go (fault n q) h e = absurd (cmp-not-missing s h (unread-number n q why (sym (ap prove (cmp-refused s id n q h)) ∙ e .0) ∙ e .1))

@@ -15,12 +15,13 @@ use Rattle.format.specs.Cmp.{topUpTo, cmpUpTo}
 use Rattle.path.specs.Search.{carries, lesser, lookup, leastOffset}
 use Rattle.spv.specs.Result.{accepted}
 use Rattle.spv.specs.Climb.{value, siblingPosition, joined, step, ascendBy, endBy, preimagesOf, siblingsOf}
-use Rattle.spv.specs.Compare.{Proof, hits, settle, proveBy, meetBy, stringsOf, alike, againstBy, compareBy, pair}
+use Rattle.spv.specs.Compare.{meetBy, stringsOf, alike, againstBy, compareBy, pair}
 use Rattle.spv.proofs.Collide.{CollidedBy}
 use Rattle.spv.specs.Siblings.{written, sibling, levelSiblings}
 use Rattle.spv.specs.Values.{valueBy, valueOf, workedOut}
 use Rattle.spv.specs.Readings.{starting, levelsReading, bumpReadingUpTo, cmpReadingUpTo, reading, readingUpTo}
 use Rattle.spv.proofs.Demand3.{demand3-by}
+use Rattle.spv.specs.Prove.{Proof, hits, settle, proveBy}
 
 -- the first 32 bytes, filled up with zeros
 abbrev pub firstHalf : List ℕ → List ℕ

@@ -15,7 +15,7 @@ use Rattle.format.specs.declared.level.Kind.the-variants.{Plain, Copy, Client}
 use Rattle.path.specs.declared.path.Form.{Form}
 use Rattle.path.specs.declared.path.Start.{Start}
 use Rattle.path.specs.declared.path.Start.the-variants.{At, Nowhere}
-use Rattle.format.specs.Parse.{Parse, got, many, _passing_else_}
+use Rattle.format.specs.Parse.{Parse, ok, many, _passing_else_}
 use Rattle.format.proofs.ParseLaws.{onward-told, passing-told, many-told, many-length}
 use Rattle.format.specs.Field.{varint}
 use Rattle.format.specs.Level.{holds, offsetField, carriedField, leafField, levelField, levelInTurn, nextTurn, levelOfTurn, andOffset}
@@ -28,7 +28,6 @@ use Rattle.format.specs.Tsc.{Tsc, tscWhole, indexFits}
 use Rattle.format.proofs.TscLaws.{TscRead, tsc-whole-told}
 use Rattle.format.proofs.BumpLaws.{BumpRead, bump-whole-told, CmpRead, cmp-whole-told}
 use Rattle.spv.specs.Result.{accepted}
-use Rattle.spv.specs.Compare.{any, read, Proof, proveBy, prove}
 use Rattle.spv.proofs.CompareLaws.{prove-accepted}
 use Rattle.spv.specs.Siblings.{levelSiblings, nodeSiblings}
 use Rattle.format.specs.Id.{subjectId}
@@ -36,6 +35,7 @@ use Rattle.spv.proofs.ReadingsLaws.{read-proved}
 use Rattle.spv.specs.Readings.{starting, levelsReading, bumpReadingUpTo, cmpReadingUpTo, tscTarget, tscReadingUpTo, reading, readingUpTo}
 use Rattle.spv.proofs.Surplus.{carriedAt, Least, least-is}
 use Rattle.format.specs.Bytes.{hashAt}
+use Rattle.spv.specs.Prove.{Proof, proveBy, prove, any, read}
 
 -- every offset is below n
 unfoldable pub Below : ℕ → List Leaf → Type 0
@@ -44,34 +44,34 @@ Below n (leaf ∷ l) = (leaf .offset < n) × Below n l
 
 -- ---- what reading tests
 
-leaf-below : (layout : Layout) (limit level : ℕ) (seen s : List ℕ) (at : ℕ) {leaf : Leaf} {q : ℕ} → leafField layout limit level seen s at ≡ got leaf q → leaf .offset < limit
+leaf-below : (layout : Layout) (limit level : ℕ) (seen s : List ℕ) (at : ℕ) {leaf : Leaf} {q : ℕ} → leafField layout limit level seen s at ≡ ok leaf q → leaf .offset < limit
 unfolding leafField offsetField
 leaf-below layout limit level seen s at {leaf} {q} e =
     let x = onward-told (offsetField limit seen s at) _ e in
     let y = onward-told (carriedField layout level (x .0) s (x .1)) _ (x .3) in
     let o = passing-told (varint passing (λ o. ltb o limit) else BAD-OFFSET) (λ o. not (holds o seen)) REPEATED s at (x .2) in
     let v = passing-told varint (λ o. ltb o limit) BAD-OFFSET s at (o .0) in
-    let is : _≡_ {A = Parse Leaf} (got (record { offset = x .0; kind = y .0 }) (y .1)) (got leaf q) = y .3 in
+    let is : _≡_ {A = Parse Leaf} (ok (record { offset = x .0; kind = y .0 }) (y .1)) (ok leaf q) = y .3 in
     built (x .0) (y .0) (y .1) (ltb-true (x .0) limit (v .1)) is
   where
-    built : (o : ℕ) (kind : Kind) (r : ℕ) → o < limit → _≡_ {A = Parse Leaf} (got (record { offset = o; kind = kind }) r) (got leaf q) → leaf .offset < limit
+    built : (o : ℕ) (kind : Kind) (r : ℕ) → o < limit → _≡_ {A = Parse Leaf} (ok (record { offset = o; kind = kind }) r) (ok leaf q) → leaf .offset < limit
     built o kind r h is = let z : record { offset = o; kind = kind } ≡ leaf = cc in rw (← z) h
 
-leaves-below : (layout : Layout) (limit level n : ℕ) (seen s : List ℕ) (at : ℕ) {l : List Leaf} {q : ℕ} → many (leafField layout limit level) andOffset n seen s at ≡ got l q → Below limit l
+leaves-below : (layout : Layout) (limit level n : ℕ) (seen s : List ℕ) (at : ℕ) {l : List Leaf} {q : ℕ} → many (leafField layout limit level) andOffset n seen s at ≡ ok l q → Below limit l
 unfolding Below many
 leaves-below layout limit level zero seen s at {l} {q} e = let z : [] ≡ l = cc in subst (Below limit) z tt
 leaves-below layout limit level (suc n) seen s at {l} {q} e =
     let x = many-told (leafField layout limit level) andOffset n seen s at e in
     subst (Below limit) (x .5) (leaf-below layout limit level seen s at (x .3), leaves-below layout limit level n (andOffset seen (x .0)) s (x .1) (x .4))
 
-level-below : (layout : Layout) (limit level : ℕ) (s : List ℕ) (at : ℕ) {l : List Leaf} {q : ℕ} → levelField layout limit level s at ≡ got l q → Below limit l
+level-below : (layout : Layout) (limit level : ℕ) (s : List ℕ) (at : ℕ) {l : List Leaf} {q : ℕ} → levelField layout limit level s at ≡ ok l q → Below limit l
 unfolding levelField
 level-below layout limit level s at e =
     let x = onward-told ((varint passing (λ n. leb n MAX-LEAVES) else OVER-LIMIT) s at) _ e in
     leaves-below layout limit level (x .0) [] s (x .1) (x .3)
 
 -- the level written in turn i + j
-levels-below : (layout : Layout) (height n i : ℕ) (s : List ℕ) (at : ℕ) {ls : List (List Leaf)} {q : ℕ} → many (levelInTurn layout height) nextTurn n i s at ≡ got ls q
+levels-below : (layout : Layout) (height n i : ℕ) (s : List ℕ) (at : ℕ) {ls : List (List Leaf)} {q : ℕ} → many (levelInTurn layout height) nextTurn n i s at ≡ ok ls q
     → (j : ℕ) → j < n → Below (2 ^ (height - levelOfTurn layout height (i + j))) (getD ls j [])
 levels-below layout height zero i s at e j h = absurd (omega arith)
 levels-below layout height (suc n) i s at {ls} e j h =

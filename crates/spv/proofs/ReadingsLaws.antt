@@ -8,7 +8,7 @@ use Rattle.format.specs.declared.level.Leaf.{Leaf}
 use Rattle.path.specs.declared.path.Start.{Start}
 use Rattle.path.specs.declared.path.Start.the-variants.{At, Nowhere}
 use Rattle.path.specs.declared.path.Path.{Path}
-use Rattle.format.specs.Parse.{Parse, got, bad}
+use Rattle.format.specs.Parse.{Parse, ok, fault}
 use Rattle.path.specs.Search.{leastOffset}
 use Rattle.path.specs.Path.{startIn, bumpPathOf, bumpPath, cmpPathOf, cmpPath}
 use Rattle.format.proofs.BumpLaws.{BumpRead, bump-whole-told, CmpRead, cmp-whole-told}
@@ -25,18 +25,18 @@ use Rattle.format.proofs.Whole.{whole-size}
 use Rattle.spv.specs.Result.{accepted, carrying}
 use Rattle.spv.specs.Climb.{Siblings}
 use Rattle.spv.proofs.ClimbLaws.{ascend-same}
-use Rattle.spv.specs.Compare.{Target, any, Reading, unread, read, Proof, proveBy, prove}
 use Rattle.spv.proofs.CompareLaws.{prove-climb}
 use Rattle.spv.specs.Siblings.{levelSiblings, nodeSiblings, joinIn, pathSiblings}
 use Rattle.spv.proofs.SiblingsLaws.{LeadsTo, path-levels, path-nodes}
 use Rattle.spv.specs.Readings.{readAs, starting, levelsReading, bumpReading, bumpReadingUpTo, cmpReading, cmpReadingUpTo, tscTarget, tscReading, tscReadingUpTo, pathReading}
 use Rattle.path.specs.Subject.{subjectHash}
+use Rattle.spv.specs.Prove.{Target, Reading, Proof, proveBy, prove, any, unread, read}
 
 -- an accepted proof was read
-pub read-proved : {A : Type 0} (x : Parse A) (f : A → Reading) (p : Proof) → prove (readAs x f) ≡ accepted p → (a : A) × (q : ℕ) × (x ≡ got a q) × (prove (f a) ≡ accepted p)
+pub read-proved : {A : Type 0} (x : Parse A) (f : A → Reading) (p : Proof) → prove (readAs x f) ≡ accepted p → (a : A) × (q : ℕ) × (x ≡ ok a q) × (prove (f a) ≡ accepted p)
 unfolding proveBy
-read-proved (got a q) f p e = (a, q, refl, e)
-read-proved (bad number place) f p e = let z : _≡_ {A = ℕ} 0 1 = cc in absurd (omega arith)
+read-proved (ok a q) f p e = (a, q, refl, e)
+read-proved (fault number place) f p e = let z : _≡_ {A = ℕ} 0 1 = cc in absurd (omega arith)
 
 pub prove-same : (σ τ : Siblings) (h i : ℕ) (c : List ℕ) (w : Target) → ((k q : ℕ) → k < h → σ k q ≡ τ k q) → prove (read σ h i c w) ≡ prove (read τ h i c w)
 prove-same σ τ h i c w f = prove-climb σ τ h i c w (ascend-same σ τ h f i c)
@@ -56,19 +56,19 @@ path-proves s path h levels id l e =
     ∙ ap (λ (x : Start). prove (starting (pathSiblings s path) h id x)) e
     ∙ starting-same (pathSiblings s path) (levelSiblings s levels) h id (leastOffset s id (getD levels 0 [])) (path-levels s path h levels l)
 
-pub bump-refused : (s id : List ℕ) (number place : ℕ) → bumpWhole s ≡ bad number place → bumpReading s id ≡ unread (carrying number place)
+pub bump-refused : (s id : List ℕ) (number place : ℕ) → bumpWhole s ≡ fault number place → bumpReading s id ≡ unread (carrying number place)
 unfolding bumpReadingUpTo
 bump-refused s id number place e = rw e
 
-pub bump-read : (s id : List ℕ) (b : Bump) (q : ℕ) → bumpWhole s ≡ got b q → bumpReading s id ≡ levelsReading s (b .height) (b .levels) id
+pub bump-read : (s id : List ℕ) (b : Bump) (q : ℕ) → bumpWhole s ≡ ok b q → bumpReading s id ≡ levelsReading s (b .height) (b .levels) id
 unfolding bumpReadingUpTo
 bump-read s id b q e = rw e
 
-pub cmp-refused : (s id : List ℕ) (number place : ℕ) → cmpWhole s ≡ bad number place → cmpReading s id ≡ unread (carrying number place)
+pub cmp-refused : (s id : List ℕ) (number place : ℕ) → cmpWhole s ≡ fault number place → cmpReading s id ≡ unread (carrying number place)
 unfolding cmpReadingUpTo
 cmp-refused s id number place e = rw e
 
-pub cmp-read : (s id : List ℕ) (p : Cmp) (q : ℕ) → cmpWhole s ≡ got p q → cmpReading s id ≡ levelsReading s (p .height) (p .levels) id
+pub cmp-read : (s id : List ℕ) (p : Cmp) (q : ℕ) → cmpWhole s ≡ ok p q → cmpReading s id ≡ levelsReading s (p .height) (p .levels) id
 unfolding cmpReadingUpTo
 cmp-read s id p q e = rw e
 
@@ -94,19 +94,19 @@ cmp-leads s p r = record { layers = cmp-layers s p r; few = let low = r .low in 
 pub bump-path-proves : (s id : List ℕ) {q : ℕ} (b : Bump) → BumpRead s q b → prove (pathReading s (bumpPath s b) id) ≡ prove (levelsReading s (b .height) (b .levels) id)
 bump-path-proves s id b r = path-proves s (bumpPath s b) (b .height) (b .levels) id (bump-leads s b r) (bump-start-in s b r id)
 
-pub bump-proves : (s id : List ℕ) (b : Bump) (q : ℕ) → bumpWhole s ≡ got b q → prove (pathReading s (bumpPath s b) id) ≡ prove (bumpReading s id)
+pub bump-proves : (s id : List ℕ) (b : Bump) (q : ℕ) → bumpWhole s ≡ ok b q → prove (pathReading s (bumpPath s b) id) ≡ prove (bumpReading s id)
 bump-proves s id b q e = bump-path-proves s id b (bump-whole-told s e) ∙ sym (ap prove (bump-read s id b q e))
 
-pub cmp-proves : (s id : List ℕ) (p : Cmp) (q : ℕ) → cmpWhole s ≡ got p q → prove (pathReading s (cmpPath s p) id) ≡ prove (cmpReading s id)
+pub cmp-proves : (s id : List ℕ) (p : Cmp) (q : ℕ) → cmpWhole s ≡ ok p q → prove (pathReading s (cmpPath s p) id) ≡ prove (cmpReading s id)
 cmp-proves s id p q e =
     let r = cmp-whole-told s e in
     path-proves s (cmpPath s p) (p .height) (p .levels) id (cmp-leads s p r) (cmp-start-in s p r id) ∙ sym (ap prove (cmp-read s id p q e))
 
-pub tsc-refused : (s : List ℕ) (number place : ℕ) → tscWhole s ≡ bad number place → tscReading s ≡ unread (carrying number place)
+pub tsc-refused : (s : List ℕ) (number place : ℕ) → tscWhole s ≡ fault number place → tscReading s ≡ unread (carrying number place)
 unfolding tscReadingUpTo
 tsc-refused s number place e = rw e
 
-pub tsc-read : (s : List ℕ) (t : Tsc) (q : ℕ) → tscWhole s ≡ got t q
+pub tsc-read : (s : List ℕ) (t : Tsc) (q : ℕ) → tscWhole s ≡ ok t q
     → tscReading s ≡ read (nodeSiblings s (t .nodes)) (length (t .nodes)) (t .index) (subjectId s (t .subject)) (tscTarget s t)
 unfolding tscReadingUpTo
 tsc-read s t q e = rw e
@@ -115,7 +115,7 @@ pub tsc-layers : (s : List ℕ) {q : ℕ} (t : Tsc) → TscRead s q t → tscPat
 unfolding tscPathOf
 tsc-layers s t r = let low = r .low in omega arith
 
-pub tsc-proves : (s : List ℕ) (t : Tsc) (q : ℕ) → tscWhole s ≡ got t q
+pub tsc-proves : (s : List ℕ) (t : Tsc) (q : ℕ) → tscWhole s ≡ ok t q
     → prove (read (pathSiblings s (tscPath s t)) (tscPath s t .layers) (t .index) (subjectHash s (t .subject)) (tscTarget s t)) ≡ prove (tscReading s)
 tsc-proves s t q e =
     let r = tsc-whole-told s e in

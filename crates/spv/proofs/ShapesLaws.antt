@@ -7,14 +7,14 @@ use lib.Dec.{eqb}
 use native.Mathlib.Omega.{arith}
 use Rattle.format.specs.declared.tsc.TscHead.{TscHead}
 use Rattle.format.specs.Refusals.{UNLIKE, SAME-ID}
-use Rattle.format.specs.Parse.{got}
+use Rattle.format.specs.Parse.{ok}
 use Rattle.format.specs.Tsc.{Tsc, tscWhole, tscHeadOf, tellsRoot, targetRoot}
 use Rattle.path.specs.TscPath.{tscPathOf}
 use Rattle.format.specs.Bytes.{same}
 use Rattle.path.specs.Subject.{subjectHash}
 use Rattle.spv.specs.Result.{Result, accepted, refused, carrying}
 use Rattle.spv.specs.Climb.{Sibling, value, copied, absent, Step, joins, fails, ascend, preimagesOf}
-use Rattle.spv.specs.Compare.{targetOf, unread, Proof, Met, at, never, hits, proveBy, prove, proofOf, stringsOf, alike, against, compareBy, compare, meet}
+use Rattle.spv.specs.Compare.{Met, meets, never, stringsOf, alike, against, compareBy, compare, meet}
 use Rattle.spv.proofs.CompareLaws.{prove-accepted, alike-told, against-unlike, against-same, against-meet, compare-second, compare-both}
 use Rattle.spv.specs.Values.{hasValue}
 use Rattle.spv.specs.Siblings.{pathSiblings}
@@ -35,7 +35,8 @@ use Rattle.spv.specs.declared.climb.StepKind.the-variants.{Joins, Fails}
 use Rattle.spv.specs.declared.climb.Joined.{Joined}
 use Rattle.spv.specs.declared.climb.End.the-variants.{Root, Stop}
 use Rattle.spv.specs.declared.climb.Climbed.{Climbed}
-use Rattle.spv.specs.declared.comparing.Meeting.{Meeting}
+use Rattle.spv.specs.declared.compare.Meeting.{Meeting}
+use Rattle.spv.specs.Prove.{targetOf, Proof, hits, proveBy, prove, proofOf, unread}
 
 pub sibling-node : (s : Sibling) → siblingOf (nodeOf s) ≡ s
 unfolding siblingOf nodeOf siblingBy
@@ -101,14 +102,14 @@ is-joins Joins e = refl
 is-joins (Fails number) e = let z : _≡_ {A = ℕ} 0 1 = cc in absurd (omega arith)
 
 module _ (r : Meeting) where
-  pub told-met : (m : Met) → r ≡ meetingOf m → r .found ≡ true → m ≡ at (r .first) (r .second)
+  pub told-met : (m : Met) → r ≡ meetingOf m → r .found ≡ true → m ≡ meets (r .first) (r .second)
   unfolding meetingOf
-  told-met (at t u) e f = cc
+  told-met (meets t u) e f = cc
   told-met never e f = let z : _≡_ {A = ℕ} 0 1 = cc in absurd (omega arith)
 
   pub told-never : (m : Met) → r ≡ meetingOf m → r .found ≡ false → m ≡ never
   unfolding meetingOf
-  told-never (at t u) e f = let z : _≡_ {A = ℕ} 0 1 = cc in absurd (omega arith)
+  told-never (meets t u) e f = let z : _≡_ {A = ℕ} 0 1 = cc in absurd (omega arith)
   told-never never e f = refl
 
 -- ---- one proof
@@ -131,7 +132,7 @@ module _ (s : List ℕ) (x : Claim) where
   claimed-unread f r e g = ap (claimedBy (opened s x)) (e ∙ ap Unread g)
 
 -- a claim made of a TSC proof's head
-pub tsc-claim : (s : List ℕ) (x : Claim) (h : TscHead) (t : Tsc) (q : ℕ) → tscWhole s ≡ got t q → tscHeadOf t ≡ h
+pub tsc-claim : (s : List ℕ) (x : Claim) (h : TscHead) (t : Tsc) (q : ℕ) → tscWhole s ≡ ok t q → tscHeadOf t ≡ h
     → x .status ≡ Read → x .path ≡ tscPathOf s h → x .position ≡ h .index → x .id ≡ subjectHash s (h .subject) → x .bound ≡ tellsRoot (h .flags) → x .target ≡ targetRoot s (h .flags) (h .target)
     → prove (claimed s x) ≡ prove (tscReading s)
 unfolding opened tscTarget

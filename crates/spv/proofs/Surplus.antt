@@ -13,18 +13,18 @@ use Rattle.format.proofs.Basics.{and-false, or-true}
 use Rattle.format.specs.declared.level.Leaf.{Leaf}
 use Rattle.path.specs.declared.path.Start.{Start}
 use Rattle.path.specs.declared.path.Start.the-variants.{At, Nowhere}
-use Rattle.format.specs.Parse.{got, pick}
+use Rattle.format.specs.Parse.{ok, pick}
 use Rattle.path.specs.Search.{carries, lesser, leastOffset}
 use Rattle.format.specs.Bump.{Bump, bumpWhole}
 use Rattle.format.specs.Cmp.{Cmp, cmpWhole}
 use Rattle.spv.specs.Climb.{Siblings, ascend}
 use Rattle.spv.proofs.Asked.{climbAsks, SameAt}
 use Rattle.spv.proofs.AskedLaws.{climb-agree}
-use Rattle.spv.specs.Compare.{any, prove}
 use Rattle.spv.proofs.CompareLaws.{prove-climb}
 use Rattle.spv.specs.Siblings.{writtenBy, findIn, levelSiblings}
 use Rattle.spv.specs.Readings.{starting, levelsReading, bumpReading, cmpReading}
 use Rattle.spv.proofs.ReadingsLaws.{bump-read, cmp-read}
+use Rattle.spv.specs.Prove.{prove, any}
 
 -- a leaf at the offset o carries the id
 unfoldable pub carriedAt : List ℕ → List ℕ → ℕ → List Leaf → Bool
@@ -109,7 +109,7 @@ surplus s t id h levels others a =
     ∙ ap (λ (x : Start). prove (starting (levelSiblings t others) h id x)) (start-same s t id (getD levels 0 []) (getD others 0 []) (a .carriers))
 
 -- the two forms that have such leaves
-pub surplus-bump : (s t id : List ℕ) {b c : Bump} {p q : ℕ} → bumpWhole s ≡ got b p → bumpWhole t ≡ got c q → b .height ≡ c .height → Agree s t id (b .height) (b .levels) (c .levels)
+pub surplus-bump : (s t id : List ℕ) {b c : Bump} {p q : ℕ} → bumpWhole s ≡ ok b p → bumpWhole t ≡ ok c q → b .height ≡ c .height → Agree s t id (b .height) (b .levels) (c .levels)
     → prove (bumpReading s id) ≡ prove (bumpReading t id)
 surplus-bump s t id {b} {c} {p} {q} e f h a =
     ap prove (bump-read s id b p e)
@@ -117,7 +117,7 @@ surplus-bump s t id {b} {c} {p} {q} e f h a =
     ∙ ap (λ (n : ℕ). prove (levelsReading t n (c .levels) id)) h
     ∙ sym (ap prove (bump-read t id c q f))
 
-pub surplus-cmp : (s t id : List ℕ) {b c : Cmp} {p q : ℕ} → cmpWhole s ≡ got b p → cmpWhole t ≡ got c q → b .height ≡ c .height → Agree s t id (b .height) (b .levels) (c .levels)
+pub surplus-cmp : (s t id : List ℕ) {b c : Cmp} {p q : ℕ} → cmpWhole s ≡ ok b p → cmpWhole t ≡ ok c q → b .height ≡ c .height → Agree s t id (b .height) (b .levels) (c .levels)
     → prove (cmpReading s id) ≡ prove (cmpReading t id)
 surplus-cmp s t id {b} {c} {p} {q} e f h a =
     ap prove (cmp-read s id b p e)

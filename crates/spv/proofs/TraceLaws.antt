@@ -7,12 +7,12 @@ use lib.Seq.{take-all, take-at}
 use native.Mathlib.Omega.{arith}
 use Rattle.encoding.specs.Buffer.{Buffer, buffer, writeOn, filled}
 use Rattle.encoding.proofs.BufferLaws.{write-whole}
-use Rattle.encoding.specs.Spells.{spells}
+use Rattle.encoding.specs.Encode.{encodeAll}
 use Rattle.encoding.specs.BumpBytes.{carriedBytes}
 use Rattle.spv.specs.declared.rejection.Rejection.{Rejection}
 use Rattle.spv.specs.Result.{Result, accepted, refused}
 use Rattle.spv.specs.Climb.{Sibling, Siblings, ascend, siblingsOf}
-use Rattle.spv.specs.Compare.{Proof, proofOf}
+use Rattle.spv.specs.Prove.{Proof, proofOf}
 use Rattle.spv.specs.Shapes.{acceptedOf, provedOf, siblingOf}
 use Rattle.spv.proofs.ShapesLaws.{is-value, is-copied, is-absent, told-accepted, told-unproved}
 use Rattle.spv.specs.Trace.{asCarried, nodesText, TRACE-ROOM, tracedOf}
@@ -37,11 +37,11 @@ module _ (f : Node) where
   text-absent e = ap (λ (x : Sibling). carriedBytes (asCarried x)) (is-absent f e)
 
 pub text-none : nodesText [] ≡ []
-unfolding nodesText spells
+unfolding nodesText encodeAll
 text-none = refl
 
 pub text-more : (x : Sibling) (l : List Sibling) → nodesText (x ∷ l) ≡ carriedBytes (asCarried x) ++ nodesText l
-unfolding nodesText spells
+unfolding nodesText encodeAll
 text-more x l = refl
 
 -- the answer of a climb that comes to its root

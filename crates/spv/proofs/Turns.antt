@@ -11,7 +11,7 @@ use Rattle.format.specs.Bytes.{same}
 use Rattle.spv.specs.Result.{atSibling}
 use Rattle.spv.specs.Climb.{Siblings, Step, joins, fails, Ascent, step, odd, siblingPosition, ascend, endBy, endOf, preimagesOf}
 use Rattle.spv.proofs.ClimbLaws.{turn-joins, turn-fails, turn-none}
-use Rattle.spv.specs.Compare.{at, never, meet}
+use Rattle.spv.specs.Compare.{meets, never, meet}
 use Rattle.spv.proofs.CompareLaws.{meet-left, meet-right, meet-here, meet-above}
 use Rattle.spv.specs.Shapes.{climbedOf, joinedOf, isJoins}
 use Rattle.spv.proofs.ShapesLaws.{is-joins, told-joins}
@@ -96,7 +96,7 @@ module _ (σ τ : Siblings) (e h i : ℕ) (c₀ d₀ : List ℕ) where
             let n : k + 1 + e ≡ k + e + 1 = omega arith in
             rw (preimages-up σ h k k l j c r er g, preimages-up τ h k (k + e) l j d u eu m, n)
 
-        pub pairing-here : same (sha256d (both r)) (sha256d (both u)) ≡ true → at (both r) (both u) ≡ meet (left σ 0 h i c₀) (left τ e h i d₀)
+        pub pairing-here : same (sha256d (both r)) (sha256d (both u)) ≡ true → meets (both r) (both u) ≡ meet (left σ 0 h i c₀) (left τ e h i d₀)
         pairing-here t = sym (both-up ∙ meet-here _ _ _ _ t) ∙ v .kept
 
         pub pairing-up : same (sha256d (both r)) (sha256d (both u)) ≡ false → (c′ d′ : List ℕ) → c′ ≡ sha256d (both r) → d′ ≡ sha256d (both u) → Pairing σ τ e h i c₀ d₀ (k + 1) (j / 2) c′ d′

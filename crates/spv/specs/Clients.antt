@@ -11,8 +11,8 @@ use Rattle.format.specs.Parse.{whole}
 use Rattle.format.specs.Bump.{bumpUpTo}
 use Rattle.spv.specs.Result.{Result, accepted, refused, carrying, afterReading, follow}
 use Rattle.spv.specs.Climb.{Siblings}
-use Rattle.spv.specs.Compare.{Target, any, bound, read, Proof, prove}
 use Rattle.spv.specs.Siblings.{levelSiblings}
+use Rattle.spv.specs.Prove.{Target, Proof, prove, any, bound, read}
 
 -- the root that is wanted of the next client
 unfoldable pub wantedBy : Result Proof → Result Target

@@ -8,20 +8,20 @@ use lib.ListN.{length, getD}
 use lib.Dec.{leb, ltb}
 use Rattle.format.specs.declared.level.Layout.{Layout}
 use Rattle.format.specs.declared.level.Leaf.{Leaf}
-use Rattle.format.specs.Parse.{got, pick, otherwise}
+use Rattle.format.specs.Parse.{ok, pick, otherwise}
 use Rattle.format.specs.Field.{varint}
-use Rattle.path.specs.Loose.{looseLeaf}
+use Rattle.path.specs.Unchecked.{uncheckedLeaf}
 
 module _ (layout : Layout) (s : List ℕ) where
   -- the offsets of n leaves from a place rise, from lo on
   unfoldable pub rises : ℕ → ℕ → ℕ → Bool
   rises zero at lo = true
-  rises (suc n) at lo = otherwise (looseLeaf layout s at) true (λ leaf next. pick (leb lo (leaf .offset)) (rises n next (leaf .offset + 1)) false)
+  rises (suc n) at lo = otherwise (uncheckedLeaf layout s at) true (λ leaf next. pick (leb lo (leaf .offset)) (rises n next (leaf .offset + 1)) false)
 
   -- the place after m leaves
   unfoldable pub after : ℕ → ℕ → ℕ
   after zero at = at
-  after (suc m) at = otherwise (looseLeaf layout s at) at (λ leaf next. after m next)
+  after (suc m) at = otherwise (uncheckedLeaf layout s at) at (λ leaf next. after m next)
 
 -- a place that fits 32 bits, else none
 unfoldable pub narrowed : ℕ → ℕ
@@ -31,7 +31,7 @@ narrowed p = pick (ltb p (2 ^ 32)) p 0
 pub record Mark (layout : Layout) (s : List ℕ) (at i p : ℕ) : Type 0 where
   pub count : ℕ
   pub first : ℕ
-  pub read : varint s at ≡ got count first
+  pub read : varint s at ≡ ok count first
   pub rising : rises layout s count first 0 ≡ true
   pub place : p ≡ after layout s (64 * i) first
   pub within : (i ≡ 0 → ⊥) → 64 * i < count
@@ -46,4 +46,4 @@ pub record Marked (layout : Layout) (s places marks : List ℕ) : Type 0 where
 
 -- a search for q may start at mark i, at a place: it is the first mark, or its leaf's offset is no greater
 unfoldable pub MayStart : Layout → List ℕ → ℕ → ℕ → ℕ → Type 0
-MayStart layout s q i p = (i ≡ 0 → ⊥) → (leaf : Leaf) × (x : ℕ) × (looseLeaf layout s p ≡ got leaf x) × (leaf .offset ≤ q)
+MayStart layout s q i p = (i ≡ 0 → ⊥) → (leaf : Leaf) × (x : ℕ) × (uncheckedLeaf layout s p ≡ ok leaf x) × (leaf .offset ≤ q)

@@ -7,7 +7,7 @@ use Rattle.path.specs.declared.path.Form.{Form}
 use Rattle.path.specs.declared.path.Start.{Start}
 use Rattle.path.specs.declared.path.Start.the-variants.{At, Nowhere}
 use Rattle.path.specs.declared.path.Path.{Path}
-use Rattle.format.specs.Parse.{Parse, got, bad, whole}
+use Rattle.format.specs.Parse.{Parse, ok, fault, whole}
 use Rattle.format.specs.Refusals.{NOT-LISTED, MAX-HEIGHT}
 use Rattle.path.specs.Search.{leastOffset}
 use Rattle.path.specs.Path.{startIn}
@@ -17,13 +17,13 @@ use Rattle.format.specs.Tsc.{Tsc, tscUpTo, tellsRoot, targetRoot}
 use Rattle.format.specs.Id.{subjectId}
 use Rattle.spv.specs.Result.{carrying}
 use Rattle.spv.specs.Climb.{Siblings}
-use Rattle.spv.specs.Compare.{Target, any, targetOf, Reading, unread, read}
 use Rattle.spv.specs.Siblings.{levelSiblings, nodeSiblings, pathSiblings}
+use Rattle.spv.specs.Prove.{Target, targetOf, Reading, any, unread, read}
 
 -- a refusal of reading is the proof's
 abbrev pub readAs : {A : Type 0} → Parse A → (A → Reading) → Reading
-readAs (got a next) f = f a
-readAs (bad number place) f = unread (carrying number place)
+readAs (ok a next) f = f a
+readAs (fault number place) f = unread (carrying number place)
 
 -- an id starts at the level-0 leaf that carries it; if none does it is not listed
 unfoldable pub starting : Siblings → ℕ → List ℕ → Start → Reading

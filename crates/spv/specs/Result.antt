@@ -1,6 +1,6 @@
 -- What a call comes to: accepted with a value, or refused.
 use Prim.Native.Nat.{ℕ}
-use Rattle.format.specs.Parse.{Parse, got, bad}
+use Rattle.format.specs.Parse.{Parse, ok, fault}
 use Rattle.format.specs.declared.refusal.Refusal.{Refusal}
 use Rattle.spv.specs.declared.rejection.Rejection.{Rejection}
 
@@ -22,8 +22,8 @@ refusedReading f = carrying (f .number) (f .place)
 
 -- what was read, and what it comes to
 abbrev pub afterReading : {A B : Type 0} → Parse A → (A → Result B) → Result B
-afterReading (got a next) f = f a
-afterReading (bad number place) f = refused (carrying number place)
+afterReading (ok a next) f = f a
+afterReading (fault number place) f = refused (carrying number place)
 
 -- first one, then with its value another
 abbrev pub follow : {A B : Type 0} → Result A → (A → Result B) → Result B

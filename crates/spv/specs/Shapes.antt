@@ -5,7 +5,7 @@ use mathlib.Core.Bool.{Bool, true, false}
 use lib.ListN.{replicate}
 use Rattle.spv.specs.Result.{Result, accepted, refused}
 use Rattle.spv.specs.Climb.{Sibling, value, copied, absent, Step, joins, fails}
-use Rattle.spv.specs.Compare.{targetOf, Reading, unread, read, Proof, Met, at, never, proofOf, Strings}
+use Rattle.spv.specs.Compare.{Met, meets, never, Strings}
 use Rattle.spv.specs.Siblings.{pathSiblings}
 use Rattle.spv.specs.declared.rejection.Rejection.{Rejection}
 use Rattle.spv.specs.declared.prove.Status.{Status}
@@ -13,8 +13,8 @@ use Rattle.spv.specs.declared.prove.Status.the-variants.{Read, Unread}
 use Rattle.spv.specs.declared.prove.Claim.{Claim}
 use Rattle.spv.specs.declared.prove.Outcome.the-variants.{Accepted, Refused}
 use Rattle.spv.specs.declared.prove.Proved.{Proved}
-use Rattle.spv.specs.declared.comparing.Comparison.{Comparison}
-use Rattle.spv.specs.declared.comparing.Compared.{Compared}
+use Rattle.spv.specs.declared.compare.Comparison.{Comparison}
+use Rattle.spv.specs.declared.compare.Compared.{Compared}
 use Rattle.spv.specs.declared.node.NodeKind.{NodeKind}
 use Rattle.spv.specs.declared.node.NodeKind.the-variants.{Value, Copied, Absent}
 use Rattle.spv.specs.declared.node.Node.{Node}
@@ -23,7 +23,8 @@ use Rattle.spv.specs.declared.climb.StepKind.the-variants.{Joins, Fails}
 use Rattle.spv.specs.declared.climb.Joined.{Joined}
 use Rattle.spv.specs.declared.climb.End.the-variants.{Root, Stop}
 use Rattle.spv.specs.declared.climb.Climbed.{Climbed}
-use Rattle.spv.specs.declared.comparing.Meeting.{Meeting}
+use Rattle.spv.specs.declared.compare.Meeting.{Meeting}
+use Rattle.spv.specs.Prove.{targetOf, Reading, Proof, proofOf, unread, read}
 
 -- ---- the answers
 
@@ -71,7 +72,7 @@ climbedOf (accepted r) = record { end = Root; root = r }
 climbedOf (refused why) = record { end = Stop why; root = replicate 32 0 }
 
 unfoldable pub meetingOf : Met → Meeting
-meetingOf (at t u) = record { found = true; first = t; second = u }
+meetingOf (meets t u) = record { found = true; first = t; second = u }
 meetingOf never = record { found = false; first = replicate 64 0; second = replicate 64 0 }
 
 -- what a claim says if it was read

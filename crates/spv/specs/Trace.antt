@@ -3,11 +3,11 @@ use Prim.Native.Nat.{ℕ, min}
 use mathlib.Core.List.{List, map}
 use lib.ListN.{length, replicate}
 use Rattle.encoding.specs.Buffer.{filled}
-use Rattle.encoding.specs.Spells.{spells}
+use Rattle.encoding.specs.Encode.{encodeAll}
 use Rattle.encoding.specs.BumpBytes.{Carried, plain, copy, carriedBytes}
 use Rattle.spv.specs.Result.{Result, accepted, refused}
 use Rattle.spv.specs.Climb.{Sibling, value, copied, absent}
-use Rattle.spv.specs.Compare.{Proof}
+use Rattle.spv.specs.Prove.{Proof}
 use Rattle.spv.specs.Shapes.{provedOf}
 use Rattle.spv.specs.declared.trace.Traced.{Traced}
 
@@ -19,7 +19,7 @@ asCarried absent = copy
 
 -- a node is a type byte, 0 followed by 32 bytes or 1 for a copy
 unfoldable pub nodesText : List Sibling → List ℕ
-nodesText l = spells carriedBytes (map asCarried l)
+nodesText l = encodeAll carriedBytes (map asCarried l)
 
 -- the room for 64 nodes
 abbrev pub TRACE-ROOM : ℕ

@@ -12,7 +12,7 @@ ghost use mathlib.Core.Path.{_≡_};
 ghost use Prim.Native.Nat.{_<_};
 ghost use Rattle.spv.specs.Climb.{joined, step, odd, siblingPosition, ascend, endOf, fails};
 ghost use Rattle.spv.specs.Siblings.{pathSiblings};
-ghost use Rattle.spv.specs.Low.{Low};
+ghost use Rattle.spv.specs.PositionFits.{PositionFits};
 ghost use Rattle.spv.specs.Shapes.{siblingOf, joinedOf, climbedOf};
 
 // One layer: the two halves of what is hashed, zero where the layer fails by a refusal's number.
@@ -40,7 +40,7 @@ pub struct Climbed {
 
 // What a path has at a layer and position, or what can be worked out.
 pub(crate) fn sibling_at(s: &[u8], path: Path, layer: usize, position: u64) -> Node
-    requires { ⌜ (layer < 64 → Low layer position) ⌝ }
+    requires { ⌜ (layer < 64 → PositionFits layer position) ⌝ }
     ensures { λ r. ⌜ siblingOf r ≡ pathSiblings (now (s .entry)) path layer position ⌝ }
 {
     let found = path::find(s, path, layer, position);
@@ -102,7 +102,7 @@ pub fn sibling_position(j: u64) -> u64
 
 // One layer of a climb in a path, from c at position j.
 pub(crate) fn layer_of(s: &[u8], path: Path, layer: usize, j: u64, c: [u8; 32]) -> Joined
-    requires { ⌜ Low layer j ⌝ }
+    requires { ⌜ PositionFits layer j ⌝ }
     ensures { λ r. ⌜ r ≡ joinedOf (step (pathSiblings (now (s .entry)) path layer (siblingPosition j)) (odd j) c) ⌝ }
 {
     let q = sibling_position(j);

@@ -2,9 +2,9 @@
 use super::climb::End;
 use super::climb::climb_layers;
 use super::climb::layer_of;
-use super::comparing::joins;
-use super::comparing::meet;
-use super::comparing::pair_of;
+use super::compare::joins;
+use super::compare::meet;
+use super::compare::pair_of;
 use super::prove::Claim;
 use super::prove::Outcome;
 use super::prove::claim_of;
@@ -27,12 +27,13 @@ ghost use Rattle.format.specs.Refusals.{UNLIKE as unlike};
 ghost use Rattle.format.specs.Transaction.{txWhole};
 ghost use Rattle.spv.specs.Climb.{ascend, preimagesOf};
 ghost use Rattle.spv.specs.Result.{refused, carrying, afterReading};
-ghost use Rattle.spv.specs.Compare.{prove, meet};
+ghost use Rattle.spv.specs.Compare.{meet};
 ghost use Rattle.spv.specs.Siblings.{pathSiblings};
-ghost use Rattle.spv.specs.Low.{Low};
+ghost use Rattle.spv.specs.PositionFits.{PositionFits};
 ghost use Rattle.spv.specs.Readings.{reading};
 ghost use Rattle.spv.specs.Shapes.{claimed, claimProof};
 ghost use Rattle.spv.specs.Depth.{halved, pairOf, lowest, againstDeeper, uneven, depth, depthOf};
+ghost use Rattle.spv.specs.Prove.{prove};
 
 // Which two strings of one hash were found: the raw transaction itself and the second, or the first and the second.
 pub enum DepthComparison {
@@ -101,7 +102,7 @@ fn meet_above(
     a_id: [u8; 32],
     b_id: [u8; 32],
 ) -> DepthCompared
-    requires { ⌜ (x .layers + e ≤ y .layers) × (Low e i) ⌝ }
+    requires { ⌜ (x .layers + e ≤ y .layers) × (PositionFits e i) ⌝ }
     ensures { λ r. ⌜ r ≡ depthOf (pairOf (meet (preimagesOf (ascend (pathSiblings (now (a .entry)) x) 0 (x .layers) i «a_id»)) (preimagesOf (ascend (pathSiblings (now (b .entry)) y) e (x .layers) i «b_id»)))) ⌝ }
 {
     let m = meet(a, x, b, y, e, i, a_id, b_id);
@@ -129,7 +130,7 @@ fn meet_beside(
     c: [u8; 32],
     id: [u8; 32],
 ) -> DepthCompared
-    requires { ⌜ (x .layers + suc e ≡ y .layers) × (Low e i) ⌝ }
+    requires { ⌜ (x .layers + suc e ≡ y .layers) × (PositionFits e i) ⌝ }
     ensures { λ r. ⌜ r ≡ depthOf (lowest id (preimagesOf (ascend (pathSiblings (now (a .entry)) x) 0 (x .layers) (i / 2) «a_id»)) (preimagesOf (ascend (pathSiblings (now (b .entry)) y) e (suc (x .layers)) i c))) ⌝ }
 {
     let u = layer_of(b, y, e, i, c);

@@ -1,6 +1,6 @@
 // Merkle root computation over the published forms of Merkle proof: proving an id and comparing two proofs, of one number of layers or of two.
 mod climb;
-mod comparing;
+mod compare;
 mod depth;
 mod marks;
 mod node;
@@ -18,9 +18,9 @@ pub use climb::climb_from;
 pub use climb::failed;
 pub use climb::fold;
 pub use climb::sibling_position;
-pub use comparing::Compared;
-pub use comparing::Comparison;
-pub use comparing::compare;
+pub use compare::Compared;
+pub use compare::Comparison;
+pub use compare::compare_proofs;
 pub use depth::DepthCompared;
 pub use depth::DepthComparison;
 pub use depth::compare_depths;

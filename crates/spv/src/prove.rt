@@ -1,4 +1,4 @@
-// Proving an id by one proof (01, "The climb"; specs/Compare.antt).
+// Proving an id by one proof (01, "The climb"; specs/Prove.antt).
 use super::climb::End;
 use super::climb::climb_from;
 use super::rejection::Rejection;
@@ -15,7 +15,7 @@ use path::Path;
 use path::Start;
 ghost use mathlib.Core.Path.{_≡_};
 ghost use Rattle.spv.specs.Result.{refused};
-ghost use Rattle.spv.specs.Compare.{targetOf, prove, hits};
+ghost use Rattle.spv.specs.Prove.{targetOf, prove, hits};
 ghost use Rattle.spv.specs.Readings.{pathReading, bumpReading, cmpReading, tscReading, reading};
 ghost use Rattle.spv.specs.Shapes.{opened, claimed, acceptedOf, provedOf};
 

@@ -25,7 +25,7 @@ ghost use Rattle.encoding.specs.Buffer.{buffer, writeOn};
 ghost use Rattle.encoding.specs.BumpBytes.{carriedBytes};
 ghost use Rattle.spv.specs.Result.{refused};
 ghost use Rattle.spv.specs.Climb.{ascend, endOf, siblingsOf};
-ghost use Rattle.spv.specs.Compare.{prove};
+ghost use Rattle.spv.specs.Prove.{prove};
 ghost use Rattle.spv.specs.Siblings.{pathSiblings};
 ghost use Rattle.spv.specs.Readings.{bumpReading};
 ghost use Rattle.spv.specs.Shapes.{siblingOf, climbedOf, opened, claimed};

@@ -18,7 +18,7 @@ ghost use Rattle.spv.specs.Climb.{absent};
 ghost use Rattle.spv.specs.Values.{hasValue, valueBy, joinBoth, joinOf, valueOf};
 ghost use Rattle.spv.specs.Siblings.{written, writtenBy, findAt, pathJoin};
 ghost use Rattle.spv.specs.Marks.{Marked};
-ghost use Rattle.spv.specs.Low.{Low};
+ghost use Rattle.spv.specs.PositionFits.{PositionFits};
 ghost use Rattle.spv.specs.Shapes.{nodeOf, siblingOf};
 
 pub fn has_value(node: Node) -> bool
@@ -71,7 +71,7 @@ fn join_of(
     layer: usize,
     position: u64,
 ) -> Node
-    requires { ⌜ (Marked layout (now s) (now places) (now marks)) × (length (now places) ≡ 64) × (layer ≤ 64) × (Low layer position) ⌝ }
+    requires { ⌜ (Marked layout (now s) (now places) (now marks)) × (length (now places) ≡ 64) × (layer ≤ 64) × (PositionFits layer position) ⌝ }
     ensures { λ r. ⌜ siblingOf r ≡ joinOf (writtenBy (now (s .entry)) (findAt layout (now (s .entry)) (now (places .entry)))) layer position ⌝ }
 {
     if layer == 0 {
@@ -96,7 +96,7 @@ fn value_of(
     position: u64,
     copy: Node,
 ) -> Node
-    requires { ⌜ (Marked layout (now s) (now places) (now marks)) × (length (now places) ≡ 64) × (layer < 64) × (Low layer position) ⌝ }
+    requires { ⌜ (Marked layout (now s) (now places) (now marks)) × (length (now places) ≡ 64) × (layer < 64) × (PositionFits layer position) ⌝ }
     ensures { λ r. ⌜ siblingOf r ≡ valueOf (writtenBy (now (s .entry)) (findAt layout (now (s .entry)) (now (places .entry)))) (siblingOf copy) layer position ⌝ }
 {
     let found = find_marked(s, places, marks, layout, layer, position);
@@ -109,7 +109,7 @@ fn value_of(
 // The join of a node's children in levels at these places, by the marks of those below the layer. (The marks are made where they lie, so that they are
 // on the stack once.)
 fn join_at(s: &[u8], places: [usize; LAYERS], layout: Layout, layer: usize, position: u64) -> Node
-    requires { ⌜ (layer ≤ 64) × (Low layer position) ⌝ }
+    requires { ⌜ (layer ≤ 64) × (PositionFits layer position) ⌝ }
     ensures { λ r. ⌜ siblingOf r ≡ joinOf (writtenBy (now (s .entry)) (findAt layout (now (s .entry)) places)) layer position ⌝ }
 {
     let mut marks = [0u32; 1024];
@@ -126,7 +126,7 @@ fn join_at(s: &[u8], places: [usize; LAYERS], layout: Layout, layer: usize, posi
 
 // The join of a node's children in a path, below its layers; a TSC proof has none.
 pub(crate) fn join_in(s: &[u8], path: Path, layer: usize, position: u64) -> Node
-    requires { ⌜ (layer < 64 → Low layer position) ⌝ }
+    requires { ⌜ (layer < 64 → PositionFits layer position) ⌝ }
     ensures { λ r. ⌜ siblingOf r ≡ pathJoin (now (s .entry)) path layer position ⌝ }
 {
     if path.layers <= layer {

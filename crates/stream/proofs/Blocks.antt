@@ -9,7 +9,7 @@ use lib.ListN.{length, getD, set, take, drop, replicate, length-append, length-d
 use lib.Pow.{shr-shr}
 use lib.Seq.{getD-take, getD-drop, ext-getD, drop-append-le, take-at, drop-at, set-at, drop-drop, length-take-le, take-all, take-length, paste, sets-eq}
 use Rattle.hash.specs.declared.compress.State.{State}
-use Rattle.hash.specs.Sha256.{word4, word, words, compress, H, pad, padding, zeros, bytes, hashValue, digest, sha256, sha256d}
+use Rattle.hash.specs.Sha256.{word4, word, words, compress, H, pad, padding, zeros, bigEndian, hashValue, digest, sha256, sha256d}
 use Rattle.hash.specs.Parts.{blockOf}
 use Rattle.hash.proofs.Words.{word4-bytes, words-append, words-same}
 use Rattle.hash.proofs.Padding.{pad-front, block-within, H-done}
@@ -175,7 +175,7 @@ block-turn h s i k e er ew ex =
 
 -- as bytes
 abbrev lengthBytes : List ℕ → ℕ → List ℕ
-lengthBytes l n = take 56 l ++ bytes 8 (n % 4294967296 * 8)
+lengthBytes l n = take 56 l ++ bigEndian 8 (n % 4294967296 * 8)
 
 high-word : (x : ℕ) → x < 18446744073709551616 → word4 (x / 72057594037927936 % 256) (x / 281474976710656 % 256) (x / 1099511627776 % 256) (x / 4294967296 % 256) ≡ x / 4294967296
 high-word x h =
@@ -194,8 +194,8 @@ low-word x =
     let e = word4-bytes (x % 4294967296) (omega arith) in
     rw (a, b, c, d) at e
 
-two-words : (x : ℕ) → x < 18446744073709551616 → words (bytes 8 x) 0 2 ≡ x / 4294967296 ∷ x % 4294967296 ∷ []
-unfolding words word bytes
+two-words : (x : ℕ) → x < 18446744073709551616 → words (bigEndian 8 x) 0 2 ≡ x / 4294967296 ∷ x % 4294967296 ∷ []
+unfolding words word bigEndian
 two-words x h = rw div-one (ap₂ (λ (u v : ℕ). u ∷ v ∷ []) (high-word x h) (low-word x))
 
 pub two-set : (m : List ℕ) (a b : ℕ) → length m ≡ 16 → set (set m 14 a) 15 b ≡ take 14 m ++ a ∷ b ∷ []
@@ -211,11 +211,11 @@ length-words l n h =
     let x = n % 4294967296 * 8 in
     let f : take 14 (words l 0 16) ≡ words l 0 14 = ap (take 14) (sym (words-append l 0 14 2)) ∙ take-at (words l 0 14) (words l 56 2) 14 (fourteen l) in
     let t : length (take 56 l) ≡ 56 = length-take-le 56 l (omega arith) in
-    let g : words l 0 14 ≡ words (take 56 l ++ bytes 8 x) 0 14 =
-    words-same l (take 56 l ++ bytes 8 x) 0 0 14 (λ k i. rw zero-add (sym (List·getD-append (take 56 l) (bytes 8 x) 0 k (omega arith) ∙ getD-take 56 l k 0 (omega arith)))) in
-    let w : x / 4294967296 ∷ x % 4294967296 ∷ [] ≡ words (take 56 l ++ bytes 8 x) 56 2 =
-    sym (two-words x (omega arith)) ∙ ap (λ (u : List ℕ). words u 0 2) (sym (drop-at (take 56 l) (bytes 8 x) 56 t)) ∙ words-drop (take 56 l ++ bytes 8 x) 56 2 in
-    ap₂ (λ (u v : List ℕ). u ++ v) (f ∙ g) w ∙ words-append (take 56 l ++ bytes 8 x) 0 14 2
+    let g : words l 0 14 ≡ words (take 56 l ++ bigEndian 8 x) 0 14 =
+    words-same l (take 56 l ++ bigEndian 8 x) 0 0 14 (λ k i. rw zero-add (sym (List·getD-append (take 56 l) (bigEndian 8 x) 0 k (omega arith) ∙ getD-take 56 l k 0 (omega arith)))) in
+    let w : x / 4294967296 ∷ x % 4294967296 ∷ [] ≡ words (take 56 l ++ bigEndian 8 x) 56 2 =
+    sym (two-words x (omega arith)) ∙ ap (λ (u : List ℕ). words u 0 2) (sym (drop-at (take 56 l) (bigEndian 8 x) 56 t)) ∙ words-drop (take 56 l ++ bigEndian 8 x) 56 2 in
+    ap₂ (λ (u v : List ℕ). u ++ v) (f ∙ g) w ∙ words-append (take 56 l ++ bigEndian 8 x) 0 14 2
 
 no-words : words (replicate 64 0) 0 16 ≡ replicate 16 0
 unfolding words word word4
@@ -261,9 +261,9 @@ drop-all k l = let e = length-drop k l in take-all (length l - k) (drop k l) (om
 
 -- ---- the last blocks
 
-padded : (n k : ℕ) → (119 - n % 64) % 64 ≡ k → padding n ≡ 128 ∷ replicate k 0 ++ bytes 8 (n * 8)
+padded : (n k : ℕ) → (119 - n % 64) % 64 ≡ k → padding n ≡ 128 ∷ replicate k 0 ++ bigEndian 8 (n * 8)
 unfolding padding zeros
-padded n k e = ap (λ (j : ℕ). 128 ∷ replicate j 0 ++ bytes 8 (n * 8)) e
+padded n k e = ap (λ (j : ℕ). 128 ∷ replicate j 0 ++ bigEndian 8 (n * 8)) e
 
 module _ (b : List ℕ) where
   abbrev i : ℕ
@@ -316,8 +316,8 @@ module _ (b : List ℕ) where
       let l : length (over ++ 128 ∷ replicate (55 - length b % 64) 0) ≡ 56 = length-append over (128 ∷ replicate (55 - length b % 64) 0) ∙ (omega (arith, z, t)) in
       let f : take 56 (set (tailOf b) (length b % 64) 128) ≡ over ++ 128 ∷ replicate (55 - length b % 64) 0 =
       ap (take 56) (marked-is ∙ ap (λ (u : List ℕ). over ++ 128 ∷ u) c ∙ sym (append-assoc over (128 ∷ replicate (55 - length b % 64) 0) (replicate 8 0))) ∙ take-at (over ++ 128 ∷ replicate (55 - length b % 64) 0) (replicate 8 0) 56 l in
-      let x : take 56 (set (tailOf b) (length b % 64) 128) ++ bytes 8 (length b % 4294967296 * 8) ≡ drop (i * 64) (pad b) =
-      ap₂ (λ (u : List ℕ) (j : ℕ). u ++ bytes 8 (j * 8)) f m ∙ append-assoc over (128 ∷ replicate (55 - length b % 64) 0) (bytes 8 (length b * 8)) ∙ ap (λ (u : List ℕ). over ++ u) (sym (padded (length b) (55 - length b % 64) (omega arith))) ∙ sym pad-drop in
+      let x : take 56 (set (tailOf b) (length b % 64) 128) ++ bigEndian 8 (length b % 4294967296 * 8) ≡ drop (i * 64) (pad b) =
+      ap₂ (λ (u : List ℕ) (j : ℕ). u ++ bigEndian 8 (j * 8)) f m ∙ append-assoc over (128 ∷ replicate (55 - length b % 64) 0) (bigEndian 8 (length b * 8)) ∙ ap (λ (u : List ℕ). over ++ u) (sym (padded (length b) (55 - length b % 64) (omega arith))) ∙ sym pad-drop in
       H-done b _ (suc i) (omega arith) (one-block _ x)
 
   -- the length in a block of its own
@@ -326,11 +326,11 @@ module _ (b : List ℕ) where
   ends-long h few =
       let t = tail-length b in
       let m : length b % 4294967296 ≡ length b = omega arith in
-      let p : padding (length b) ≡ 128 ∷ replicate (63 - length b % 64 + 56) 0 ++ bytes 8 (length b * 8) = padded (length b) (63 - length b % 64 + 56) (omega arith) in
+      let p : padding (length b) ≡ 128 ∷ replicate (63 - length b % 64 + 56) 0 ++ bigEndian 8 (length b * 8) = padded (length b) (63 - length b % 64 + 56) (omega arith) in
       let c : replicate {A = ℕ} (63 - length b % 64 + 56) 0 ≡ replicate (63 - length b % 64) 0 ++ replicate 56 0 = sym (replicate-append-replicate (63 - length b % 64) 56 0) in
-      let x : set (tailOf b) (length b % 64) 128 ++ (take 56 (replicate 64 0) ++ bytes 8 (length b % 4294967296 * 8)) ≡ drop (i * 64) (pad b) =
-      ap₂ (λ (u : List ℕ) (j : ℕ). u ++ (replicate 56 0 ++ bytes 8 (j * 8))) marked-is m ∙ append-assoc over (128 ∷ replicate (63 - length b % 64) 0) (replicate 56 0 ++ bytes 8 (length b * 8))
-      ∙ ap (λ (u : List ℕ). over ++ u) (sym (append-assoc (128 ∷ replicate (63 - length b % 64) 0) (replicate 56 0) (bytes 8 (length b * 8))) ∙ ap (λ (u : List ℕ). 128 ∷ u ++ bytes 8 (length b * 8)) (sym c) ∙ sym p)
+      let x : set (tailOf b) (length b % 64) 128 ++ (take 56 (replicate 64 0) ++ bigEndian 8 (length b % 4294967296 * 8)) ≡ drop (i * 64) (pad b) =
+      ap₂ (λ (u : List ℕ) (j : ℕ). u ++ (replicate 56 0 ++ bigEndian 8 (j * 8))) marked-is m ∙ append-assoc over (128 ∷ replicate (63 - length b % 64) 0) (replicate 56 0 ++ bigEndian 8 (length b * 8))
+      ∙ ap (λ (u : List ℕ). over ++ u) (sym (append-assoc (128 ∷ replicate (63 - length b % 64) 0) (replicate 56 0) (bigEndian 8 (length b * 8))) ∙ ap (λ (u : List ℕ). 128 ∷ u ++ bigEndian 8 (length b * 8)) (sym c) ∙ sym p)
       ∙ sym pad-drop in
       H-done b _ (suc (suc i)) (omega arith) (two-blocks _ _ marked-length x)
 

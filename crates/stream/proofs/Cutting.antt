@@ -10,7 +10,7 @@ use lib.Seq.{length-take-le}
 use lib.Dec.{leb, eqb}
 use borrow.Author.Tests.{le-leb, lt-leb}
 use Rattle.hash.specs.Sha256.{sha256d}
-use Rattle.format.specs.Parse.{Parse, pick, each, ended, whole, got, bad}
+use Rattle.format.specs.Parse.{Parse, pick, each, ended, whole, ok, fault}
 use Rattle.format.specs.Refusals.{TOO-LONG, SHORT, EXTRA, MAX-INPUT}
 use Rattle.format.specs.Transaction.{Transaction, txField, txWhole}
 use Rattle.stream.specs.declared.progress.Progress.{Progress}
@@ -27,7 +27,7 @@ use Rattle.stream.proofs.LentLaws.{answer-in}
 
 -- "01's rules for a raw transaction .. with the size raised"
 unfoldable pub sized : ℕ → List ℕ → Parse Transaction
-sized size s = pick (leb (length s) size) (ended txField s 0) (bad TOO-LONG 0)
+sized size s = pick (leb (length s) size) (ended txField s 0) (fault TOO-LONG 0)
 
 -- with 01's own size this is 01's reading
 pub sized-01 : (s : List ℕ) → sized MAX-INPUT s ≡ txWhole s
@@ -75,7 +75,7 @@ pub every-cutting-past : (size : ℕ) (ps : List (List ℕ)) → size < length (
 every-cutting-past size ps h = ap (λ (c : Calls). says size (withEnd c)) (cutting ps) ∙ ap (endSays (joined ps)) (past-size size (joined ps) h)
 
 -- "length, counts and id": the length is that of all the bytes, and the id their hash
-pub received-is : (size : ℕ) (b : List ℕ) {t : Transaction} {q : ℕ} → reading size b ≡ got t q
+pub received-is : (size : ℕ) (b : List ℕ) {t : Transaction} {q : ℕ} → reading size b ≡ ok t q
     → says size (closed b) ≡ received (length b) (length (t .inputs)) (length (t .outputs)) (sha256d b)
 received-is size b {t} {q} e =
     let x = reading-told size b e in
@@ -136,18 +136,18 @@ one-comes size b p x l e =
     part-told size (b ++ x ∷ p) ∙ ap fedSays (run-append size b (x ∷ p) (Fed.On first) ∙ ap (λ (m : Fed). run size m (x ∷ p)) (g .1) ∙ over-refused size (g .0) x p (omega arith))
 
 -- "9 for a byte after the lock time"
-pub nine-comes : (size : ℕ) (b p : List ℕ) (x : ℕ) {t : Transaction} {q : ℕ} → reading size b ≡ got t q → length b < size → says size (withPart (x ∷ p) (came b)) ≡ refused EXTRA (length b)
+pub nine-comes : (size : ℕ) (b p : List ℕ) (x : ℕ) {t : Transaction} {q : ℕ} → reading size b ≡ ok t q → length b < size → says size (withPart (x ∷ p) (came b)) ≡ refused EXTRA (length b)
 unfolding each
 nine-comes size b p x {t} {q} r l =
     let g = going-told size b (run size (Fed.On first) b) refl (ap partSays r) in
     let a = g .2 in
-    let k : ending (Fed.On (g .0)) ≡ got (countsOf t) q = ap ending (sym (g .1)) ∙ sym (reading-run size b) ∙ ap (each countsOf) r in
+    let k : ending (Fed.On (g .0)) ≡ ok (countsOf t) q = ap ending (sym (g .1)) ∙ sym (reading-run size b) ∙ ap (each countsOf) r in
     part-told size (b ++ x ∷ p) ∙ ap fedSays (run-append size b (x ∷ p) (Fed.On first) ∙ ap (λ (m : Fed). run size m (x ∷ p)) (g .1)
     ∙ extra-refused size (g .0) x p (omega arith) (at-end (g .0) (isEnd (g .0 .stage)) refl k)) ∙ ap (refused EXTRA) a
   where
-    at-end : (f : Progress) (v : Bool) → isEnd (f .stage) ≡ v → _≡_ {A = Parse Counts} (pick (isEnd (f .stage)) (got (record { size = f .at; inputs = f .inputs; outputs = f .outputs }) (f .at)) (bad SHORT (f .start))) (got (countsOf t) q) → isEnd (f .stage) ≡ true
+    at-end : (f : Progress) (v : Bool) → isEnd (f .stage) ≡ v → _≡_ {A = Parse Counts} (pick (isEnd (f .stage)) (ok (record { size = f .at; inputs = f .inputs; outputs = f .outputs }) (f .at)) (fault SHORT (f .start))) (ok (countsOf t) q) → isEnd (f .stage) ≡ true
     at-end f true h k = h
-    at-end f false h k = absurd (let j : _≡_ {A = Parse Counts} (bad SHORT (f .start)) (got (countsOf t) q) = rw h at k in let z : _≡_ {A = ℕ} 0 1 = cc in omega arith)
+    at-end f false h k = absurd (let j : _≡_ {A = Parse Counts} (fault SHORT (f .start)) (ok (countsOf t) q) = rw h at k in let z : _≡_ {A = ℕ} 0 1 = cc in omega arith)
 
 -- ---- the code: calls that do to every state what `Keeps` says answer so, however the bytes were cut
 

@@ -7,8 +7,8 @@ use native.Mathlib.Omega.{arith}
 use native.Mathlib.Nat.{zero-add}
 use lib.ListN.{length}
 use Rattle.hash.specs.Sha256.{sha256d}
-use Rattle.format.specs.Parse.{Parse, got, bad}
-use Rattle.format.proofs.ParseLaws.{each-got}
+use Rattle.format.specs.Parse.{Parse, ok, fault}
+use Rattle.format.proofs.ParseLaws.{each-ok}
 use Rattle.format.specs.Refusals.{SHORT}
 use Rattle.format.specs.Transaction.{Transaction}
 use Rattle.stream.specs.declared.progress.Progress.{Progress}
@@ -29,8 +29,8 @@ fedBy b = run MAX-PARTS (Fed.On first) b
 
 answered-end : (b : List ℕ) (p : Parse Transaction) → answerOf (endSays b p) .answered ≡ 0 → ⊥
 unfolding answerOf
-answered-end b (got t q) e = let z : _≡_ {A = ℕ} 2 0 = e in omega arith
-answered-end b (bad n q) e = let z : _≡_ {A = ℕ} 1 0 = e in omega arith
+answered-end b (ok t q) e = let z : _≡_ {A = ℕ} 2 0 = e in omega arith
+answered-end b (fault n q) e = let z : _≡_ {A = ℕ} 1 0 = e in omega arith
 
 came-fed : (b : List ℕ) {m : Fed} → fedBy b ≡ m → stateOf (came b) ≡ fedState (hashingOf b) m
 unfolding stateOf
@@ -133,9 +133,9 @@ module _ (st : State) (zero : st .answer .answered ≡ 0) where
   few : (b : List ℕ) (f : Progress) → fedBy b ≡ Fed.On f → isEnd (f .stage) ≡ true → length b ≤ MAX-PARTS
   few b f e t =
       let c = reading-run MAX-PARTS b ∙ ap ending e ∙ ended t in
-      reading-told MAX-PARTS b (each-got countsOf (reading MAX-PARTS b) c .1) .0
+      reading-told MAX-PARTS b (each-ok countsOf (reading MAX-PARTS b) c .1) .0
     where
-      ended : isEnd (f .stage) ≡ true → ending (Fed.On f) ≡ got (record { size = f .at; inputs = f .inputs; outputs = f .outputs }) (f .at)
+      ended : isEnd (f .stage) ≡ true → ending (Fed.On f) ≡ ok (record { size = f .at; inputs = f .inputs; outputs = f .outputs }) (f .at)
       ended t = rw t
 
   fed-short : (id : List ℕ) (f : Progress) → isEnd (f .stage) ≡ false → fedEnds id (Fed.On f) ≡ refused SHORT (f .start)

@@ -8,12 +8,12 @@ use native.Mathlib.Nat.{add-zero, sub-zero}
 use lib.ListN.{length, getD}
 use lib.Dec.{leb, ltb, eqb}
 use borrow.Author.Tests.{lt-ltb, le-ltb, le-leb, lt-leb, leb-true, leb-false, ltb-true, ltb-false}
-use Rattle.format.specs.Parse.{Parse, Reader, pick, pure, onward, each, many, times, ended, at-start, _passing_else_, got, bad}
+use Rattle.format.specs.Parse.{Parse, Reader, pick, pure, onward, each, many, times, ended, at-start, _passing_else_, ok, fault}
 use Rattle.format.proofs.ParseLaws.{many-length}
 use Rattle.format.specs.Field.{bytes, number, varint, le2, le4, le8}
 use Rattle.format.proofs.FieldLaws.{varint-none, varint-announced, bytes-here}
 use Rattle.format.proofs.Span.{bytes-told}
-use Rattle.format.specs.declared.tx.Input.{Input}
+use Rattle.format.specs.declared.transaction.Input.{Input}
 use Rattle.format.specs.Transaction.{Listed, Transaction, scriptField, inputField, takes, outputField, outputsField, someField, listField, fieldsBy, txFieldBy, txField}
 use Rattle.format.specs.Refusals.{SHORT, LONG-VARINT, EXTRA, BAD-TX}
 use Rattle.stream.specs.declared.progress.Stage.{Stage}
@@ -25,21 +25,21 @@ use Rattle.stream.proofs.Rest.{Counts, countsOf, endRest, sizeRest, loc
 -- ---- parses one after the other
 
 pub onward-assoc : {A B C : Type 0} (p : Parse A) (f : A → ℕ → Parse B) (g : B → ℕ → Parse C) → onward (onward p f) g ≡ onward p (λ a at. onward (f a at) g)
-onward-assoc (got a at) f g = refl
-onward-assoc (bad n at) f g = refl
+onward-assoc (ok a at) f g = refl
+onward-assoc (fault n at) f g = refl
 
 pub onward-same : {A B : Type 0} (p : Parse A) (f g : A → ℕ → Parse B) → ((a : A) (at : ℕ) → f a at ≡ g a at) → onward p f ≡ onward p g
-onward-same (got a at) f g h = h a at
-onward-same (bad n at) f g h = refl
+onward-same (ok a at) f g h = h a at
+onward-same (fault n at) f g h = refl
 
-pub onward-told : {A B : Type 0} (p : Parse A) (f g : A → ℕ → Parse B) → ((a : A) (at : ℕ) → p ≡ got a at → f a at ≡ g a at) → onward p f ≡ onward p g
-onward-told (got a at) f g h = h a at refl
-onward-told (bad n at) f g h = refl
+pub onward-told : {A B : Type 0} (p : Parse A) (f g : A → ℕ → Parse B) → ((a : A) (at : ℕ) → p ≡ ok a at → f a at ≡ g a at) → onward p f ≡ onward p g
+onward-told (ok a at) f g h = h a at refl
+onward-told (fault n at) f g h = refl
 
 onward-each : {A B C : Type 0} (h : A → B) (p : Parse A) (f : B → ℕ → Parse C) → onward (each h p) f ≡ onward p (λ a at. f (h a) at)
 unfolding each
-onward-each h (got a at) f = refl
-onward-each h (bad n at) f = refl
+onward-each h (ok a at) f = refl
+onward-each h (fault n at) f = refl
 
 onward-pick : {A B : Type 0} (t : Bool) (p q : Parse A) (f : A → ℕ → Parse B) → onward (pick t p q) f ≡ pick t (onward p f) (onward q f)
 onward-pick true p q f = refl
@@ -47,10 +47,10 @@ onward-pick false p q f = refl
 
 -- ---- a count of one or more
 
-some-then : {B : Type 0} (s : List ℕ) (at : ℕ) (f : ℕ → ℕ → Parse B) → onward (someField s at) f ≡ onward (varint s at) (λ v q. pick (leb 1 v) (f v q) (bad BAD-TX at))
+some-then : {B : Type 0} (s : List ℕ) (at : ℕ) (f : ℕ → ℕ → Parse B) → onward (someField s at) f ≡ onward (varint s at) (λ v q. pick (leb 1 v) (f v q) (fault BAD-TX at))
 unfolding someField
 some-then s at f =
-    onward-assoc (varint s at) _ f ∙ onward-same (varint s at) _ _ (λ v q. onward-pick (leb 1 v) (got v q) (bad BAD-TX at) f)
+    onward-assoc (varint s at) _ f ∙ onward-same (varint s at) _ _ (λ v q. onward-pick (leb 1 v) (ok v q) (fault BAD-TX at) f)
 
 -- ---- items one after the other
 
@@ -75,7 +75,7 @@ output-then : {B : Type 0} (s : List ℕ) (at : ℕ) (f : ℕ → Parse B) → o
     ≡ onward (bytes 8 s at) (λ _ q. onward (varint s q) (λ k u. onward (bytes k s u) (λ _ w. f w)))
 unfolding outputField scriptField
 output-then s at f =
-    onward-assoc (onward (number le8 8 s at) (λ a q. got a q)) _ _ ∙ onward-assoc (number le8 8 s at) (λ a q. got a q) _ ∙ onward-assoc (bytes 8 s at) _ _ ∙ onward-same (bytes 8 s at) _ _ (λ a q.
+    onward-assoc (onward (number le8 8 s at) (λ a q. ok a q)) _ _ ∙ onward-assoc (number le8 8 s at) (λ a q. ok a q) _ ∙ onward-assoc (bytes 8 s at) _ _ ∙ onward-same (bytes 8 s at) _ _ (λ a q.
     onward-assoc (onward (varint s q) (λ k u. bytes k s u)) _ _ ∙ onward-assoc (varint s q) (λ k u. bytes k s u) _)
 
 -- of amounts that are not limited no running total is asked
@@ -109,8 +109,8 @@ list-then {A = A} list item s at f g same h =
 
 -- the test on the size, and nothing after it
 size-then : (s : List ℕ) (ins : Listed Input) (outs : Listed ℕ) (start at : ℕ) → start ≡ 0
-    → onward (pick (not (eqb (at - start) 64)) (got (record { start = start; end = at; inputsAt = ins .at; inputs = ins .items; outputsAt = outs .at; outputs = outs .items }) at) (bad BAD-TX 0))
-    (λ t next. onward (pick (ltb next (length s)) (bad EXTRA next) (got t next)) (λ t r. got (countsOf t) r))
+    → onward (pick (not (eqb (at - start) 64)) (ok (record { start = start; end = at; inputsAt = ins .at; inputs = ins .items; outputsAt = outs .at; outputs = outs .items }) at) (fault BAD-TX 0))
+    (λ t next. onward (pick (ltb next (length s)) (fault EXTRA next) (ok t next)) (λ t r. ok (countsOf t) r))
     ≡ sizeRest (length (ins .items)) (length (outs .items)) s at
 unfolding sizeRest endRest
 size-then s ins outs start at e = rw (e, sub-zero) (go (eqb at 64))
@@ -118,8 +118,8 @@ size-then s ins outs start at e = rw (e, sub-zero) (go (eqb at 64))
     t : Transaction
     t = record { start = 0; end = at; inputsAt = ins .at; inputs = ins .items; outputsAt = outs .at; outputs = outs .items }
 
-    go : (b : Bool) → onward (pick (not b) (got t at) (bad BAD-TX 0)) (λ t next. onward (pick (ltb next (length s)) (bad EXTRA next) (got t next)) (λ t r. got (countsOf t) r))
-        ≡ pick b (bad BAD-TX 0) (endRest (length (ins .items)) (length (outs .items)) s at)
+    go : (b : Bool) → onward (pick (not b) (ok t at) (fault BAD-TX 0)) (λ t next. onward (pick (ltb next (length s)) (fault EXTRA next) (ok t next)) (λ t r. ok (countsOf t) r))
+        ≡ pick b (fault BAD-TX 0) (endRest (length (ins .items)) (length (outs .items)) s at)
     go true = refl
     go false = onward-pick (ltb at (length s)) _ _ _
 
@@ -188,13 +188,13 @@ long-left : (value : List ℕ → ℕ → ℕ) (width low : ℕ) (s : List ℕ) 
 unfolding digitsLeft shortest bytes
 long-left value width low s start q e h = rw (e, h) (go (leb (q + width) (length s)))
   where
-    tested : (v next : ℕ) (t : Bool) → at-start start (pick t (got v next) (bad LONG-VARINT q)) ≡ pick t (got v next) (bad LONG-VARINT start)
+    tested : (v next : ℕ) (t : Bool) → at-start start (pick t (ok v next) (fault LONG-VARINT q)) ≡ pick t (ok v next) (fault LONG-VARINT start)
     tested v next true = refl
     tested v next false = refl
 
     go : (t : Bool)
-        → at-start start (onward (onward (pick t (got q (q + width)) (bad SHORT q)) (λ place next. got (value s place) next)) (λ v next. pick (leb low v) (got v next) (bad LONG-VARINT q)))
-        ≡ pick t (pick (leb low (value s q)) (got (value s q) (q + width)) (bad LONG-VARINT start)) (bad SHORT start)
+        → at-start start (onward (onward (pick t (ok q (q + width)) (fault SHORT q)) (λ place next. ok (value s place) next)) (λ v next. pick (leb low v) (ok v next) (fault LONG-VARINT q)))
+        ≡ pick t (pick (leb low (value s q)) (ok (value s q) (q + width)) (fault LONG-VARINT start)) (fault SHORT start)
     go true = tested (value s q) (q + width) (leb low (value s q))
     go false = refl
 
@@ -207,14 +207,14 @@ varint-left s at = go (ltb at (length s)) refl
         (pick two (number le2 2 passing (λ v. leb 253 v) else LONG-VARINT)
         (pick four (number le4 4 passing (λ v. leb 65536 v) else LONG-VARINT)
         (number le8 8 passing (λ v. leb 4294967296 v) else LONG-VARINT))) s (at + 1))
-        ≡ pick small (got x (at + 1)) (digitsLeft at (pick two 2 (pick four 4 8)) 0 (pick two 2 (pick four 4 8)) s (at + 1))
+        ≡ pick small (ok x (at + 1)) (digitsLeft at (pick two 2 (pick four 4 8)) 0 (pick two 2 (pick four 4 8)) s (at + 1))
     width x true two four = refl
     width x false true four = long-left le2 2 253 s at (at + 1) least-2 (shifting-2 s (at + 1))
     width x false false true = long-left le4 4 65536 s at (at + 1) least-4 (shifting-4 s (at + 1))
     width x false false false = long-left le8 8 4294967296 s at (at + 1) least-8 (shifting-8 s (at + 1))
 
     go : (t : Bool) → ltb at (length s) ≡ t
-        → varint s at ≡ pick t (pick (ltb (getD s at 0) 253) (got (getD s at 0) (at + 1)) (digitsLeft at (widthOf (getD s at 0)) 0 (widthOf (getD s at 0)) s (at + 1))) (bad SHORT at)
+        → varint s at ≡ pick t (pick (ltb (getD s at 0) 253) (ok (getD s at 0) (at + 1)) (digitsLeft at (widthOf (getD s at 0)) 0 (widthOf (getD s at 0)) s (at + 1))) (fault SHORT at)
     go true e = varint-announced s at (getD s at 0) (ltb-true _ _ e) refl ∙ width (getD s at 0) (ltb (getD s at 0) 253) (eqb (getD s at 0) 253) (eqb (getD s at 0) 254)
     go false e = varint-none s at (ltb-false _ _ e)
 
@@ -222,8 +222,8 @@ varint-left s at = go (ltb at (length s)) refl
 
 module _ (s : List ℕ) where
   -- a count, a script length, a run of bytes, where they start
-  count-rest : (f : ℕ → ℕ → Parse Counts) (at : ℕ) → onward (firstLeft at s at) (λ v q. pick (leb 1 v) (f v q) (bad BAD-TX at)) ≡ onward (someField s at) f
-  count-rest f at = ap (λ (p : Parse ℕ). onward p (λ v q. pick (leb 1 v) (f v q) (bad BAD-TX at))) (sym (varint-left s at)) ∙ sym (some-then s at f)
+  count-rest : (f : ℕ → ℕ → Parse Counts) (at : ℕ) → onward (firstLeft at s at) (λ v q. pick (leb 1 v) (f v q) (fault BAD-TX at)) ≡ onward (someField s at) f
+  count-rest f at = ap (λ (p : Parse ℕ). onward p (λ v q. pick (leb 1 v) (f v q) (fault BAD-TX at))) (sym (varint-left s at)) ∙ sym (some-then s at f)
 
   length-rest : (f : ℕ → ℕ → Parse Counts) (at : ℕ) → onward (firstLeft at s at) f ≡ onward (varint s at) f
   length-rest f at = ap (λ (p : Parse ℕ). onward p f) (sym (varint-left s at))
@@ -292,7 +292,7 @@ module _ (s : List ℕ) where
   unfolding afterLockTime sizeRest
   after-lock-time f = go (eqb (f .at) 64)
     where
-      go : (t : Bool) → restOf (pick t (Fed.Refused BAD-TX 0) (Fed.On (begin Stage.End 0 f))) s ≡ pick t (bad BAD-TX 0) (endRest (f .inputs) (f .outputs) s (f .at))
+      go : (t : Bool) → restOf (pick t (Fed.Refused BAD-TX 0) (Fed.On (begin Stage.End 0 f))) s ≡ pick t (fault BAD-TX 0) (endRest (f .inputs) (f .outputs) s (f .at))
       go true = refl
       go false = from-end f
 
@@ -326,7 +326,7 @@ module _ (s : List ℕ) where
   next-rest Stage.Version f v h = from-input-count f
   next-rest Stage.InputCount f v h = go (leb 1 v) refl
     where
-      go : (t : Bool) → leb 1 v ≡ t → restOf (pick t (Fed.On (begin Stage.Parent 32 (countInputs v f))) (Fed.Refused BAD-TX (f .start))) s ≡ pick t (inputsRest v v s (f .at)) (bad BAD-TX (f .start))
+      go : (t : Bool) → leb 1 v ≡ t → restOf (pick t (Fed.On (begin Stage.Parent 32 (countInputs v f))) (Fed.Refused BAD-TX (f .start))) s ≡ pick t (inputsRest v v s (f .at)) (fault BAD-TX (f .start))
       go true e = from-parent (countInputs v f) ∙ some-inputs v v (f .at) (leb-true 1 v e)
       go false e = refl
   next-rest Stage.Parent f v h = from-output-number f
@@ -340,7 +340,7 @@ module _ (s : List ℕ) where
   next-rest Stage.Sequence f v h = after-input f
   next-rest Stage.OutputCount f v h = go (leb 1 v) refl
     where
-      go : (t : Bool) → leb 1 v ≡ t → restOf (pick t (Fed.On (begin Stage.Amount 8 (countOutputs v f))) (Fed.Refused BAD-TX (f .start))) s ≡ pick t (outputsRest (f .inputs) v v s (f .at)) (bad BAD-TX (f .start))
+      go : (t : Bool) → leb 1 v ≡ t → restOf (pick t (Fed.On (begin Stage.Amount 8 (countOutputs v f))) (Fed.Refused BAD-TX (f .start))) s ≡ pick t (outputsRest (f .inputs) v v s (f .at)) (fault BAD-TX (f .start))
       go true e = from-amount (countOutputs v f) ∙ some-outputs (f .inputs) v v (f .at) (leb-true 1 v e)
       go false e = refl
   next-rest Stage.Amount f v h = from-output-length f
@@ -386,11 +386,11 @@ module _ (s : List ℕ) where
   unfolding runLeft
   run-step start need at h = let e : at + 1 + (need - 1) ≡ at + need = omega arith in rw e
 
-  run-none : (start k at : ℕ) → k ≡ 0 → at ≤ length s → runLeft start k s at ≡ got start at
+  run-none : (start k at : ℕ) → k ≡ 0 → at ≤ length s → runLeft start k s at ≡ ok start at
   unfolding runLeft
   run-none start k at e h = rw (e, add-zero, le-leb at (length s) h)
 
-  run-short : (start need at : ℕ) → 1 ≤ need → length s ≤ at → runLeft start need s at ≡ bad SHORT start
+  run-short : (start need at : ℕ) → 1 ≤ need → length s ≤ at → runLeft start need s at ≡ fault SHORT start
   unfolding runLeft
   run-short start need at n h = rw (lt-leb (at + need) (length s) (omega arith))
 
@@ -406,23 +406,23 @@ module _ (s : List ℕ) where
   unfolding digitsLeft shifting
   digits-none start width value k at e h = rw (e, add-zero, le-leb at (length s) h)
 
-  digits-short : (start width value need at : ℕ) → 1 ≤ need → length s ≤ at → digitsLeft start width value need s at ≡ bad SHORT start
+  digits-short : (start width value need at : ℕ) → 1 ≤ need → length s ≤ at → digitsLeft start width value need s at ≡ fault SHORT start
   unfolding digitsLeft
   digits-short start width value need at n h = rw (lt-leb (at + need) (length s) (omega arith))
 
-  number-short : (start width value need at : ℕ) → 1 ≤ need → length s ≤ at → numberLeft start width value need s at ≡ bad SHORT start
+  number-short : (start width value need at : ℕ) → 1 ≤ need → length s ≤ at → numberLeft start width value need s at ≡ fault SHORT start
   unfolding numberLeft firstLeft
   number-short start width value need at n h = rw (digits-short start width value need at n h, le-ltb at (length s) h) (go (eqb width 0))
     where
-      go : (t : Bool) → pick {A = Parse ℕ} t (bad SHORT start) (bad SHORT start) ≡ bad SHORT start
+      go : (t : Bool) → pick {A = Parse ℕ} t (fault SHORT start) (fault SHORT start) ≡ fault SHORT start
       go true = refl
       go false = refl
 
-  rest-extra : (f : Progress) → isEnd (f .stage) ≡ true → f .at < length s → rest f s ≡ bad EXTRA (f .at)
+  rest-extra : (f : Progress) → isEnd (f .stage) ≡ true → f .at < length s → rest f s ≡ fault EXTRA (f .at)
   unfolding rest endRest
   rest-extra f e h = rw (e, lt-ltb (f .at) (length s) h)
 
-  rest-ended : (f : Progress) → isEnd (f .stage) ≡ true → length s ≤ f .at → rest f s ≡ got (record { size = f .at; inputs = f .inputs; outputs = f .outputs }) (f .at)
+  rest-ended : (f : Progress) → isEnd (f .stage) ≡ true → length s ≤ f .at → rest f s ≡ ok (record { size = f .at; inputs = f .inputs; outputs = f .outputs }) (f .at)
   unfolding rest endRest
   rest-ended f e h = rw (e, le-ltb (f .at) (length s) h)
 
@@ -459,11 +459,11 @@ module _ (s : List ℕ) where
       follows : ℕ → ℕ → Parse Counts
       follows v at = thenAt (f .stage) (f .start) (f .inputs) (f .outputs) (f .left) v s at
 
-      small : (t : Bool) → onward (pick t (got x (f .at + 1)) (digitsLeft (f .start) (widthOf x) 0 (widthOf x) s (f .at + 1))) follows ≡ restOf (pick t (next (moved f 1) x) (Fed.On (announce f x))) s
+      small : (t : Bool) → onward (pick t (ok x (f .at + 1)) (digitsLeft (f .start) (widthOf x) 0 (widthOf x) s (f .at + 1))) follows ≡ restOf (pick t (next (moved f 1) x) (Fed.On (announce f x))) s
       small true = sym (next-rest (f .stage) (moved f 1) x (omega arith))
       small false = sym (rest-number (announce f x) e n ∙ rw (wide x))
 
-      whole : (v : ℕ) (t : Bool) → onward (pick t (got v (f .at + 1)) (bad LONG-VARINT (f .start))) follows ≡ restOf (pick t (next (shifted f x) v) (Fed.Refused LONG-VARINT (f .start))) s
+      whole : (v : ℕ) (t : Bool) → onward (pick t (ok v (f .at + 1)) (fault LONG-VARINT (f .start))) follows ≡ restOf (pick t (next (shifted f x) v) (Fed.Refused LONG-VARINT (f .start))) s
       whole v true = sym (next-rest (f .stage) (shifted f x) v (omega arith))
       whole v false = refl
 
@@ -502,7 +502,7 @@ module _ (s : List ℕ) where
       follows v at = thenAt (f .stage) (f .start) (f .inputs) (f .outputs) (f .left) v s at
 
       go : (e n : Bool) → isEnd (f .stage) ≡ e → isNumber (f .stage) ≡ n
-          → rest f s ≡ pick e (got (record { size = f .at; inputs = f .inputs; outputs = f .outputs }) (f .at)) (bad SHORT (f .start))
+          → rest f s ≡ pick e (ok (record { size = f .at; inputs = f .inputs; outputs = f .outputs }) (f .at)) (fault SHORT (f .start))
       go true n e m = rest-ended f e h
       go false true e m = rest-number f e m ∙ ap (λ (p : Parse ℕ). onward p follows) (number-short (f .start) (f .width) (f .value) (f .need) (f .at) (one e) h)
       go false false e m = rest-run f e m ∙ ap (λ (p : Parse ℕ). onward p follows) (run-short (f .start) (f .need) (f .at) (one e) h)

@@ -11,7 +11,7 @@ use lib.Seq.{drop-cons, length-take-le, take-length}
 use lib.Dec.{leb, ltb, eqb}
 use borrow.Author.Tests.{le-leb, leb-true, leb-false, ltb-false}
 use Rattle.hash.specs.Sha256.{sha256d}
-use Rattle.format.specs.Parse.{Parse, pick, each, ended, got, bad}
+use Rattle.format.specs.Parse.{Parse, pick, each, ended, ok, fault}
 use Rattle.format.specs.Transaction.{Transaction, txField}
 use Rattle.format.proofs.ParseLaws.{onward-told}
 use Rattle.format.proofs.TransactionLaws.{tx-told}
@@ -151,10 +151,10 @@ module _ (s : List ℕ) (size : ℕ) (fits : length s ≤ size) where
 
 each-late : (p : Parse Transaction) → each countsOf (tooLong p) ≡ tooLong (each countsOf p)
 unfolding each
-each-late (got t at) = refl
-each-late (bad n at) = go (eqb n SHORT)
+each-late (ok t at) = refl
+each-late (fault n at) = go (eqb n SHORT)
   where
-    go : (t : Bool) → each countsOf (pick t (bad TOO-LONG 0) (bad n at)) ≡ pick t (bad TOO-LONG 0) (bad n at)
+    go : (t : Bool) → each countsOf (pick t (fault TOO-LONG 0) (fault n at)) ≡ pick t (fault TOO-LONG 0) (fault n at)
     go true = refl
     go false = refl
 
@@ -163,7 +163,7 @@ unfolding run taken
 full size (Fed.On f) x l h =
     rw (le-leb size (f .at) (let e = h .0 in omega arith), run-refused size l TOO-LONG 0) (go (isEnd (f .stage)))
   where
-    go : (t : Bool) → tooLong {A = Counts} (pick t (got (record { size = f .at; inputs = f .inputs; outputs = f .outputs }) (f .at)) (bad SHORT (f .start))) ≡ bad TOO-LONG 0
+    go : (t : Bool) → tooLong {A = Counts} (pick t (ok (record { size = f .at; inputs = f .inputs; outputs = f .outputs }) (f .at)) (fault SHORT (f .start))) ≡ fault TOO-LONG 0
     go true = refl
     go false = refl
 full size (Fed.Refused n q) x l h = rw (run-refused size l n q, h)
@@ -197,28 +197,28 @@ abbrev pub fedEnds : List ℕ → Fed → Said
 fedEnds id (Fed.On f) = pick (isEnd (f .stage)) (received (f .at) (f .inputs) (f .outputs) id) (refused SHORT (f .start))
 fedEnds id (Fed.Refused n q) = refused n q
 
-got-bad : {A : Type 0} {a : A} {n p q : ℕ} → got a p ≡ bad n q → ⊥
-got-bad e = let z : _≡_ {A = ℕ} 0 1 = cc in omega arith
+ok-fault : {A : Type 0} {a : A} {n p q : ℕ} → ok a p ≡ fault n q → ⊥
+ok-fault e = let z : _≡_ {A = ℕ} 0 1 = cc in omega arith
 
 part-like : (p : Parse Transaction) (m : Fed) (at : ℕ) → Fair m at → each countsOf p ≡ ending m → partSays p ≡ fedSays m
 unfolding each
-part-like (got t q) (Fed.On f) at h e = refl
-part-like (got t q) (Fed.Refused n r) at h e = absurd (got-bad e)
-part-like (bad n q) (Fed.On f) at h e = go (isEnd (f .stage)) e
+part-like (ok t q) (Fed.On f) at h e = refl
+part-like (ok t q) (Fed.Refused n r) at h e = absurd (ok-fault e)
+part-like (fault n q) (Fed.On f) at h e = go (isEnd (f .stage)) e
   where
-    go : (t : Bool) → _≡_ {A = Parse Counts} (bad n q) (pick t (got (record { size = f .at; inputs = f .inputs; outputs = f .outputs }) (f .at)) (bad SHORT (f .start))) → pick (eqb n SHORT) more (refused n q) ≡ more
-    go true e = absurd (got-bad (sym e))
+    go : (t : Bool) → _≡_ {A = Parse Counts} (fault n q) (pick t (ok (record { size = f .at; inputs = f .inputs; outputs = f .outputs }) (f .at)) (fault SHORT (f .start))) → pick (eqb n SHORT) more (refused n q) ≡ more
+    go true e = absurd (ok-fault (sym e))
     go false e = let z : n ≡ SHORT = cc in rw z
-part-like (bad n q) (Fed.Refused k r) at h e =
+part-like (fault n q) (Fed.Refused k r) at h e =
     let z : n ≡ k = cc in
     let w : q ≡ r = cc in
     rw (z, w, h)
 
-end-like : (b : List ℕ) (p : Parse Transaction) (m : Fed) → ((t : Transaction) (q : ℕ) → p ≡ got t q → txid b t ≡ sha256d b) → each countsOf p ≡ ending m → endSays b p ≡ fedEnds (sha256d b) m
+end-like : (b : List ℕ) (p : Parse Transaction) (m : Fed) → ((t : Transaction) (q : ℕ) → p ≡ ok t q → txid b t ≡ sha256d b) → each countsOf p ≡ ending m → endSays b p ≡ fedEnds (sha256d b) m
 unfolding each
-end-like b (got t q) (Fed.On f) h e = go (isEnd (f .stage)) e
+end-like b (ok t q) (Fed.On f) h e = go (isEnd (f .stage)) e
   where
-    go : (u : Bool) → _≡_ {A = Parse Counts} (got (countsOf t) q) (pick u (got (record { size = f .at; inputs = f .inputs; outputs = f .outputs }) (f .at)) (bad SHORT (f .start)))
+    go : (u : Bool) → _≡_ {A = Parse Counts} (ok (countsOf t) q) (pick u (ok (record { size = f .at; inputs = f .inputs; outputs = f .outputs }) (f .at)) (fault SHORT (f .start)))
         → received (t .end) (length (t .inputs)) (length (t .outputs)) (txid b t) ≡ pick u (received (f .at) (f .inputs) (f .outputs) (sha256d b)) (refused SHORT (f .start))
     go true e =
         let c : countsOf t ≡ record { size = f .at; inputs = f .inputs; outputs = f .outputs } = cc in
@@ -226,37 +226,37 @@ end-like b (got t q) (Fed.On f) h e = go (isEnd (f .stage)) e
         let c2 = ap (λ (x : Counts). x .inputs) c in
         let c3 = ap (λ (x : Counts). x .outputs) c in
         rw (h t q refl, c1, c2, c3)
-    go false e = absurd (got-bad e)
-end-like b (got t q) (Fed.Refused n r) h e = absurd (got-bad e)
-end-like b (bad n q) (Fed.On f) h e = go (isEnd (f .stage)) e
+    go false e = absurd (ok-fault e)
+end-like b (ok t q) (Fed.Refused n r) h e = absurd (ok-fault e)
+end-like b (fault n q) (Fed.On f) h e = go (isEnd (f .stage)) e
   where
-    go : (u : Bool) → _≡_ {A = Parse Counts} (bad n q) (pick u (got (record { size = f .at; inputs = f .inputs; outputs = f .outputs }) (f .at)) (bad SHORT (f .start)))
+    go : (u : Bool) → _≡_ {A = Parse Counts} (fault n q) (pick u (ok (record { size = f .at; inputs = f .inputs; outputs = f .outputs }) (f .at)) (fault SHORT (f .start)))
         → refused n q ≡ pick u (received (f .at) (f .inputs) (f .outputs) (sha256d b)) (refused SHORT (f .start))
-    go true e = absurd (got-bad (sym e))
+    go true e = absurd (ok-fault (sym e))
     go false e =
         let z : n ≡ SHORT = cc in
         let w : q ≡ f .start = cc in
         rw (z, w)
-end-like b (bad n q) (Fed.Refused k r) h e =
+end-like b (fault n q) (Fed.Refused k r) h e =
     let z : n ≡ k = cc in
     let w : q ≡ r = cc in
     rw (z, w)
 
 -- what was read is all the bytes that came
-pub reading-told : (size : ℕ) (b : List ℕ) {t : Transaction} {q : ℕ} → reading size b ≡ got t q → (length b ≤ size) × (t .start ≡ 0) × (t .end ≡ length b)
+pub reading-told : (size : ℕ) (b : List ℕ) {t : Transaction} {q : ℕ} → reading size b ≡ ok t q → (length b ≤ size) × (t .start ≡ 0) × (t .end ≡ length b)
 unfolding reading
 reading-told size b {t} {q} e = go (leb (length b) size) refl e
   where
-    late : (p : Parse Transaction) → tooLong p ≡ got t q → ⊥
-    late (got u r) e = got-bad (sym e)
-    late (bad n r) e = pickLate (eqb n SHORT) e
+    late : (p : Parse Transaction) → tooLong p ≡ ok t q → ⊥
+    late (ok u r) e = ok-fault (sym e)
+    late (fault n r) e = pickLate (eqb n SHORT) e
       where
-        pickLate : (v : Bool) → _≡_ {A = Parse Transaction} (pick v (bad TOO-LONG 0) (bad n r)) (got t q) → ⊥
-        pickLate true e = got-bad (sym e)
-        pickLate false e = got-bad (sym e)
+        pickLate : (v : Bool) → _≡_ {A = Parse Transaction} (pick v (fault TOO-LONG 0) (fault n r)) (ok t q) → ⊥
+        pickLate true e = ok-fault (sym e)
+        pickLate false e = ok-fault (sym e)
 
-    last : (u : Transaction) (r : ℕ) → txField b 0 ≡ got u r → (v : Bool) → ltb r (length b) ≡ v → _≡_ {A = Parse Transaction} (pick v (bad EXTRA r) (got u r)) (got t q) → (t .start ≡ 0) × (t .end ≡ length b)
-    last u r h true w e = absurd (got-bad (sym e))
+    last : (u : Transaction) (r : ℕ) → txField b 0 ≡ ok u r → (v : Bool) → ltb r (length b) ≡ v → _≡_ {A = Parse Transaction} (pick v (fault EXTRA r) (ok u r)) (ok t q) → (t .start ≡ 0) × (t .end ≡ length b)
+    last u r h true w e = absurd (ok-fault (sym e))
     last u r h false w e =
         let x = tx-told b 0 h in
         let z : u ≡ t = cc in
@@ -265,14 +265,14 @@ reading-told size b {t} {q} e = go (leb (length b) size) refl e
         let j : u .end ≡ length b = omega (arith, x .end-is) in
         rw (← z) (x .start-is, j)
 
-    go : (v : Bool) → leb (length b) size ≡ v → pick v (ended txField b 0) (tooLong (ended txField (take size b) 0)) ≡ got t q → (length b ≤ size) × (t .start ≡ 0) × (t .end ≡ length b)
+    go : (v : Bool) → leb (length b) size ≡ v → pick v (ended txField b 0) (tooLong (ended txField (take size b) 0)) ≡ ok t q → (length b ≤ size) × (t .start ≡ 0) × (t .end ≡ length b)
     go true h e =
         let x = onward-told (txField b 0) _ e in
         let y = last (x .0) (x .1) (x .2) (ltb (x .1) (length b)) refl (x .3) in
         (leb-true _ _ h, y .0, y .1)
     go false h e = absurd (late (ended txField (take size b) 0) e)
 
-pub reading-id : (size : ℕ) (b : List ℕ) (t : Transaction) (q : ℕ) → reading size b ≡ got t q → txid b t ≡ sha256d b
+pub reading-id : (size : ℕ) (b : List ℕ) (t : Transaction) (q : ℕ) → reading size b ≡ ok t q → txid b t ≡ sha256d b
 unfolding txid
 reading-id size b t q e =
     let x = reading-told size b e in

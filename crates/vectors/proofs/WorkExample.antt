@@ -7,16 +7,16 @@ use mathlib.Core.List.{List, [], _∷_, _++_}
 use lib.Dec.{leb, eqb}
 use borrow.Author.Tests.{eq-eqb}
 use lib.ListN.{length, getD}
-use Rattle.hash.specs.Sha256.{_⊞_, _⊕_, not32, shl, shr, rotr, Ch, Maj, Σ0, Σ1, σ0, σ1, K, bytes, word4, zeros, padding, pad, word, words, H0, W, schedule, T1, T2, round, rounds, plus, compress, H, hashValue, digest, sha256, sha256d}
+use Rattle.hash.specs.Sha256.{_⊞_, _⊕_, not32, shl, shr, rotr, Ch, Maj, Σ0, Σ1, σ0, σ1, K, bigEndian, word4, zeros, padding, pad, word, words, H0, W, schedule, T1, T2, round, rounds, plus, compress, H, hashValue, digest, sha256, sha256d}
 use Rattle.format.specs.declared.beef.Anchor.the-variants.{Unanchored, Bump as InBump}
 use Rattle.path.specs.declared.path.Start.the-variants.{At}
-use Rattle.format.specs.Parse.{Parse, got, bad, pick, each, many, whole}
+use Rattle.format.specs.Parse.{Parse, ok, fault, pick, each, many, whole}
 use Rattle.format.specs.Bytes.{same, hashAt}
 use Rattle.format.specs.Field as F
 use Rattle.format.specs.Level as L
 use Rattle.format.specs.Bump.{Bump, blockField, heightUpTo, bumpUpTo}
 use Rattle.format.specs.Transaction.{scriptField, inputField, takes, outputField, outputsField, someField, listField, fieldsBy, txFieldBy}
-use Rattle.format.specs.Beef.{Entry, Beef, versionField, bumpCountField, bumpsUpTo, txCountField, bumpNumberField, anchorField, entryField, entriesField, beefUpTo, beefWhole}
+use Rattle.format.specs.Beef.{BeefEntry, Beef, versionField, bumpCountField, bumpsUpTo, txCountField, bumpNumberField, anchorField, entryField, entriesField, beefUpTo, beefWhole}
 use Rattle.path.specs.Search.{leastOffset, lookup, carries, lesser}
 use Rattle.format.specs.Id.{txid}
 use Rattle.spv.specs.Climb.{siblingPosition, Siblings, step, joined, joins}
@@ -24,43 +24,43 @@ use Rattle.spv.specs.Values.{valueBy, valueOf, workedOut}
 use Rattle.spv.specs.Joins.{joinsBy}
 use Rattle.spv.specs.Siblings.{written, sibling, writtenBy, findIn}
 use Rattle.spv.specs.Hashes.{among}
-use Rattle.bundle.specs.declared.judging.Standing.{Standing}
-use Rattle.bundle.specs.declared.judging.Standing.the-variants.{Refuses, Passes}
-use Rattle.bundle.specs.Bundle.{nthBump, entryId, standing}
+use Rattle.bundle.specs.declared.judge.Ruling.{Ruling}
+use Rattle.bundle.specs.declared.judge.Ruling.the-variants.{Refuses, Passes}
+use Rattle.bundle.specs.Bundle.{nthBump, entryId, ruling}
 use Rattle.bundle.proofs.BundleTheorems.{emptyEntry}
 use Rattle.climbs.specs.Count.{costOf, climbCost, startCost}
 use Rattle.bundle.specs.Amounts.{Payment, paymentOf, idsOf}
 use Rattle.climbs.proofs.CountLaws.{climb-joins}
-use Rattle.bundle.specs.Work.{idWork, sumOf, idsWork, bumpCost, anchorCost, standingCost, costFrom, entriesWork, readWork, judgeWork}
+use Rattle.bundle.specs.Work.{idWork, sumOf, idsWork, bumpCost, anchorCost, rulingCost, costFrom, entriesWork, readWork, judgeWork}
 
 -- ---- a bundle of an anchored transaction and one that is not
 
-module _ (s roots : List ℕ) (fee : ℕ) (bumps : List Bump) (x y : Entry) (n cost : ℕ) (ax : x .anchor ≡ InBump n) (ay : y .anchor ≡ Unanchored) (climb : bumpCost s (nthBump bumps n) (entryId s x) ≡ cost) where
-  first : standingCost s bumps [] x ≡ cost
-  unfolding standingCost among anchorCost
+module _ (s roots : List ℕ) (fee : ℕ) (bumps : List Bump) (x y : BeefEntry) (n cost : ℕ) (ax : x .anchor ≡ InBump n) (ay : y .anchor ≡ Unanchored) (climb : bumpCost s (nthBump bumps n) (entryId s x) ≡ cost) where
+  first : rulingCost s bumps [] x ≡ cost
+  unfolding rulingCost among anchorCost
   first = ap (anchorCost s bumps (entryId s x)) ax ∙ climb
 
-  second : (earlier : List Payment) → standingCost s bumps earlier y ≡ 0
-  unfolding standingCost anchorCost
+  second : (earlier : List Payment) → rulingCost s bumps earlier y ≡ 0
+  unfolding rulingCost anchorCost
   second earlier = go (among (entryId s y) (idsOf earlier))
     where
       go : (t : Bool) → pick t 0 (anchorCost s bumps (entryId s y) (y .anchor)) ≡ 0
       go true = refl
       go false = ap (anchorCost s bumps (entryId s y)) ay
 
-  rest : (earlier : List Payment) → costFrom (paymentOf s) (standing s roots fee bumps) (standingCost s bumps) earlier (y ∷ []) ≡ 0
+  rest : (earlier : List Payment) → costFrom (paymentOf s) (ruling s roots fee bumps) (rulingCost s bumps) earlier (y ∷ []) ≡ 0
   unfolding costFrom
-  rest earlier = go (standing s roots fee bumps earlier y)
+  rest earlier = go (ruling s roots fee bumps earlier y)
     where
-      go : (t : Standing) → standingCost s bumps earlier y + elim t [ Refuses why ↦ 0 | Passes a n i ↦ 0 ] ≡ 0
+      go : (t : Ruling) → rulingCost s bumps earlier y + elim t [ Refuses why ↦ 0 | Passes a n i ↦ 0 ] ≡ 0
       go (Refuses why) = omega (arith, second earlier)
       go (Passes a n i) = omega (arith, second earlier)
 
-  both : costFrom (paymentOf s) (standing s roots fee bumps) (standingCost s bumps) [] (x ∷ y ∷ []) ≡ cost
+  both : costFrom (paymentOf s) (ruling s roots fee bumps) (rulingCost s bumps) [] (x ∷ y ∷ []) ≡ cost
   unfolding costFrom
-  both = go (standing s roots fee bumps [] x)
+  both = go (ruling s roots fee bumps [] x)
     where
-      go : (t : Standing) → standingCost s bumps [] x + elim t [ Refuses why ↦ 0 | Passes a n i ↦ costFrom (paymentOf s) (standing s roots fee bumps) (standingCost s bumps) ([] ++ (paymentOf s x ∷ [])) (y ∷ []) ] ≡ cost
+      go : (t : Ruling) → rulingCost s bumps [] x + elim t [ Refuses why ↦ 0 | Passes a n i ↦ costFrom (paymentOf s) (ruling s roots fee bumps) (rulingCost s bumps) ([] ++ (paymentOf s x ∷ [])) (y ∷ []) ] ≡ cost
       go (Refuses why) = omega (arith, first)
       go (Passes a n i) = omega (arith, first, rest ([] ++ (paymentOf s x ∷ [])))
 
@@ -110,18 +110,18 @@ id =
     0x00 ∷ 0xe4 ∷ 0xaa ∷ 0xd1 ∷ 0x3a ∷ 0x01 ∷ 0x4d ∷ 0xa4 ∷ 0x27 ∷ 0xad ∷ 0xce ∷ 0x3e ∷ []
 
 unfoldable beefOf : Parse Beef → Beef
-beefOf (got b next) = b
-beefOf (bad number place) = record { bumps = []; entries = [] }
+beefOf (ok b next) = b
+beefOf (fault number place) = record { bumps = []; entries = [] }
 
 unfoldable read : Beef
 read = beefOf (beefWhole 2 bundle)
 
-is-read : beefWhole 2 bundle ≡ got read 677
+is-read : beefWhole 2 bundle ≡ ok read 677
 unfolding bundle beefOf read each many whole F.byte F.bytes F.varint L.holds L.offsetField L.flagField L.kindField L.carriedField L.leafField L.levelField L.levelOfTurn blockField heightUpTo bumpUpTo scriptField inputField takes outputField outputsField someField listField fieldsBy txFieldBy versionField bumpCountField bumpsUpTo txCountField bumpNumberField anchorField entryField entriesField beefUpTo
 is-read = refl
 
 first-id : entryId bundle (getD (read .entries) 0 emptyEntry) ≡ id
-unfolding bundle beefOf read id txid each many whole F.byte F.bytes F.varint L.holds L.offsetField L.flagField L.kindField L.carriedField L.leafField L.levelField L.levelOfTurn blockField heightUpTo bumpUpTo scriptField inputField takes outputField outputsField someField listField fieldsBy txFieldBy versionField bumpCountField bumpsUpTo txCountField bumpNumberField anchorField entryField entriesField beefUpTo _⊞_ _⊕_ not32 shl shr rotr Ch Maj Σ0 Σ1 σ0 σ1 K bytes word4 zeros padding pad word words H0 W schedule T1 T2 round rounds plus compress H hashValue digest sha256 sha256d
+unfolding bundle beefOf read id txid each many whole F.byte F.bytes F.varint L.holds L.offsetField L.flagField L.kindField L.carriedField L.leafField L.levelField L.levelOfTurn blockField heightUpTo bumpUpTo scriptField inputField takes outputField outputsField someField listField fieldsBy txFieldBy versionField bumpCountField bumpsUpTo txCountField bumpNumberField anchorField entryField entriesField beefUpTo _⊞_ _⊕_ not32 shl shr rotr Ch Maj Σ0 Σ1 σ0 σ1 K bigEndian word4 zeros padding pad word words H0 W schedule T1 T2 round rounds plus compress H hashValue digest sha256 sha256d
 first-id = refl
 
 starts : leastOffset bundle id (getD (nthBump (read .bumps) 0 .levels) 0 []) ≡ At 21
@@ -177,7 +177,7 @@ unfolding bundle beefOf read id c1 c2 c3 c4 c5 c6 c7 p0 step joined same workedO
 step-0 = refl
 
 hash-0 : sha256d (p0 ++ id) ≡ c1
-unfolding id c1 c2 c3 c4 c5 c6 c7 p0 _⊞_ _⊕_ not32 shl shr rotr Ch Maj Σ0 Σ1 σ0 σ1 K bytes word4 zeros padding pad word words H0 W schedule T1 T2 round rounds plus compress H hashValue digest sha256 sha256d
+unfolding id c1 c2 c3 c4 c5 c6 c7 p0 _⊞_ _⊕_ not32 shl shr rotr Ch Maj Σ0 Σ1 σ0 σ1 K bigEndian word4 zeros padding pad word words H0 W schedule T1 T2 round rounds plus compress H hashValue digest sha256 sha256d
 hash-0 = refl
 
 free-0 : costOf beside 0 (siblingPosition 21) ≡ 0
@@ -194,7 +194,7 @@ unfolding bundle beefOf read id c1 c2 c3 c4 c5 c6 c7 p1 step joined same workedO
 step-1 = refl
 
 hash-1 : sha256d (c1 ++ p1) ≡ c2
-unfolding id c1 c2 c3 c4 c5 c6 c7 p1 _⊞_ _⊕_ not32 shl shr rotr Ch Maj Σ0 Σ1 σ0 σ1 K bytes word4 zeros padding pad word words H0 W schedule T1 T2 round rounds plus compress H hashValue digest sha256 sha256d
+unfolding id c1 c2 c3 c4 c5 c6 c7 p1 _⊞_ _⊕_ not32 shl shr rotr Ch Maj Σ0 Σ1 σ0 σ1 K bigEndian word4 zeros padding pad word words H0 W schedule T1 T2 round rounds plus compress H hashValue digest sha256 sha256d
 hash-1 = refl
 
 free-1 : costOf beside 1 (siblingPosition 10) ≡ 0
@@ -211,7 +211,7 @@ unfolding bundle beefOf read id c1 c2 c3 c4 c5 c6 c7 p2 step joined same workedO
 step-2 = refl
 
 hash-2 : sha256d (p2 ++ c2) ≡ c3
-unfolding id c1 c2 c3 c4 c5 c6 c7 p2 _⊞_ _⊕_ not32 shl shr rotr Ch Maj Σ0 Σ1 σ0 σ1 K bytes word4 zeros padding pad word words H0 W schedule T1 T2 round rounds plus compress H hashValue digest sha256 sha256d
+unfolding id c1 c2 c3 c4 c5 c6 c7 p2 _⊞_ _⊕_ not32 shl shr rotr Ch Maj Σ0 Σ1 σ0 σ1 K bigEndian word4 zeros padding pad word words H0 W schedule T1 T2 round rounds plus compress H hashValue digest sha256 sha256d
 hash-2 = refl
 
 free-2 : costOf beside 2 (siblingPosition 5) ≡ 0
@@ -228,7 +228,7 @@ unfolding bundle beefOf read id c1 c2 c3 c4 c5 c6 c7 p3 step joined same workedO
 step-3 = refl
 
 hash-3 : sha256d (c3 ++ p3) ≡ c4
-unfolding id c1 c2 c3 c4 c5 c6 c7 p3 _⊞_ _⊕_ not32 shl shr rotr Ch Maj Σ0 Σ1 σ0 σ1 K bytes word4 zeros padding pad word words H0 W schedule T1 T2 round rounds plus compress H hashValue digest sha256 sha256d
+unfolding id c1 c2 c3 c4 c5 c6 c7 p3 _⊞_ _⊕_ not32 shl shr rotr Ch Maj Σ0 Σ1 σ0 σ1 K bigEndian word4 zeros padding pad word words H0 W schedule T1 T2 round rounds plus compress H hashValue digest sha256 sha256d
 hash-3 = refl
 
 free-3 : costOf beside 3 (siblingPosition 2) ≡ 0
@@ -245,7 +245,7 @@ unfolding bundle beefOf read id c1 c2 c3 c4 c5 c6 c7 p4 step joined same workedO
 step-4 = refl
 
 hash-4 : sha256d (p4 ++ c4) ≡ c5
-unfolding id c1 c2 c3 c4 c5 c6 c7 p4 _⊞_ _⊕_ not32 shl shr rotr Ch Maj Σ0 Σ1 σ0 σ1 K bytes word4 zeros padding pad word words H0 W schedule T1 T2 round rounds plus compress H hashValue digest sha256 sha256d
+unfolding id c1 c2 c3 c4 c5 c6 c7 p4 _⊞_ _⊕_ not32 shl shr rotr Ch Maj Σ0 Σ1 σ0 σ1 K bigEndian word4 zeros padding pad word words H0 W schedule T1 T2 round rounds plus compress H hashValue digest sha256 sha256d
 hash-4 = refl
 
 free-4 : costOf beside 4 (siblingPosition 1) ≡ 0
@@ -262,7 +262,7 @@ unfolding bundle beefOf read id c1 c2 c3 c4 c5 c6 c7 p5 step joined same workedO
 step-5 = refl
 
 hash-5 : sha256d (c5 ++ p5) ≡ c6
-unfolding id c1 c2 c3 c4 c5 c6 c7 p5 _⊞_ _⊕_ not32 shl shr rotr Ch Maj Σ0 Σ1 σ0 σ1 K bytes word4 zeros padding pad word words H0 W schedule T1 T2 round rounds plus compress H hashValue digest sha256 sha256d
+unfolding id c1 c2 c3 c4 c5 c6 c7 p5 _⊞_ _⊕_ not32 shl shr rotr Ch Maj Σ0 Σ1 σ0 σ1 K bigEndian word4 zeros padding pad word words H0 W schedule T1 T2 round rounds plus compress H hashValue digest sha256 sha256d
 hash-5 = refl
 
 free-5 : costOf beside 5 (siblingPosition 0) ≡ 0
@@ -279,7 +279,7 @@ unfolding bundle beefOf read id c1 c2 c3 c4 c5 c6 c7 p6 step joined same workedO
 step-6 = refl
 
 hash-6 : sha256d (c6 ++ p6) ≡ c7
-unfolding id c1 c2 c3 c4 c5 c6 c7 p6 _⊞_ _⊕_ not32 shl shr rotr Ch Maj Σ0 Σ1 σ0 σ1 K bytes word4 zeros padding pad word words H0 W schedule T1 T2 round rounds plus compress H hashValue digest sha256 sha256d
+unfolding id c1 c2 c3 c4 c5 c6 c7 p6 _⊞_ _⊕_ not32 shl shr rotr Ch Maj Σ0 Σ1 σ0 σ1 K bigEndian word4 zeros padding pad word words H0 W schedule T1 T2 round rounds plus compress H hashValue digest sha256 sha256d
 hash-6 = refl
 
 free-6 : costOf beside 6 (siblingPosition 0) ≡ 0
@@ -337,7 +337,7 @@ anchored = (refl, refl)
 counted : (roots : List ℕ) (fee : ℕ) → entriesWork bundle roots fee read ≡ 31
 unfolding entriesWork
 counted roots fee =
-    let c = ap (costFrom (paymentOf bundle) (standing bundle roots fee (read .bumps)) (standingCost bundle (read .bumps)) []) entries-are
+    let c = ap (costFrom (paymentOf bundle) (ruling bundle roots fee (read .bumps)) (rulingCost bundle (read .bumps)) []) entries-are
     ∙ both bundle roots fee (read .bumps) (getD (read .entries) 0 emptyEntry) (getD (read .entries) 1 emptyEntry) 0 7 (anchored .0) (anchored .1) climbed in
     omega (arith, ids)
 

@@ -1,6 +1,6 @@
 use native.Mathlib.Nat.{div-one}
 use borrow.Author.Needs.{needs}
-use Rattle.hash.specs.Sha256.{digest, bytes}
+use Rattle.hash.specs.Sha256.{digest, bigEndian}
 use Rattle.lanes.specs.Lanes.{value}
 use Rattle.lanes.proofs.digest_bytes.Statement.{statement}
 use Rattle.lanes.proofs.digest_bytes.Tie as tie
@@ -102,7 +102,7 @@ cast-t96 : tie.Need-cast-t96
 cast-t96 c = search needs
 
 returns : tie.Need-returns
-unfolding digest bytes value
+unfolding digest bigEndian value
 returns c = simp div-one
 
 pub digest-bytes-spec : {M : Type 1} → statement M

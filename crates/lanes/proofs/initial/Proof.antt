@@ -1,6 +1,6 @@
 use Rattle.lanes.specs.Lanes.{lane, value}
 use Rattle.hash.specs.Sha256.{H0}
-use Rattle.lanes.proofs.SideBySide.{at-all}
+use Rattle.lanes.proofs.SideBySide.{wordIn-all}
 use borrow.Author.Needs.{needs}
 use Rattle.lanes.proofs.initial.Statement.{statement}
 use Rattle.lanes.proofs.initial.Tie as tie
@@ -31,7 +31,7 @@ all-requires-8 c κs = search needs
 
 returns : tie.Need-returns
 unfolding lane value H0
-returns c i = simp (c .all8 .ensures, c .before .all7 .ensures, c .before .before .all6 .ensures, c .before .before .before .all5 .ensures, c .before .before .before .before .all4 .ensures, c .before .before .before .before .before .all3 .ensures, c .before .before .before .before .before .before .all2 .ensures, c .before .before .before .before .before .before .before .all .ensures, at-all)
+returns c i = simp (c .all8 .ensures, c .before .all7 .ensures, c .before .before .all6 .ensures, c .before .before .before .all5 .ensures, c .before .before .before .before .all4 .ensures, c .before .before .before .before .before .all3 .ensures, c .before .before .before .before .before .before .all2 .ensures, c .before .before .before .before .before .before .before .all .ensures, wordIn-all)
 
 pub initial-spec : {M : Type 1} → statement M
 initial-spec =

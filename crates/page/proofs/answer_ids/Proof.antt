@@ -10,7 +10,7 @@ use borrow.Author.Tests.{le-leb}
 use Rattle.format.specs.Bytes.{hashAt}
 use Rattle.path.specs.declared.path.Path.{Path}
 use Rattle.path.specs.Path.{LAYERS}
-use Rattle.spv.specs.Compare.{prove}
+use Rattle.spv.specs.Prove.{prove}
 use Rattle.spv.specs.Readings.{pathReading}
 use Rattle.spv.specs.Shapes.{provedOf}
 use Rattle.climbs.specs.Proofs.{hasRoom, fits, startsOf, statesOf, rootsOf, provedAt}

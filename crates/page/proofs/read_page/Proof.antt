@@ -1,6 +1,6 @@
 use mathlib.Core.Path.{sym, ap, _∙_}
 use Rattle.path.specs.declared.path.Path.{Path}
-use Rattle.format.proofs.ParseLaws.{answered, each-got, each-bad}
+use Rattle.format.proofs.ParseLaws.{answered, each-ok, each-fault}
 use Rattle.format.specs.Bump.{headOf, bumpWhole, bumpAnswer, refusalOfBump}
 use Rattle.path.specs.Path.{bumpPathOf}
 use Rattle.spv.specs.Result.{refusedReading}
@@ -34,7 +34,7 @@ unfolding openingOf
 returns c =
     let a = c .before .before .before .before .before .before .before .args in
     let told = c .before .before .before .enum-told .given .1 in
-    let e = each-bad headOf (bumpWhole (a .s .now)) (answered bumpAnswer (c .before .before .before .before .before .read-bump .ensures) told) in
+    let e = each-fault headOf (bumpWhole (a .s .now)) (answered bumpAnswer (c .before .before .before .before .before .read-bump .ensures) told) in
     c .refused-page .ensures ∙ ap unopened (c .before .reject-reading .ensures ∙ ap refusedReading (c .before .before .refusal .ensures ∙ ap refusalOfBump told)) ∙ ap (openingOf (a .s .now) (a .count)) (sym e)
 
 bump-path-requires : tie.Need-bump-path-requires
@@ -44,7 +44,7 @@ returns-2 : tie.Need-returns-2
 unfolding openingOf
 returns-2 c =
     let a = c .before .before .before .before .before .before .args in
-    let e = each-got headOf (bumpWhole (a .s .now)) (answered bumpAnswer (c .before .before .before .before .read-bump .ensures) (c .before .before .answer .given .1)) in
+    let e = each-ok headOf (bumpWhole (a .s .now)) (answered bumpAnswer (c .before .before .before .before .read-bump .ensures) (c .before .before .answer .given .1)) in
     ap {B = Opening} (λ (p : Path). record { paged = Paged.Answered (a .count); path = p }) (c .bump-path .ensures ∙ ap (bumpPathOf (a .s .now)) (sym (e .2)))
     ∙ ap (openingOf (a .s .now) (a .count)) (sym (e .1))
 

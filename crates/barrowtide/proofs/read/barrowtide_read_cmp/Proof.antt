@@ -1,7 +1,7 @@
 use borrow.Author.Needs.{needs}
-use Rattle.format.proofs.ParseLaws.{answered, each-got, each-bad}
+use Rattle.format.proofs.ParseLaws.{answered, each-ok, each-fault}
 use Rattle.format.specs.Cmp.{cmpAnswer, cmpHeadOf}
-use Rattle.barrowtide.proofs.InterfaceLaws.{refused-number, refused-blame, refused-taken, given-number, given-blame, given-view, reading-bad, reading-got}
+use Rattle.barrowtide.proofs.InterfaceLaws.{refused-number, refused-blame, refused-taken, given-number, given-blame, given-view, reading-fault, reading-ok}
 use Rattle.barrowtide.proofs.read.barrowtide_read_cmp.Statement.{statement}
 use Rattle.barrowtide.proofs.read.barrowtide_read_cmp.Tie as tie
 use Rattle.barrowtide.proofs.read.barrowtide_read_cmp.Reads as reads
@@ -26,14 +26,14 @@ cast-result c = search needs
 
 returns : tie.Need-returns
 returns c =
-    let e = reading-bad _ (each-bad cmpHeadOf _ (answered cmpAnswer (c .before .before .before .before .before .read-cmp .ensures) (c .before .before .before .enum-told .given .1))) in
+    let e = reading-fault _ (each-fault cmpHeadOf _ (answered cmpAnswer (c .before .before .before .before .before .read-cmp .ensures) (c .before .before .before .enum-told .given .1))) in
     rw (c .before .before .refusal .ensures, c .before .before .before .enum-told .given .1)
     (refused-number _ e, refused-blame _ _ e, refused-taken _ _ _ e, refused-taken _ _ _ e)
 
 returns-2 : tie.Need-returns-2
 returns-2 c =
     let e = answered cmpAnswer (c .before .before .before .read-cmp .ensures) (c .before .answer .given .1) in
-    let x = reading-got _ (each-got cmpHeadOf _ e .1) in
+    let x = reading-ok _ (each-ok cmpHeadOf _ e .1) in
     (given-number _ x, given-blame _ _ x, given-view cmpHeadOf (λ h. h .height) _ _ e, given-view cmpHeadOf (λ h. h .leaves) _ _ e)
 
 pub barrowtide-read-cmp-spec : {M : Type 1} → statement M

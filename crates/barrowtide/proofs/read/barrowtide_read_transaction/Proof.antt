@@ -1,17 +1,17 @@
 use borrow.Author.Needs.{needs}
-use Rattle.format.proofs.ParseLaws.{answered, each-got, each-bad}
+use Rattle.format.proofs.ParseLaws.{answered, each-ok, each-fault}
 use Rattle.format.specs.TransactionAnswer.{txAnswer}
 use Rattle.format.specs.Transaction.{txField, txHeadOf}
 use Rattle.format.proofs.Whole.{whole-size}
 use Rattle.hash.proofs.Sha256Laws.{hashed-accepted}
 use Rattle.hash.specs.declared.Hashed.{Hashed}
 use mathlib.Core.Path.{ap, _∙_}
-use Rattle.barrowtide.proofs.InterfaceLaws.{refused-number, refused-blame, refused-taken, given-number, given-blame, given-taken, given-view, reading-bad, reading-got}
+use Rattle.barrowtide.proofs.InterfaceLaws.{refused-number, refused-blame, refused-taken, given-number, given-blame, given-taken, given-view, reading-fault, reading-ok}
 use Rattle.barrowtide.proofs.read.barrowtide_read_transaction.Statement.{statement}
 use Rattle.barrowtide.proofs.read.barrowtide_read_transaction.Tie as tie
 use Rattle.barrowtide.proofs.read.barrowtide_read_transaction.Reads as reads
 use Rattle.barrowtide.proofs.read.barrowtide_read_transaction.Lts as lts
-use Rattle.format.proofs.tx.TxAnswer.refusal.Reads as refusal-reads
+use Rattle.format.proofs.transaction.TxAnswer.refusal.Reads as refusal-reads
 use Rattle.format.proofs.read_transaction.Reads as read-transaction-reads
 use Rattle.hash.proofs.sha256d.Reads as sha256d-reads
 
@@ -32,7 +32,7 @@ cast-result c = search needs
 
 returns : tie.Need-returns
 returns c =
-    let e = reading-bad _ (each-bad txHeadOf _ (answered txAnswer (c .before .before .before .before .before .read-transaction .ensures) (c .before .before .before .enum-told .given .1))) in
+    let e = reading-fault _ (each-fault txHeadOf _ (answered txAnswer (c .before .before .before .before .before .read-transaction .ensures) (c .before .before .before .enum-told .given .1))) in
     rw (c .before .before .refusal .ensures, c .before .before .before .enum-told .given .1)
     (refused-number _ e, refused-blame _ _ e, refused-taken _ _ _ e, refused-taken _ _ _ e, refused-taken _ _ _ e)
 
@@ -42,8 +42,8 @@ sha256d-requires c κs = search needs
 returns-2 : tie.Need-returns-2
 returns-2 c =
     let e = answered txAnswer (c .before .before .before .before .before .before .before .read-transaction .ensures) (c .before .before .before .before .before .answer .given .1) in
-    let whole = each-got txHeadOf _ e .1 in
-    let x = reading-got _ whole in
+    let whole = each-ok txHeadOf _ e .1 in
+    let x = reading-ok _ whole in
     let digest = c .before .before .before .sha256d .ensures ∙ hashed-accepted _ (whole-size txField _ whole) in
     (given-number _ x, given-blame _ _ x, given-view txHeadOf (λ h. h .inputs .count) _ _ e, given-view txHeadOf (λ h. h .outputs .count) _ _ e, ap (λ (h : Hashed). h .digest) digest ∙ given-taken _ _ _ x)
 

@@ -1,8 +1,8 @@
 use borrow.Author.Needs.{needs}
-use Rattle.format.proofs.ParseLaws.{answered, each-got, each-bad}
+use Rattle.format.proofs.ParseLaws.{answered, each-ok, each-fault}
 use Rattle.format.specs.TscAnswer.{tscAnswer}
 use Rattle.format.specs.Tsc.{tscHeadOf}
-use Rattle.barrowtide.proofs.InterfaceLaws.{refused-number, refused-blame, refused-taken, given-number, given-blame, given-view, reading-bad, reading-got}
+use Rattle.barrowtide.proofs.InterfaceLaws.{refused-number, refused-blame, refused-taken, given-number, given-blame, given-view, reading-fault, reading-ok}
 use Rattle.barrowtide.proofs.read.barrowtide_read_tsc.Statement.{statement}
 use Rattle.barrowtide.proofs.read.barrowtide_read_tsc.Tie as tie
 use Rattle.barrowtide.proofs.read.barrowtide_read_tsc.Reads as reads
@@ -27,14 +27,14 @@ cast-result c = search needs
 
 returns : tie.Need-returns
 returns c =
-    let e = reading-bad _ (each-bad tscHeadOf _ (answered tscAnswer (c .before .before .before .before .before .read-tsc .ensures) (c .before .before .before .enum-told .given .1))) in
+    let e = reading-fault _ (each-fault tscHeadOf _ (answered tscAnswer (c .before .before .before .before .before .read-tsc .ensures) (c .before .before .before .enum-told .given .1))) in
     rw (c .before .before .refusal .ensures, c .before .before .before .enum-told .given .1)
     (refused-number _ e, refused-blame _ _ e, refused-taken _ _ _ e, refused-taken _ _ _ e, refused-taken _ _ _ e)
 
 returns-2 : tie.Need-returns-2
 returns-2 c =
     let e = answered tscAnswer (c .before .before .before .read-tsc .ensures) (c .before .answer .given .1) in
-    let x = reading-got _ (each-got tscHeadOf _ e .1) in
+    let x = reading-ok _ (each-ok tscHeadOf _ e .1) in
     (given-number _ x, given-blame _ _ x, given-view tscHeadOf (λ h. h .flags) _ _ e, given-view tscHeadOf (λ h. h .index) _ _ e, given-view tscHeadOf (λ h. h .nodes) _ _ e)
 
 pub barrowtide-read-tsc-spec : {M : Type 1} → statement M

@@ -1,7 +1,7 @@
 use borrow.Author.Needs.{needs}
 use Rattle.format.specs.FieldAnswer.{numberOf}
 use Rattle.format.proofs.ParseLaws.{answered}
-use Rattle.barrowtide.proofs.InterfaceLaws.{first-got, first-bad, first-too-long, refused-number, refused-blame, refused-taken, given-number, given-blame, given-taken}
+use Rattle.barrowtide.proofs.InterfaceLaws.{first-ok, first-fault, first-too-long, refused-number, refused-blame, refused-taken, given-number, given-blame, given-taken}
 use Rattle.barrowtide.proofs.read.barrowtide_read_varint.Statement.{statement}
 use Rattle.barrowtide.proofs.read.barrowtide_read_varint.Tie as tie
 use Rattle.barrowtide.proofs.read.barrowtide_read_varint.Reads as reads
@@ -34,13 +34,13 @@ cast-result-2 c = search needs
 
 returns-2 : tie.Need-returns-2
 returns-2 c =
-    let e = first-bad _ (c .before .before .before .before .before .before .if1 .left) (answered numberOf (c .before .before .before .before .before .read-varint .ensures) (c .before .before .before .enum-told .given .1)) in
+    let e = first-fault _ (c .before .before .before .before .before .before .if1 .left) (answered numberOf (c .before .before .before .before .before .read-varint .ensures) (c .before .before .before .enum-told .given .1)) in
     rw (c .before .before .refusal .ensures, c .before .before .before .enum-told .given .1)
     (refused-number _ e, refused-blame _ _ e, refused-taken _ _ _ e, refused-taken _ _ _ e)
 
 returns-3 : tie.Need-returns-3
 returns-3 c =
-    let e = first-got _ (c .before .before .before .before .if1 .left) (answered numberOf (c .before .before .before .read-varint .ensures) (c .before .answer .given .1)) in
+    let e = first-ok _ (c .before .before .before .before .if1 .left) (answered numberOf (c .before .before .before .read-varint .ensures) (c .before .answer .given .1)) in
     (given-number _ e, given-blame _ _ e, given-taken _ _ _ e, given-taken _ _ _ e)
 
 pub barrowtide-read-varint-spec : {M : Type 1} → statement M

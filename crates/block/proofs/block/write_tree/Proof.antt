@@ -1,6 +1,6 @@
 use native.Mathlib.Omega.{arith}
 use mathlib.Core.Path.{refl, sym, _∙_}
-use Rattle.encoding.proofs.VarintSpelling.{varint-length}
+use Rattle.encoding.proofs.VarintEncoding.{varint-length}
 use Rattle.block.proofs.HeapLaws.{grown}
 use Rattle.block.proofs.ClimbsLaws.{told-free, told-twin}
 use Rattle.block.proofs.IdsLaws.{below-at}

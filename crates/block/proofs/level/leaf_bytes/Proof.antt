@@ -2,7 +2,7 @@ use mathlib.Core.Path.{ap}
 use Prim.Native.Nat.{ℕ, _+_}
 use native.Mathlib.Omega.{arith}
 use Rattle.block.specs.Leaves.{leafBytes}
-use Rattle.encoding.proofs.VarintSpelling.{varint-length}
+use Rattle.encoding.proofs.VarintEncoding.{varint-length}
 use borrow.Author.Needs.{needs}
 use Rattle.block.proofs.level.leaf_bytes.Statement.{statement}
 use Rattle.block.proofs.level.leaf_bytes.Tie as tie

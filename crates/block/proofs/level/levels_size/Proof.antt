@@ -6,7 +6,7 @@ use mathlib.Core.List.{List}
 use lib.ListN.{length}
 use Rattle.spv.specs.Hashes.{hashesOf}
 use Rattle.encoding.specs.Digits.{varintBytes}
-use Rattle.encoding.proofs.VarintSpelling.{varint-length}
+use Rattle.encoding.proofs.VarintEncoding.{varint-length}
 use Rattle.block.specs.Tree.{size as layerSize}
 use Rattle.block.specs.Heap.{Level}
 use Rattle.block.proofs.HeapLaws.{level-start, level-small, level-on}

@@ -4,8 +4,8 @@ use Rattle.bundle.proofs.AnchoredLaws.{put-refuses, put-passes}
 use Rattle.bundle.proofs.anchored.put_end.Statement.{statement}
 use Rattle.bundle.proofs.anchored.put_end.Tie as tie
 
-enum-known-standing : tie.Need-enum-known-standing
-enum-known-standing c = search needs
+enum-known-ruling : tie.Need-enum-known-ruling
+enum-known-ruling c = search needs
 
 cast-put-four : tie.Need-cast-put-four
 cast-put-four c = search needs
@@ -13,8 +13,8 @@ cast-put-four c = search needs
 put-four-requires : tie.Need-put-four-requires
 put-four-requires c κs = search needs
 
-enum-known-standing-2 : tie.Need-enum-known-standing-2
-enum-known-standing-2 c = search needs
+enum-known-ruling-2 : tie.Need-enum-known-ruling-2
+enum-known-ruling-2 c = search needs
 
 put-four-requires-2 : tie.Need-put-four-requires-2
 put-four-requires-2 c κs = search needs
@@ -23,22 +23,22 @@ same-length : tie.Need-same-length
 same-length c = search needs
 
 returns : tie.Need-returns
-returns c = c .before .before .put-four .ensures ∙ put-refuses _ _ _ (c .before .before .before .before .before .before .standing .given .1)
+returns c = c .before .before .put-four .ensures ∙ put-refuses _ _ _ (c .before .before .before .before .before .before .ruling .given .1)
 
 same-length-2 : tie.Need-same-length-2
 same-length-2 c = search needs
 
 returns-2 : tie.Need-returns-2
-returns-2 c = c .before .before .put-four2 .ensures ∙ put-passes _ _ _ (c .before .before .before .before .before .standing2 .given .1)
+returns-2 c = c .before .before .put-four2 .ensures ∙ put-passes _ _ _ (c .before .before .before .before .before .ruling2 .given .1)
 
 pub put-end-spec : {M : Type 1} → statement M
 put-end-spec =
     tie.close
     (tie.spec
-    enum-known-standing
+    enum-known-ruling
     cast-put-four
     put-four-requires
-    enum-known-standing-2
+    enum-known-ruling-2
     put-four-requires-2
     same-length
     returns

@@ -1,7 +1,7 @@
 use mathlib.Core.Path.{ap, sym, _∙_}
 use borrow.Author.Tests.{not-true, not-false}
 use Rattle.bundle.proofs.BundleHeadLaws.{trusted-refused, trusted-listed, trusted-not}
-use Rattle.bundle.specs.declared.judging.Standing.the-variants.{Refuses}
+use Rattle.bundle.specs.declared.judge.Ruling.the-variants.{Refuses}
 use borrow.Author.Needs.{needs}
 use Rattle.bundle.proofs.anchored.trust.Statement.{statement}
 use Rattle.bundle.proofs.anchored.trust.Tie as tie

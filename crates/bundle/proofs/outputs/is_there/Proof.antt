@@ -4,7 +4,7 @@ use native.Mathlib.Omega.{arith}
 use lib.ListN.{take}
 use lib.Seq.{length-take-le}
 use borrow.Author.Needs.{needs}
-use Rattle.format.specs.declared.tx.Items.{Items}
+use Rattle.format.specs.declared.transaction.Items.{Items}
 use Rattle.spv.specs.Hashes.{hashesOf}
 use Rattle.bundle.specs.FlatForm.{existFrom}
 use Rattle.bundle.proofs.outputs.is_there.Statement.{statement}

@@ -5,7 +5,7 @@ use lib.ListN.{length, getD}
 use mathlib.Core.Path.{_≡_, refl, sym, _∙_, subst}
 use Rattle.climbs.specs.LookUp.{lookedUp}
 use Rattle.spv.specs.Values.{workedOut}
-use Rattle.spv.specs.Low.{Low}
+use Rattle.spv.specs.PositionFits.{PositionFits}
 use Rattle.climbs.specs.Row.{Rows, Moved, Reached}
 use Rattle.climbs.specs.Spent.{Spent}
 use Rattle.climbs.proofs.RowLaws.{moved-none, moved-on}
@@ -59,7 +59,7 @@ split-requires c κs =
 
 visit-requires : tie.Need-visit-requires Inv-loop μ-loop
 visit-requires c κs =
-    let a = c .before .before .before .before .before .before .before .before .before .before .before .before .before .before .before .before .before .before .args in let p = c .before .before .before .before .before .before .before .before .before .before .before .before .before .before .before .before .before .before .pre in let v = c .before .before .before .before .before .before .before .before .loop .inv in let e = c .before .before .before .split .ensures in let x = getD (a .starts .now) (getD (a .order .now) (c .before .before .before .before .before .before .before .before .loop .lo) 0) 0 in let f : x < 2 ^ 64 = omega (arith, c .before .before .before .before .before .shared-slice-known8 .given (getD (a .order .now) (c .before .before .before .before .before .before .before .before .loop .lo) 0)) in (setting-on (a .places .now) (a .starts .now) (a .order .now) (a .states .now) (a .hashes .now) (c .before .before .before .before .before .before .before .before .loop .states) (c .before .before .before .before .before .before .before .before .loop .hashes) (v .0) (v .1) (p .1), spot-tree (a .starts .now) (a .order .now) (a .layers) _ (c .before .before .before .before .before .before .before .before .loop .lo) _ (p .0) (subst (Low (a .layers)) (sym (c .before .before .before .before .above .ensures)) (low-above x (a .layers) (p .0) f)) (e .0) (e .1) (e .2))
+    let a = c .before .before .before .before .before .before .before .before .before .before .before .before .before .before .before .before .before .before .args in let p = c .before .before .before .before .before .before .before .before .before .before .before .before .before .before .before .before .before .before .pre in let v = c .before .before .before .before .before .before .before .before .loop .inv in let e = c .before .before .before .split .ensures in let x = getD (a .starts .now) (getD (a .order .now) (c .before .before .before .before .before .before .before .before .loop .lo) 0) 0 in let f : x < 2 ^ 64 = omega (arith, c .before .before .before .before .before .shared-slice-known8 .given (getD (a .order .now) (c .before .before .before .before .before .before .before .before .loop .lo) 0)) in (setting-on (a .places .now) (a .starts .now) (a .order .now) (a .states .now) (a .hashes .now) (c .before .before .before .before .before .before .before .before .loop .states) (c .before .before .before .before .before .before .before .before .loop .hashes) (v .0) (v .1) (p .1), spot-tree (a .starts .now) (a .order .now) (a .layers) _ (c .before .before .before .before .before .before .before .before .loop .lo) _ (p .0) (subst (PositionFits (a .layers)) (sym (c .before .before .before .before .above .ensures)) (low-above x (a .layers) (p .0) f)) (e .0) (e .1) (e .2))
 
 loop-less : tie.Need-loop-less Inv-loop μ-loop
 loop-less c =

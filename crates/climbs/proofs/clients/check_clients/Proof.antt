@@ -3,7 +3,7 @@ use borrow.Author.Needs.{needs}
 use Rattle.climbs.proofs.WaitingLaws.{levels-bump}
 use Rattle.path.specs.declared.path.Path.{Path}
 use Rattle.format.specs.declared.bump.BumpHead.{BumpHead}
-use Rattle.format.proofs.ParseLaws.{answered, each-got, each-bad}
+use Rattle.format.proofs.ParseLaws.{answered, each-ok, each-fault}
 use Rattle.format.specs.Bump.{headOf, bumpWhole, bumpAnswer, refusalOfBump}
 use Rattle.path.specs.Path.{bumpPathOf}
 use Rattle.spv.specs.Result.{refusedReading}
@@ -35,7 +35,7 @@ returns : tie.Need-returns
 unfolding checkedOf
 returns c =
     let a = c .before .before .before .before .before .before .before .args in
-    let e = each-bad headOf (bumpWhole (a .s .now)) (answered bumpAnswer (c .before .before .before .before .before .read-bump .ensures) (c .before .before .before .enum-told .given .1)) in
+    let e = each-fault headOf (bumpWhole (a .s .now)) (answered bumpAnswer (c .before .before .before .before .before .read-bump .ensures) (c .before .before .before .enum-told .given .1)) in
     c .refused-check .ensures ∙ ap refusedCheck (c .before .reject-reading .ensures ∙ ap refusedReading (c .before .before .refusal .ensures ∙ ap refusalOfBump (c .before .before .before .enum-told .given .1))) ∙ sym (ap checkedOf (clients-refused (a .s .now) _ _ e))
 
 bump-path-requires : tie.Need-bump-path-requires
@@ -47,7 +47,7 @@ check-level-requires c κs = levels-bump _ _ _ (c .before .bump-path .ensures)
 returns-2 : tie.Need-returns-2
 returns-2 c =
     let s = c .before .before .before .before .before .before .before .before .args .s .now in
-    let e = each-got headOf (bumpWhole s) (answered bumpAnswer (c .before .before .before .before .before .before .read-bump .ensures) (c .before .before .before .before .answer .given .1)) in
+    let e = each-ok headOf (bumpWhole s) (answered bumpAnswer (c .before .before .before .before .before .before .read-bump .ensures) (c .before .before .before .before .answer .given .1)) in
     c .check-level .ensures
     ∙ ap (λ (p : Path). checkedOf (clientsOfLevel (pathSiblings s p) (p .layers) s (c .before .before .before .before .answer .given .0 .0 .levels .at))) (c .before .before .bump-path .ensures)
     ∙ ap (λ (h : BumpHead). checkedOf (clientsOfLevel (pathSiblings s (bumpPathOf s h)) (bumpPathOf s h .layers) s (h .levels .at))) (sym (e .2))

@@ -6,7 +6,7 @@ use Rattle.path.specs.LeafAnswer.{leafOf}
 use Rattle.spv.specs.Siblings.{pathSiblings}
 use Rattle.climbs.specs.ClientsShapes.{wantSays, checkedOf}
 use Rattle.spv.specs.Result.{accepted}
-use Rattle.spv.specs.Compare.{any}
+use Rattle.spv.specs.Prove.{any}
 use Rattle.climbs.proofs.WaitingLaws.{Checking, checking-start, checking-end, checking-short, checking-goes}
 use Rattle.climbs.proofs.clients.check_few.Statement.{statement}
 use Rattle.climbs.proofs.clients.check_few.Tie as tie

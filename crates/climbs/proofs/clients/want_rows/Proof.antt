@@ -3,7 +3,7 @@ use native.Mathlib.Omega.{arith}
 use Prim.Native.Nat.{_-_, _≤_}
 use mathlib.Core.Path.{_≡_, refl, _∙_, ap}
 use Rattle.spv.specs.Result.{Result}
-use Rattle.spv.specs.Compare.{Target}
+use Rattle.spv.specs.Prove.{Target}
 use Rattle.climbs.specs.ClientsShapes.{wantSays, endSays, pending}
 use Rattle.climbs.proofs.WaitingLaws.{pending-on, pending-none, pending-end, ends-said}
 use Rattle.climbs.specs.Row.{cameAt}

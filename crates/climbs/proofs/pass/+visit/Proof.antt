@@ -3,7 +3,7 @@ use native.Mathlib.Omega.{arith}
 use mathlib.Core.Path.{refl, _∙_}
 use Rattle.climbs.specs.LookUp.{lookedUp}
 use Rattle.spv.specs.Values.{workedOut}
-use Rattle.spv.proofs.LowLaws.{low-right, low-fits}
+use Rattle.spv.proofs.PositionFitsLaws.{low-right, low-fits}
 use Rattle.climbs.proofs.RowLaws.{moved-none}
 use Rattle.climbs.proofs.SpentLaws.{spent-none}
 use Rattle.climbs.proofs.Visits.{or-left, or-first, and-true, value-joined, setting-on, setting-rows, spot-left, spot-right, pass-moved, pass-spent, pass-reached, visited-bottom, visited-passed, visited-joined, cost-made, paid-bottom, paid-passed, paid-joined}

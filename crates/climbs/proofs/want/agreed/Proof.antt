@@ -2,7 +2,7 @@ use mathlib.Core.Path.{ap, sym, _∙_}
 use mathlib.Core.Bool.{Bool}
 use borrow.Author.Needs.{needs}
 use Rattle.spv.specs.Clients.{closing}
-use Rattle.spv.specs.Compare.{targetOf}
+use Rattle.spv.specs.Prove.{targetOf}
 use Rattle.climbs.specs.ClientsShapes.{checkedOf}
 use Rattle.climbs.proofs.want.agreed.Statement.{statement}
 use Rattle.climbs.proofs.want.agreed.Tie as tie

@@ -1,5 +1,5 @@
 use mathlib.Core.Path.{refl}
-use Rattle.spv.specs.Compare.{targetOf}
+use Rattle.spv.specs.Prove.{targetOf}
 use Rattle.climbs.specs.ClientsShapes.{wantSays, wantBy}
 use Rattle.climbs.proofs.want.bound_to.Statement.{statement}
 use Rattle.climbs.proofs.want.bound_to.Tie as tie

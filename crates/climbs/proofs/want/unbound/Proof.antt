@@ -1,5 +1,5 @@
 use mathlib.Core.Path.{refl}
-use Rattle.spv.specs.Compare.{targetOf}
+use Rattle.spv.specs.Prove.{targetOf}
 use Rattle.climbs.specs.ClientsShapes.{wantSays, wantBy}
 use Rattle.climbs.proofs.want.unbound.Statement.{statement}
 use Rattle.climbs.proofs.want.unbound.Tie as tie

@@ -1,7 +1,7 @@
 use mathlib.Core.Path.{ap, sym, _∙_}
 use borrow.Author.Needs.{needs}
 use Rattle.spv.specs.Result.{refused}
-use Rattle.spv.specs.Compare.{targetOf}
+use Rattle.spv.specs.Prove.{targetOf}
 use Rattle.climbs.specs.ClientsShapes.{wantSays, wantBy}
 use Rattle.climbs.proofs.WaitingLaws.{wanted-stop, wanted-hit, wanted-miss}
 use Rattle.climbs.proofs.want.want_by.Statement.{statement}

@@ -1,7 +1,7 @@
 use Rattle.format.specs.LevelAnswer.{kindOf}
 use Rattle.format.proofs.ParseLaws.{answered}
 use native.Mathlib.Omega.{arith}
-use Rattle.encoding.proofs.VarintSpelling.{varint-length}
+use Rattle.encoding.proofs.VarintEncoding.{varint-length}
 use Rattle.conversion.proofs.ConvertLaws.{client-short-counted, client-counted}
 use borrow.Author.Needs.{needs}
 use Rattle.conversion.proofs.from_tsc.client_levels_size.Statement.{statement}

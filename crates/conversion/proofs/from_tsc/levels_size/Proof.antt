@@ -1,6 +1,6 @@
 use Rattle.format.specs.LevelAnswer.{kindOf}
 use Rattle.format.proofs.ParseLaws.{answered}
-use Rattle.encoding.proofs.VarintSpelling.{varint-length}
+use Rattle.encoding.proofs.VarintEncoding.{varint-length}
 use borrow.Author.Needs.{needs}
 use Prim.Native.Nat.{_-_}
 use native.Mathlib.Omega.{arith}

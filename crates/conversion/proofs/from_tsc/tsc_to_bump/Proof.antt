@@ -1,5 +1,5 @@
 use mathlib.Core.Path.{refl, ap, _∙_}
-use Rattle.format.proofs.ParseLaws.{answered, each-got, each-bad}
+use Rattle.format.proofs.ParseLaws.{answered, each-ok, each-fault}
 use Rattle.format.specs.Tsc.{tscHeadOf, tscWhole}
 use Rattle.format.specs.TscAnswer.{tscAnswer, refusalOfTsc}
 use Rattle.spv.specs.Result.{refusedReading}
@@ -31,7 +31,7 @@ refuse-requires c κs = search needs
 returns : tie.Need-returns
 returns c =
     let s = c .before .before .before .before .before .before .before .before .args .s .now in
-    let e = each-bad tscHeadOf (tscWhole s) (answered tscAnswer (c .before .before .before .before .before .read-tsc .ensures) (c .before .before .before .enum-told .given .1)) in
+    let e = each-fault tscHeadOf (tscWhole s) (answered tscAnswer (c .before .before .before .before .before .read-tsc .ensures) (c .before .before .before .enum-told .given .1)) in
     refused-so _ (from-unread s _ _ e) (c .before .reject-reading .ensures ∙ ap refusedReading (c .before .before .refusal .ensures ∙ ap refusalOfTsc (c .before .before .before .enum-told .given .1))) (c .refuse .ensures)
 
 prove-tsc-requires : tie.Need-prove-tsc-requires
@@ -49,14 +49,14 @@ enum-told-2 c = search needs
 write-proved-requires : tie.Need-write-proved-requires
 write-proved-requires c κs =
     let s = c .before .before .before .before .before .before .before .before .before .before .before .args .s .now in
-    let e = each-got tscHeadOf (tscWhole s) (answered tscAnswer (c .before .before .before .before .before .before .before .before .read-tsc .ensures) (c .before .before .before .before .before .before .answer .given .1)) in
+    let e = each-ok tscHeadOf (tscWhole s) (answered tscAnswer (c .before .before .before .before .before .before .before .before .read-tsc .ensures) (c .before .before .before .before .before .before .answer .given .1)) in
     let p = told-accepted (c .before .before .before .before .prove-tsc .result) _ _ _ (c .before .before .before .before .prove-tsc .ensures) (c .before .enum-told2 .given .1) in
     record { tsc = e .0; end = _; proof = p .0; is-read = e .1; is-head = e .2; is-proved = p .1; is-id = p .5 }
 
 returns-2 : tie.Need-returns-2
 returns-2 c =
     let s = c .before .before .before .before .before .before .before .before .before .before .before .before .args .s .now in
-    let e = each-got tscHeadOf (tscWhole s) (answered tscAnswer (c .before .before .before .before .before .before .before .before .before .read-tsc .ensures) (c .before .before .before .before .before .before .before .answer .given .1)) in
+    let e = each-ok tscHeadOf (tscWhole s) (answered tscAnswer (c .before .before .before .before .before .before .before .before .before .read-tsc .ensures) (c .before .before .before .before .before .before .before .answer .given .1)) in
     refused-so _ (from-refused s _ _ (e .0) _ (e .1) (told-unproved (c .before .before .before .before .before .prove-tsc .result) _ _ (c .before .before .before .before .before .prove-tsc .ensures) (c .before .before .outcome .given .1))) refl (c .refuse2 .ensures)
 
 same-length : tie.Need-same-length

@@ -1,6 +1,6 @@
 use mathlib.Core.Path.{refl}
 use native.Mathlib.Omega.{arith}
-use Rattle.encoding.proofs.VarintSpelling.{varint-length}
+use Rattle.encoding.proofs.VarintEncoding.{varint-length}
 use Rattle.block.proofs.LeavesLaws.{wrote-hashed}
 use Rattle.block.proofs.CallLaws.{fits-in}
 use Rattle.block.proofs.OutputLaws.{refused-so, written-whole}

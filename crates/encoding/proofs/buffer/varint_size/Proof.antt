@@ -2,7 +2,7 @@ use mathlib.Core.Path.{sym, ap}
 use native.Mathlib.Omega.{arith}
 use lib.ListN.{length}
 use Rattle.encoding.specs.Digits.{little}
-use Rattle.encoding.proofs.VarintSpelling.{varint-one, varint-two, varint-four, varint-eight}
+use Rattle.encoding.proofs.VarintEncoding.{varint-one, varint-two, varint-four, varint-eight}
 use Rattle.encoding.proofs.buffer.varint_size.Statement.{statement}
 use Rattle.encoding.proofs.buffer.varint_size.Tie as tie
 

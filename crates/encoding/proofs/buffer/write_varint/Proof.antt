@@ -1,6 +1,6 @@
 use native.Mathlib.Omega.{arith}
 use Rattle.encoding.proofs.BufferLaws.{wrote-byte, wrote-cons}
-use Rattle.encoding.proofs.VarintSpelling.{varint-one, varint-two, varint-four, varint-eight}
+use Rattle.encoding.proofs.VarintEncoding.{varint-one, varint-two, varint-four, varint-eight}
 use borrow.Author.Needs.{needs}
 use Rattle.encoding.proofs.buffer.write_varint.Statement.{statement}
 use Rattle.encoding.proofs.buffer.write_varint.Tie as tie

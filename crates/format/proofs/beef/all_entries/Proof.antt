@@ -1,7 +1,7 @@
 use borrow.Author.Needs.{needs}
 use native.Mathlib.Omega.{arith}
 use mathlib.Core.Path.{_≡_, sym, _∙_}
-use Rattle.format.proofs.ParseLaws.{answered, each-got, each-bad, count-start, count-step, count-refused, count-done}
+use Rattle.format.proofs.ParseLaws.{answered, each-ok, each-fault, count-start, count-step, count-refused, count-done}
 use Rattle.format.specs.Parse.{times, each}
 use Rattle.format.specs.Beef.{entryField}
 use Rattle.format.specs.BeefAnswer.{entryHeadOf, entryAnswer}
@@ -35,7 +35,7 @@ refusal-requires c κs = search needs
 returns : tie.Need-returns Inv-loop μ-loop
 returns c =
     rw (c .refusal .ensures, c .before .enum-told .given .1)
-    (sym (c .before .before .before .before .before .loop .inv .1 ∙ count-refused _ _ _ _ _ _ _ (c .before .before .before .before .loop-test .taken) (each-bad entryHeadOf _ (answered entryAnswer (c .before .before .before .read-entry .ensures) (c .before .enum-told .given .1)))))
+    (sym (c .before .before .before .before .before .loop .inv .1 ∙ count-refused _ _ _ _ _ _ _ (c .before .before .before .before .loop-test .taken) (each-fault entryHeadOf _ (answered entryAnswer (c .before .before .before .read-entry .ensures) (c .before .enum-told .given .1)))))
 
 add-i : tie.Need-add-i Inv-loop μ-loop
 add-i c = search needs
@@ -45,7 +45,7 @@ loop-less c = search needs
 
 loop-again : tie.Need-loop-again Inv-loop μ-loop
 loop-again c =
-    (omega arith, c .before .before .before .before .before .loop .inv .1 ∙ count-step _ _ _ _ _ _ _ (c .before .before .before .before .loop-test .taken) (each-got entryHeadOf _ (answered entryAnswer (c .before .before .before .read-entry .ensures) (c .before .field .given .1)) .1))
+    (omega arith, c .before .before .before .before .before .loop .inv .1 ∙ count-step _ _ _ _ _ _ _ (c .before .before .before .before .loop-test .taken) (each-ok entryHeadOf _ (answered entryAnswer (c .before .before .before .read-entry .ensures) (c .before .field .given .1)) .1))
 
 returns-2 : tie.Need-returns-2 Inv-loop μ-loop
 returns-2 c = sym (c .before .loop .inv .1 ∙ count-done _ _ _ _ _ _ _ (c .loop-test .left))

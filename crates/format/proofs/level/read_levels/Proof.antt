@@ -7,7 +7,7 @@ use Rattle.format.specs.FieldAnswer.{numberOf}
 use Rattle.format.specs.Level.{levelFields, total}
 use Rattle.format.proofs.LevelLaws.{level-few, summing, sum-start, sum-step, sum-refused, sum-done}
 use Rattle.format.specs.Parse.{each}
-use Rattle.format.proofs.ParseLaws.{answered, each-bad}
+use Rattle.format.proofs.ParseLaws.{answered, each-fault}
 use Rattle.format.specs.Refusals.{MAX-LEAVES}
 use Rattle.format.proofs.level.read_levels.Statement.{statement}
 use Rattle.format.proofs.level.read_levels.Tie as tie
@@ -34,7 +34,7 @@ enum-told c = search needs
 returns : tie.Need-returns Inv-loop μ-loop
 returns c =
     rw (c .enum-told .given .1)
-    (sym (c .before .before .before .before .loop .inv .2 ∙ sum-refused _ _ _ _ _ _ (c .before .before .before .loop-test .taken) (each-bad length _ (answered numberOf (c .before .before .read-in-turn .ensures) (c .enum-told .given .1)))))
+    (sym (c .before .before .before .before .loop .inv .2 ∙ sum-refused _ _ _ _ _ _ (c .before .before .before .loop-test .taken) (each-fault length _ (answered numberOf (c .before .before .read-in-turn .ensures) (c .enum-told .given .1)))))
 
 add-leaves : tie.Need-add-leaves Inv-loop μ-loop
 add-leaves c = let few = level-few _ _ _ _ _ (answered numberOf (c .before .before .before .read-in-turn .ensures) (c .before .field .given .1)) in omega arith

@@ -3,7 +3,7 @@ use mathlib.Core.Path.{sym, _∙_}
 use lib.ListN.{length}
 use borrow.Author.Tests.{not-true, not-false}
 use Rattle.format.specs.FieldAnswer.{numberOf}
-use Rattle.format.proofs.ParseLaws.{answered, each-got, each-bad}
+use Rattle.format.proofs.ParseLaws.{answered, each-ok, each-fault}
 use Rattle.format.proofs.TscLaws.{nodes-no-count, nodes-outside, nodes-refused, nodes-read}
 use Rattle.format.proofs.tsc.all_nodes.Statement.{statement}
 use Rattle.format.proofs.tsc.all_nodes.Tie as tie
@@ -50,11 +50,11 @@ returns-3 c =
     rw (c .refusal2 .ensures, c .before .enum-told2 .given .1)
     (sym (nodes-refused _ _ _ _ (answered numberOf (c .before .before .before .before .before .before .before .before .before .read-node-count .ensures) (c .before .before .before .before .before .before .before .first .given .1))
     (sym (c .before .before .before .before .before .index-fits .ensures) ∙ not-false _ (c .before .before .before .before .if1 .left))
-    (each-bad length _ (answered numberOf (c .before .before .before .read-nodes .ensures) (c .before .enum-told2 .given .1)))))
+    (each-fault length _ (answered numberOf (c .before .before .before .read-nodes .ensures) (c .before .enum-told2 .given .1)))))
 
 returns-4 : tie.Need-returns-4
 returns-4 c =
-    let l = each-got length _ (answered numberOf (c .before .before .before .read-nodes .ensures) (c .before .second .given .1)) in
+    let l = each-ok length _ (answered numberOf (c .before .before .before .read-nodes .ensures) (c .before .second .given .1)) in
     sym (nodes-read _ _ _ _ (answered numberOf (c .before .before .before .before .before .before .before .before .before .read-node-count .ensures) (c .before .before .before .before .before .before .before .first .given .1))
     (sym (c .before .before .before .before .before .index-fits .ensures) ∙ not-false _ (c .before .before .before .before .if1 .left)) (l .1) (l .2))
 

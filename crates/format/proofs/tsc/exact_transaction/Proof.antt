@@ -2,7 +2,7 @@ use borrow.Author.Needs.{needs}
 use mathlib.Core.Path.{sym}
 use Rattle.format.specs.FieldAnswer.{runOf}
 use Rattle.format.specs.TransactionAnswer.{txAnswer}
-use Rattle.format.proofs.ParseLaws.{answered, each-got, each-bad}
+use Rattle.format.proofs.ParseLaws.{answered, each-ok, each-fault}
 use Rattle.format.specs.Transaction.{txHeadOf}
 use Rattle.format.proofs.TscLaws.{exact-short, exact-fault, exact-other, exact-read}
 use Rattle.format.proofs.tsc.exact_transaction.Statement.{statement}
@@ -37,16 +37,16 @@ enum-told-2 c = search needs
 returns-2 : tie.Need-returns-2
 returns-2 c =
     sym (exact-fault _ _ _ (answered runOf (c .before .before .before .before .before .before .read-run .ensures) (c .before .before .before .before .run .given .1))
-    (each-bad txHeadOf _ (answered txAnswer (c .before .before .tx-at .ensures) (c .enum-told2 .given .1))))
+    (each-fault txHeadOf _ (answered txAnswer (c .before .before .tx-at .ensures) (c .enum-told2 .given .1))))
 
 returns-3 : tie.Need-returns-3
 returns-3 c =
     sym (exact-other _ _ _ (answered runOf (c .before .before .before .before .before .before .before .before .read-run .ensures) (c .before .before .before .before .before .before .run .given .1))
-    (each-got txHeadOf _ (answered txAnswer (c .before .before .before .before .tx-at .ensures) (c .before .before .field .given .1)) .1) (c .if1 .taken))
+    (each-ok txHeadOf _ (answered txAnswer (c .before .before .before .before .tx-at .ensures) (c .before .before .field .given .1)) .1) (c .if1 .taken))
 
 returns-4 : tie.Need-returns-4
 returns-4 c =
-    let t = each-got txHeadOf _ (answered txAnswer (c .before .before .before .before .tx-at .ensures) (c .before .before .field .given .1)) in
+    let t = each-ok txHeadOf _ (answered txAnswer (c .before .before .before .before .tx-at .ensures) (c .before .before .field .given .1)) in
     sym (exact-read _ _ _ (answered runOf (c .before .before .before .before .before .before .before .before .read-run .ensures) (c .before .before .before .before .before .before .run .given .1)) (t .1) (t .2) (c .if1 .left))
 
 pub exact-transaction-spec : {M : Type 1} → statement M

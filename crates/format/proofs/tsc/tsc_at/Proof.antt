@@ -3,7 +3,7 @@ use mathlib.Core.Path.{sym, _∙_}
 use Rattle.format.specs.FieldAnswer.{numberOf, runOf}
 use Rattle.format.specs.TransactionAnswer.{itemsAnswer}
 use Rattle.format.specs.TscAnswer.{subjectAnswer}
-use Rattle.format.proofs.ParseLaws.{go, stop, answered, each-got, each-bad}
+use Rattle.format.proofs.ParseLaws.{go, stop, answered, each-ok, each-fault}
 use Rattle.format.specs.Transaction.{itemsOf}
 use Rattle.format.specs.Tsc.{tscUpTo}
 use Rattle.format.proofs.TscLaws.{tsc-head}
@@ -108,7 +108,7 @@ returns-5 c =
     ∙ go _ _ (answered numberOf (c .before .before .before .before .before .before .before .before .before .before .before .before .before .before .before .read-varint .ensures) (c .before .before .before .before .before .before .before .before .before .before .before .before .before .second .given .1))
     ∙ go _ _ (answered subjectAnswer (c .before .before .before .before .before .before .before .before .before .before .before .read-subject .ensures) (c .before .before .before .before .before .before .before .before .before .third .given .1))
     ∙ go _ _ (answered runOf (c .before .before .before .before .before .before .before .read-target .ensures) (c .before .before .before .before .before .fourth .given .1))
-    ∙ stop _ _ (each-bad itemsOf _ (answered itemsAnswer (c .before .before .before .all-nodes .ensures) (c .before .enum-told5 .given .1)))))
+    ∙ stop _ _ (each-fault itemsOf _ (answered itemsAnswer (c .before .before .before .all-nodes .ensures) (c .before .enum-told5 .given .1)))))
 
 returns-6 : tie.Need-returns-6
 unfolding tscUpTo
@@ -117,8 +117,8 @@ returns-6 c =
     ∙ go _ _ (answered numberOf (c .before .before .before .before .before .before .before .before .before .before .before .before .before .before .before .before .read-varint .ensures) (c .before .before .before .before .before .before .before .before .before .before .before .before .before .before .second .given .1))
     ∙ go _ _ (answered subjectAnswer (c .before .before .before .before .before .before .before .before .before .before .before .before .read-subject .ensures) (c .before .before .before .before .before .before .before .before .before .before .third .given .1))
     ∙ go _ _ (answered runOf (c .before .before .before .before .before .before .before .before .read-target .ensures) (c .before .before .before .before .before .before .fourth .given .1))
-    ∙ go _ _ (each-got itemsOf _ (answered itemsAnswer (c .before .before .before .before .all-nodes .ensures) (c .before .before .fifth .given .1)) .1)
-    ∙ tsc-head _ _ _ _ _ _ (each-got itemsOf _ (answered itemsAnswer (c .before .before .before .before .all-nodes .ensures) (c .before .before .fifth .given .1)) .2))
+    ∙ go _ _ (each-ok itemsOf _ (answered itemsAnswer (c .before .before .before .before .all-nodes .ensures) (c .before .before .fifth .given .1)) .1)
+    ∙ tsc-head _ _ _ _ _ _ (each-ok itemsOf _ (answered itemsAnswer (c .before .before .before .before .all-nodes .ensures) (c .before .before .fifth .given .1)) .2))
 
 pub tsc-at-spec : {M : Type 1} → statement M
 tsc-at-spec =

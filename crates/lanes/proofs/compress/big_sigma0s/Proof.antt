@@ -1,4 +1,4 @@
-use Rattle.lanes.specs.Lanes.{each}
+use Rattle.lanes.specs.Lanes.{lanewise}
 use borrow.Author.Needs.{needs}
 use Rattle.lanes.proofs.compress.big_sigma0s.Statement.{statement}
 use Rattle.lanes.proofs.compress.big_sigma0s.Tie as tie
@@ -16,7 +16,7 @@ big-sigma0-requires-4 : tie.Need-big-sigma0-requires-4
 big-sigma0-requires-4 c κs = search needs
 
 returns : tie.Need-returns
-unfolding each
+unfolding lanewise
 returns c = cc
 
 pub big-sigma0s-spec : {M : Type 1} → statement M

@@ -1,4 +1,4 @@
-use Rattle.lanes.specs.Lanes.{each3}
+use Rattle.lanes.specs.Lanes.{lanewise3}
 use borrow.Author.Needs.{needs}
 use Rattle.lanes.proofs.compress.majs.Statement.{statement}
 use Rattle.lanes.proofs.compress.majs.Tie as tie
@@ -16,7 +16,7 @@ maj-requires-4 : tie.Need-maj-requires-4
 maj-requires-4 c κs = search needs
 
 returns : tie.Need-returns
-unfolding each3
+unfolding lanewise3
 returns c = cc
 
 pub majs-spec : {M : Type 1} → statement M

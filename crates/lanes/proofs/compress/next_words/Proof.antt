@@ -1,4 +1,4 @@
-use Rattle.lanes.proofs.SideBySide.{at-each, at-each2}
+use Rattle.lanes.proofs.SideBySide.{wordIn-lanewise, wordIn-lanewise2}
 use borrow.Author.Needs.{needs}
 use Rattle.lanes.proofs.compress.next_words.Statement.{statement}
 use Rattle.lanes.proofs.compress.next_words.Tie as tie
@@ -19,7 +19,7 @@ plus-requires-3 : tie.Need-plus-requires-3
 plus-requires-3 c κs = search needs
 
 returns : tie.Need-returns
-returns c i = simp (c .plus3 .ensures, c .before .plus2 .ensures, c .before .before .small-sigma0s .ensures, c .before .before .before .plus .ensures, c .before .before .before .before .small-sigma1s .ensures, at-each2, at-each)
+returns c i = simp (c .plus3 .ensures, c .before .plus2 .ensures, c .before .before .small-sigma0s .ensures, c .before .before .before .plus .ensures, c .before .before .before .before .small-sigma1s .ensures, wordIn-lanewise2, wordIn-lanewise)
 
 pub next-words-spec : {M : Type 1} → statement M
 next-words-spec =

@@ -1,5 +1,5 @@
 use Rattle.hash.specs.Sha256.{_⊞_}
-use Rattle.lanes.specs.Lanes.{each2}
+use Rattle.lanes.specs.Lanes.{lanewise2}
 use borrow.Author.Needs.{needs}
 use Rattle.lanes.proofs.compress.plus.Statement.{statement}
 use Rattle.lanes.proofs.compress.plus.Tie as tie
@@ -17,7 +17,7 @@ wrapping-add-u32-requires-4 : tie.Need-wrapping-add-u32-requires-4
 wrapping-add-u32-requires-4 c κs = search needs
 
 returns : tie.Need-returns
-unfolding each2 _⊞_
+unfolding lanewise2 _⊞_
 returns c = cc
 
 pub plus-spec : {M : Type 1} → statement M

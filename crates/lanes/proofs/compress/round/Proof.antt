@@ -1,6 +1,6 @@
 use Rattle.hash.specs.Sha256.{round, T1, T2}
 use Rattle.lanes.specs.Lanes.{lane, value}
-use Rattle.lanes.proofs.SideBySide.{at-each, at-each2, at-each3, plus-none}
+use Rattle.lanes.proofs.SideBySide.{wordIn-lanewise, wordIn-lanewise2, wordIn-lanewise3, plus-none}
 use borrow.Author.Needs.{needs}
 use Rattle.lanes.proofs.compress.round.Statement.{statement}
 use Rattle.lanes.proofs.compress.round.Tie as tie
@@ -39,7 +39,7 @@ returns : tie.Need-returns
 unfolding lane value round T1 T2
 returns c i =
     simp
-    (c .plus6 .ensures, c .before .plus5 .ensures, c .before .before .plus4 .ensures, c .before .before .before .majs .ensures, c .before .before .before .before .big-sigma0s .ensures, c .before .before .before .before .before .plus3 .ensures, c .before .before .before .before .before .before .plus2 .ensures, c .before .before .before .before .before .before .before .chs .ensures, c .before .before .before .before .before .before .before .before .plus .ensures, c .before .before .before .before .before .before .before .before .before .big-sigma1s .ensures, at-each, at-each2, at-each3, plus-none)
+    (c .plus6 .ensures, c .before .plus5 .ensures, c .before .before .plus4 .ensures, c .before .before .before .majs .ensures, c .before .before .before .before .big-sigma0s .ensures, c .before .before .before .before .before .plus3 .ensures, c .before .before .before .before .before .before .plus2 .ensures, c .before .before .before .before .before .before .before .chs .ensures, c .before .before .before .before .before .before .before .before .plus .ensures, c .before .before .before .before .before .before .before .before .before .big-sigma1s .ensures, wordIn-lanewise, wordIn-lanewise2, wordIn-lanewise3, plus-none)
 
 pub round-spec : {M : Type 1} → statement M
 round-spec =

@@ -5,8 +5,8 @@ use lib.ListN.{length}
 use native.Mathlib.Omega.{arith}
 use borrow.Author.Needs.{needs}
 use Rattle.hash.specs.Parts.{roundsBy, sums}
-use Rattle.lanes.specs.Lanes.{lane, lanes, all, at}
-use Rattle.lanes.proofs.SideBySide.{at-sum, round-on}
+use Rattle.lanes.specs.Lanes.{lane, lanes, all, wordIn}
+use Rattle.lanes.proofs.SideBySide.{wordIn-sum, round-on}
 use Rattle.lanes.proofs.compress.rounds.Statement.{statement}
 use Rattle.lanes.proofs.compress.rounds.Tie as tie
 
@@ -57,8 +57,8 @@ loop-again c =
     let lk : length (a .t2) ≡ 16 = search needs in
     let lw : length (a .t3) ≡ 16 = search needs in (
       omega arith,
-      λ i. round-on i (lane i (a .s)) (lane i (l .r)) (lane i (c .round .result)) (a .t2) (a .t3) (l .t) (at i (c .before .plus .result)) (omega arith) (omega arith) (l .inv .1 i)
-          (at-sum i _ _ (c .before .before .before .all .result) (c .before .plus .result) (c .before .before .before .all .ensures) (c .before .plus .ensures)) (c .round .ensures i),
+      λ i. round-on i (lane i (a .s)) (lane i (l .r)) (lane i (c .round .result)) (a .t2) (a .t3) (l .t) (wordIn i (c .before .plus .result)) (omega arith) (omega arith) (l .inv .1 i)
+          (wordIn-sum i _ _ (c .before .before .before .all .result) (c .before .plus .result) (c .before .before .before .all .ensures) (c .before .plus .ensures)) (c .round .ensures i),
     )
 
 returns : tie.Need-returns Inv-loop μ-loop

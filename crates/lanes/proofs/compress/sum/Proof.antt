@@ -1,6 +1,6 @@
 use Rattle.hash.specs.Sha256.{plus}
 use Rattle.lanes.specs.Lanes.{lane, value}
-use Rattle.lanes.proofs.SideBySide.{at-each2}
+use Rattle.lanes.proofs.SideBySide.{wordIn-lanewise2}
 use borrow.Author.Needs.{needs}
 use Rattle.lanes.proofs.compress.sum.Statement.{statement}
 use Rattle.lanes.proofs.compress.sum.Tie as tie
@@ -31,7 +31,7 @@ plus-requires-8 c κs = search needs
 
 returns : tie.Need-returns
 unfolding lane value plus
-returns c i = simp (c .plus8 .ensures, c .before .plus7 .ensures, c .before .before .plus6 .ensures, c .before .before .before .plus5 .ensures, c .before .before .before .before .plus4 .ensures, c .before .before .before .before .before .plus3 .ensures, c .before .before .before .before .before .before .plus2 .ensures, c .before .before .before .before .before .before .before .plus .ensures, at-each2)
+returns c i = simp (c .plus8 .ensures, c .before .plus7 .ensures, c .before .before .plus6 .ensures, c .before .before .before .plus5 .ensures, c .before .before .before .before .plus4 .ensures, c .before .before .before .before .before .plus3 .ensures, c .before .before .before .before .before .before .plus2 .ensures, c .before .before .before .before .before .before .before .plus .ensures, wordIn-lanewise2)
 
 pub sum-spec : {M : Type 1} → statement M
 sum-spec =

@@ -1,4 +1,4 @@
-use Rattle.lanes.proofs.Turns.{at-onward}
+use Rattle.lanes.proofs.Turns.{wordIn-before-end}
 use borrow.Author.Needs.{needs}
 use Rattle.lanes.proofs.messages.chosen4.Statement.{statement}
 use Rattle.lanes.proofs.messages.chosen4.Tie as tie
@@ -18,7 +18,7 @@ chosen-requires-4 c κs = search needs
 returns : tie.Need-returns
 returns c =
     let a = c .before .before .before .before .args in
-    λ l. at-onward l (a .i) (c .before .before .before .chosen .result) (c .before .before .chosen2 .result) (c .before .chosen3 .result) (c .chosen4 .result) (a .n) (a .new) (a .old)
+    λ l. wordIn-before-end l (a .i) (c .before .before .before .chosen .result) (c .before .before .chosen2 .result) (c .before .chosen3 .result) (c .chosen4 .result) (a .n) (a .new) (a .old)
     (c .before .before .before .chosen .ensures) (c .before .before .chosen2 .ensures) (c .before .chosen3 .ensures) (c .chosen4 .ensures)
 
 pub chosen4-spec : {M : Type 1} → statement M

@@ -1,7 +1,7 @@
 use mathlib.Core.List.{List}
 use Prim.Native.Nat.{ℕ}
 use Rattle.hash.specs.Sha256.{word}
-use Rattle.lanes.specs.Lanes.{at}
+use Rattle.lanes.specs.Lanes.{wordIn}
 use Rattle.lanes.proofs.SideBySide.{lane-map}
 use borrow.Author.Needs.{needs}
 use Rattle.lanes.proofs.messages.words_in.Statement.{statement}
@@ -20,7 +20,7 @@ word-in-requires-4 : tie.Need-word-in-requires-4
 word-in-requires-4 c κs = search needs
 
 returns : tie.Need-returns
-unfolding at
+unfolding wordIn
 returns c =
     let a = c .before .before .before .before .before .before .before .before .args in
     λ l. rw (c .before .before .before .word-in .ensures, c .before .before .word-in2 .ensures, c .before .word-in3 .ensures, c .word-in4 .ensures) (lane-map (λ (m : List ℕ). word m (a .at)) l (a .a .now) (a .b .now) (a .c .now) (a .d .now))

@@ -1,6 +1,6 @@
 use Prim.Native.Nat.{ℕ, _+_}
 use lib.ListN.{length}
-use Rattle.encoding.proofs.VarintSpelling.{varint-length}
+use Rattle.encoding.proofs.VarintEncoding.{varint-length}
 use Rattle.encoding.specs.Digits.{varintBytes}
 use mathlib.Core.Bool.{Bool, _||_}
 use Rattle.merging.proofs.LevelsLaws.{added-size, tally-counts, tally-sizes, tally-clashes, over-test}

@@ -4,7 +4,7 @@ use native.Mathlib.Nat.{sub-zero}
 use Prim.Native.Nat.{_-_, _≤_, min}
 use mathlib.Core.List.{List}
 use Rattle.encoding.specs.Buffer.{buffer, writeOn}
-use Rattle.encoding.specs.Spells.{spells}
+use Rattle.encoding.specs.Encode.{encodeAll}
 use Rattle.merging.specs.Merging.{Spot}
 use Rattle.merging.specs.Levels.{walkLevels, levelText}
 use Rattle.merging.proofs.LevelsLaws.{levels-end, levels-on, write-level, write-levels-end}
@@ -16,7 +16,7 @@ use Rattle.merging.proofs.joining.put_levels.Statement.{statement}
 use Rattle.merging.proofs.joining.put_levels.Tie as tie
 
 abbrev Inv-loop : tie.InvT-loop
-Inv-loop s t height x₀ y₀ room₀ out₀ at at₀ p₀ q₀ level₀ x y room out at' p q level = (writeOn (buffer out₀ at₀) (spells levelText (walkLevels s t height (p₀ .at) (q₀ .at))) ≡ writeOn (buffer out at') (spells levelText (walkLevels s t (height - level) (p .at) (q .at)))) × (level ≤ height) × (length out ≡ length out₀) × (length x ≡ 1024) × (length y ≡ 1024) × (length room ≡ 1024) × (length x₀ ≡ 1024) × (length y₀ ≡ 1024) × (length room₀ ≡ 1024) × (height ≤ 64)
+Inv-loop s t height x₀ y₀ room₀ out₀ at at₀ p₀ q₀ level₀ x y room out at' p q level = (writeOn (buffer out₀ at₀) (encodeAll levelText (walkLevels s t height (p₀ .at) (q₀ .at))) ≡ writeOn (buffer out at') (encodeAll levelText (walkLevels s t (height - level) (p .at) (q .at)))) × (level ≤ height) × (length out ≡ length out₀) × (length x ≡ 1024) × (length y ≡ 1024) × (length room ≡ 1024) × (length x₀ ≡ 1024) × (length y₀ ≡ 1024) × (length room₀ ≡ 1024) × (height ≤ 64)
 
 abbrev μ-loop : tie.MeasureT-loop
 μ-loop s t height x₀ y₀ room₀ out₀ at at₀ p₀ q₀ level₀ x y room out at' p q level = height - level
@@ -85,7 +85,7 @@ loop-again c =
     let y = level-told _ _ _ _ _ (k .ensures) (omega arith) in
     let w = c .before .before .before .before .put-level in
     let on = levels-on _ _ _ _ _ _ h (ap₂ min (i .3) (i .5)) (ap₂ min (i .4) (g .kept .1 .1 .1 .0 ∙ i .5)) (x .0) (x .1) (y .0) (y .1) in (
-      i .0 ∙ ap (λ (v : List (List Spot)). writeOn (buffer (ll .out) (ll .at)) (spells levelText v)) on ∙ write-level _ _ _ (w .ensures),
+      i .0 ∙ ap (λ (v : List (List Spot)). writeOn (buffer (ll .out) (ll .at)) (encodeAll levelText v)) on ∙ write-level _ _ _ (w .ensures),
       omega (arith, h),
       w .kept .1 .1 .1 .1 .0 ∙ i .2,
       g .kept .1 .1 .0 ∙ i .3,
@@ -112,7 +112,7 @@ same-length-4 c = c .before .loop .inv .2
 returns : tie.Need-returns Inv-loop μ-loop
 returns c =
     let ll = c .before .loop in
-    sym (ll .inv .0 ∙ ap (λ (v : List (List Spot)). writeOn (buffer (ll .out) (ll .at)) (spells levelText v)) (levels-end _ _ _ _ _ _ (c .loop-test .left)) ∙ write-levels-end _)
+    sym (ll .inv .0 ∙ ap (λ (v : List (List Spot)). writeOn (buffer (ll .out) (ll .at)) (encodeAll levelText v)) (levels-end _ _ _ _ _ _ (c .loop-test .left)) ∙ write-levels-end _)
 
 pub put-levels-spec : {M : Type 1} → statement M
 put-levels-spec =

@@ -1,5 +1,5 @@
 use Rattle.merging.proofs.MergeLaws.{agreed-low, unlike, too-many, two-hashes, other-root, bytes-over, list-over, both-fit, told-refused}
-use Rattle.encoding.proofs.VarintSpelling.{varint-length}
+use Rattle.encoding.proofs.VarintEncoding.{varint-length}
 use borrow.Author.Tests.{not-true, not-false}
 use native.Mathlib.Omega.{arith}
 use mathlib.Core.Path.{sym, _∙_}

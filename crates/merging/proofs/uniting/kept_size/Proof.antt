@@ -1,4 +1,4 @@
-use Rattle.encoding.proofs.VarintSpelling.{varint-length}
+use Rattle.encoding.proofs.VarintEncoding.{varint-length}
 use Rattle.merging.specs.Walk.{keptBy}
 use Rattle.merging.proofs.TallyLaws.{size-kept, size-clash, size-is}
 use mathlib.Core.Path.{ap}

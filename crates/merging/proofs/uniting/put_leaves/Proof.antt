@@ -9,7 +9,7 @@ use Rattle.levels.specs.Places.{entries}
 use Rattle.levels.specs.Standing.{Standing, nothing}
 use Rattle.encoding.specs.BumpBytes.{entryBytes}
 use Rattle.encoding.specs.Buffer.{buffer, writeOn}
-use Rattle.encoding.specs.Spells.{spells}
+use Rattle.encoding.specs.Encode.{encodeAll}
 use Rattle.merging.specs.Merging.{keptOf}
 use Rattle.merging.proofs.ChoiceLaws.{left-standing}
 use Rattle.merging.specs.Walk.{walkSpots, keptAt}
@@ -20,7 +20,7 @@ use Rattle.merging.proofs.uniting.put_leaves.Statement.{statement}
 use Rattle.merging.proofs.uniting.put_leaves.Tie as tie
 
 abbrev Inv-loop : tie.InvT-loop
-Inv-loop s x t y out₀ at at₀ last₀ first₀ second₀ i₀ j₀ turn₀ out at' last first second i j turn = (writeOn (buffer out₀ at₀) (spells entryBytes (keptOf (walkSpots 2048 0 nothing nothing (entries s x) (entries t y)))) ≡ writeOn (buffer out at') (spells entryBytes (keptOf (walkSpots (2048 - turn) last (standingOf s first) (standingOf t second) (entries s (drop i x)) (entries t (drop j y)))))) × (turn ≤ 2048) × (length out ≡ length out₀)
+Inv-loop s x t y out₀ at at₀ last₀ first₀ second₀ i₀ j₀ turn₀ out at' last first second i j turn = (writeOn (buffer out₀ at₀) (encodeAll entryBytes (keptOf (walkSpots 2048 0 nothing nothing (entries s x) (entries t y)))) ≡ writeOn (buffer out at') (encodeAll entryBytes (keptOf (walkSpots (2048 - turn) last (standingOf s first) (standingOf t second) (entries s (drop i x)) (entries t (drop j y)))))) × (turn ≤ 2048) × (length out ≡ length out₀)
 
 abbrev μ-loop : tie.MeasureT-loop
 μ-loop s x t y out₀ at at₀ last₀ first₀ second₀ i₀ j₀ turn₀ out at' last first second i j turn = 2048 - turn
@@ -51,7 +51,7 @@ returns : tie.Need-returns Inv-loop μ-loop
 returns c =
     let next = least _ _ (c .before .before .before .before .next-offset .ensures) (c .before .before .before .next-offset2 .ensures) (c .before .before .lesser .ensures) (c .enum-told .given .1) in
     let i = c .before .before .before .before .before .before .loop .inv in
-    sym (i .0 ∙ ap (λ (l : List M.Spot). writeOn (buffer (c .before .before .before .before .before .before .loop .out) (c .before .before .before .before .before .before .loop .at)) (spells entryBytes (keptOf l))) (spots-stop _ _ _ _ _ _ _ (c .before .before .before .before .before .loop-test .taken) next) ∙ write-last _)
+    sym (i .0 ∙ ap (λ (l : List M.Spot). writeOn (buffer (c .before .before .before .before .before .before .loop .out) (c .before .before .before .before .before .before .loop .at)) (encodeAll entryBytes (keptOf l))) (spots-stop _ _ _ _ _ _ _ (c .before .before .before .before .before .loop-test .taken) next) ∙ write-last _)
 
 front-requires : tie.Need-front-requires Inv-loop μ-loop
 front-requires c κs = search needs
@@ -96,7 +96,7 @@ loop-again c =
     let h = c .before .before .before .before .before .before .before .before .before .before .before .before .before .before .before .before .before .loop-test .taken in
     let i = ll .inv in
     let on = spots-on _ _ _ _ _ _ _ h next (front-told _ _ _ _ (c .before .before .before .before .before .before .before .before .before .before .front .ensures)) (front-told _ _ _ _ (c .before .before .before .before .before .before .before .before .before .front2 .ensures)) kept (past-told _ _ _ _ (c .before .past .ensures)) (past-told _ _ _ _ (c .past2 .ensures)) in (
-      i .0 ∙ ap (λ (l : List M.Spot). writeOn (buffer (ll .out) (ll .at)) (spells entryBytes (keptOf l))) on ∙ write-spot _ _ _ _ (c .before .before .before .before .put-kept .ensures),
+      i .0 ∙ ap (λ (l : List M.Spot). writeOn (buffer (ll .out) (ll .at)) (encodeAll entryBytes (keptOf l))) on ∙ write-spot _ _ _ _ (c .before .before .before .before .put-kept .ensures),
       omega (arith, h),
       c .before .before .before .before .put-kept .kept .1 .1 .1 .1 .0 ∙ i .2,
     )
@@ -107,7 +107,7 @@ same-length-2 c = c .before .loop .inv .2
 returns-2 : tie.Need-returns-2 Inv-loop μ-loop
 returns-2 c =
     let i = c .before .loop .inv in
-    sym (i .0 ∙ ap (λ (l : List M.Spot). writeOn (buffer (c .before .loop .out) (c .before .loop .at)) (spells entryBytes (keptOf l))) (spots-end _ _ _ _ _ _ _ (c .loop-test .left)) ∙ write-last _)
+    sym (i .0 ∙ ap (λ (l : List M.Spot). writeOn (buffer (c .before .loop .out) (c .before .loop .at)) (encodeAll entryBytes (keptOf l))) (spots-end _ _ _ _ _ _ _ (c .loop-test .left)) ∙ write-last _)
 
 pub put-leaves-spec : {M : Type 1} → statement M
 put-leaves-spec =

@@ -6,7 +6,7 @@ use native.Mathlib.Nat.{sub-zero}
 use lib.ListN.{length, length-set}
 use Rattle.format.specs.FieldAnswer.{numberOf}
 use Rattle.format.proofs.LevelLaws.{turn-below}
-use Rattle.format.proofs.ParseLaws.{answered, each-got, each-bad}
+use Rattle.format.proofs.ParseLaws.{answered, each-ok, each-fault}
 use Rattle.path.specs.Path.{placing, places}
 use Rattle.path.proofs.PathLaws.{placing-end, placing-stop, placing-on}
 use Rattle.path.proofs.path.level_places.Statement.{statement}
@@ -42,7 +42,7 @@ enum-told c = search needs
 
 returns : tie.Need-returns Inv-loop μ-loop
 returns c =
-    sym (c .before .before .before .before .before .loop .inv .2 ∙ placing-stop _ _ _ _ _ _ _ _ (omega arith) (c .before .before .before .level-in-turn .ensures) (each-bad length _ (answered numberOf (c .before .before .skip-level .ensures) (c .enum-told .given .1))))
+    sym (c .before .before .before .before .before .loop .inv .2 ∙ placing-stop _ _ _ _ _ _ _ _ (omega arith) (c .before .before .before .level-in-turn .ensures) (each-fault length _ (answered numberOf (c .before .before .skip-level .ensures) (c .enum-told .given .1))))
 
 add-i : tie.Need-add-i Inv-loop μ-loop
 add-i c = search needs
@@ -52,7 +52,7 @@ loop-less c = search needs
 
 loop-again : tie.Need-loop-again Inv-loop μ-loop
 loop-again c =
-    (omega arith, simp length-set (c .before .before .before .before .before .before .loop .inv .1), c .before .before .before .before .before .before .loop .inv .2 ∙ placing-on _ _ _ _ _ _ _ _ _ (omega arith) (c .before .before .before .before .level-in-turn .ensures) (each-got length _ (answered numberOf (c .before .before .before .skip-level .ensures) (c .before .field .given .1)) .1))
+    (omega arith, simp length-set (c .before .before .before .before .before .before .loop .inv .1), c .before .before .before .before .before .before .loop .inv .2 ∙ placing-on _ _ _ _ _ _ _ _ _ (omega arith) (c .before .before .before .before .level-in-turn .ensures) (each-ok length _ (answered numberOf (c .before .before .before .skip-level .ensures) (c .before .field .given .1)) .1))
 
 returns-2 : tie.Need-returns-2 Inv-loop μ-loop
 returns-2 c = sym (c .before .loop .inv .2 ∙ placing-end _ _ _ _ _ _ _ (omega arith))

@@ -2,7 +2,7 @@ use borrow.Author.Needs.{needs}
 use Rattle.format.specs.FieldAnswer.{numberOf}
 use Rattle.format.specs.LevelAnswer.{kindOf}
 use Rattle.format.proofs.ParseLaws.{answered}
-use Rattle.path.specs.Loose.{looseLeaf}
+use Rattle.path.specs.Unchecked.{uncheckedLeaf}
 use Rattle.path.proofs.walk.leaf_at.Statement.{statement}
 use Rattle.path.proofs.walk.leaf_at.Tie as tie
 
@@ -19,13 +19,13 @@ refusal-requires : tie.Need-refusal-requires
 refusal-requires c κs = search needs
 
 returns : tie.Need-returns
-unfolding looseLeaf
+unfolding uncheckedLeaf
 returns c =
     rw (c .refusal .ensures, c .before .enum-told .given .1)
     (simp (answered numberOf (c .before .before .before .read-varint .ensures) (c .before .enum-told .given .1)))
 
-loose-carried-requires : tie.Need-loose-carried-requires
-loose-carried-requires c κs = search needs
+unchecked-carried-requires : tie.Need-unchecked-carried-requires
+unchecked-carried-requires c κs = search needs
 
 enum-known-second : tie.Need-enum-known-second
 enum-known-second c = search needs
@@ -37,15 +37,15 @@ refusal-requires-2 : tie.Need-refusal-requires-2
 refusal-requires-2 c κs = search needs
 
 returns-2 : tie.Need-returns-2
-unfolding looseLeaf
+unfolding uncheckedLeaf
 returns-2 c =
     rw (c .refusal2 .ensures, c .before .enum-told2 .given .1)
-    (simp (answered numberOf (c .before .before .before .before .before .before .before .read-varint .ensures) (c .before .before .before .before .before .first .given .1), answered kindOf (c .before .before .before .loose-carried .ensures) (c .before .enum-told2 .given .1)))
+    (simp (answered numberOf (c .before .before .before .before .before .before .before .read-varint .ensures) (c .before .before .before .before .before .first .given .1), answered kindOf (c .before .before .before .unchecked-carried .ensures) (c .before .enum-told2 .given .1)))
 
 returns-3 : tie.Need-returns-3
-unfolding looseLeaf
+unfolding uncheckedLeaf
 returns-3 c =
-    simp (answered numberOf (c .before .before .before .before .before .before .before .read-varint .ensures) (c .before .before .before .before .before .first .given .1), answered kindOf (c .before .before .before .loose-carried .ensures) (c .before .second .given .1))
+    simp (answered numberOf (c .before .before .before .before .before .before .before .read-varint .ensures) (c .before .before .before .before .before .first .given .1), answered kindOf (c .before .before .before .unchecked-carried .ensures) (c .before .second .given .1))
 
 pub leaf-at-spec : {M : Type 1} → statement M
 leaf-at-spec =
@@ -56,7 +56,7 @@ leaf-at-spec =
     enum-told
     refusal-requires
     returns
-    loose-carried-requires
+    unchecked-carried-requires
     enum-known-second
     enum-told-2
     refusal-requires-2

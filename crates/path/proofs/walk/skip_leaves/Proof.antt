@@ -5,7 +5,7 @@ use Prim.Native.Nat.{_≤_, _-_, _+_}
 use lib.ListN.{length}
 use Rattle.format.specs.Parse.{each, times}
 use Rattle.format.proofs.ParseLaws.{count-start, count-step, count-refused, count-done}
-use Rattle.path.specs.Loose.{looseLeaf}
+use Rattle.path.specs.Unchecked.{uncheckedLeaf}
 use Rattle.path.proofs.StepLaws.{tells-as}
 use Rattle.path.proofs.walk.skip_leaves.Statement.{statement}
 use Rattle.path.proofs.walk.skip_leaves.Tie as tie
@@ -14,7 +14,7 @@ use Rattle.path.proofs.walk.unread_leaf.Reads as unread-leaf-reads
 
 abbrev Inv-loop : tie.InvT-loop
 Inv-loop s layout count next₀ i₀ next i =
-    (i ≤ count) × (each length (times (looseLeaf layout) count s (next₀ .at)) ≡ each (λ l. i + length l) (times (looseLeaf layout) (count - i) s (next .at)))
+    (i ≤ count) × (each length (times (uncheckedLeaf layout) count s (next₀ .at)) ≡ each (λ l. i + length l) (times (uncheckedLeaf layout) (count - i) s (next .at)))
 
 abbrev μ-loop : tie.MeasureT-loop
 μ-loop s layout count next₀ i₀ next i = count - i

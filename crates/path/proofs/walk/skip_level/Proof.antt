@@ -3,7 +3,7 @@ use mathlib.Core.Path.{_∙_}
 use Rattle.format.specs.FieldAnswer.{numberOf}
 use Rattle.format.specs.Parse.{each}
 use Rattle.format.proofs.ParseLaws.{answered}
-use Rattle.path.specs.Loose.{looseLevel}
+use Rattle.path.specs.Unchecked.{uncheckedLevel}
 use Rattle.path.proofs.walk.skip_level.Statement.{statement}
 use Rattle.path.proofs.walk.skip_level.Tie as tie
 
@@ -17,14 +17,14 @@ enum-told : tie.Need-enum-told
 enum-told c = search needs
 
 returns : tie.Need-returns
-unfolding each looseLevel
+unfolding each uncheckedLevel
 returns c = rw (c .enum-told .given .1) (simp (answered numberOf (c .before .before .read-varint .ensures) (c .enum-told .given .1)))
 
 skip-leaves-requires : tie.Need-skip-leaves-requires
 skip-leaves-requires c κs = search needs
 
 returns-2 : tie.Need-returns-2
-unfolding looseLevel
+unfolding uncheckedLevel
 returns-2 c = c .skip-leaves .ensures ∙ simp (answered numberOf (c .before .before .before .before .read-varint .ensures) (c .before .before .field .given .1))
 
 pub skip-level-spec : {M : Type 1} → statement M

@@ -1,6 +1,6 @@
 use borrow.Author.Needs.{needs}
 use Rattle.format.specs.Level.{kindField}
-use Rattle.path.specs.Loose.{looseCarried}
+use Rattle.path.specs.Unchecked.{uncheckedCarried}
 use Rattle.path.proofs.walk.step_carried.Statement.{statement}
 use Rattle.path.proofs.walk.step_carried.Tie as tie
 use Rattle.path.proofs.walk.step_flagged.Reads as step-flagged-reads
@@ -22,7 +22,7 @@ returns : tie.Need-returns
 returns c = rw (c .before .enum-told .given .1) (c .step-flagged .ensures)
 
 returns-2 : tie.Need-returns-2
-unfolding kindField looseCarried
+unfolding kindField uncheckedCarried
 returns-2 c = rw (c .before .enum-told2 .given .1) (c .step-kind .ensures)
 
 pub step-carried-spec : {M : Type 1} → statement M

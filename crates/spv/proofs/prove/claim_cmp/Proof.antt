@@ -1,11 +1,11 @@
 use mathlib.Core.Path.{sym, _∙_, ap}
 use borrow.Author.Needs.{needs}
 use Rattle.path.specs.declared.path.Path.{Path}
-use Rattle.format.proofs.ParseLaws.{answered, each-got, each-bad}
+use Rattle.format.proofs.ParseLaws.{answered, each-ok, each-fault}
 use Rattle.format.specs.Cmp.{cmpHeadOf, cmpWhole, cmpAnswer, refusalOfCmp}
 use Rattle.path.specs.Path.{cmpPathOf}
 use Rattle.spv.specs.Result.{refusedReading}
-use Rattle.spv.specs.Compare.{prove}
+use Rattle.spv.specs.Prove.{prove}
 use Rattle.spv.specs.Readings.{pathReading}
 use Rattle.spv.proofs.ReadingsLaws.{cmp-refused, cmp-proves}
 use Rattle.spv.proofs.ShapesLaws.{claimed-unread}
@@ -33,7 +33,7 @@ unread-claim-requires c κs = search needs
 returns : tie.Need-returns
 returns c =
     let a = c .before .before .before .before .before .before .before .args in
-    let e = each-bad cmpHeadOf (cmpWhole (a .s .now)) (answered cmpAnswer (c .before .before .before .before .before .read-cmp .ensures) (c .before .before .before .enum-told .given .1)) in
+    let e = each-fault cmpHeadOf (cmpWhole (a .s .now)) (answered cmpAnswer (c .before .before .before .before .before .read-cmp .ensures) (c .before .before .before .enum-told .given .1)) in
     ap prove (claimed-unread (a .s .now) _ _ _ (c .unread-claim .ensures) (c .before .reject-reading .ensures ∙ ap refusedReading (c .before .before .refusal .ensures ∙ ap refusalOfCmp (c .before .before .before .enum-told .given .1))) ∙ sym (cmp-refused (a .s .now) (a .id) _ _ e))
 
 cmp-path-requires : tie.Need-cmp-path-requires
@@ -45,7 +45,7 @@ claim-in-requires c κs = search needs
 returns-2 : tie.Need-returns-2
 returns-2 c =
     let a = c .before .before .before .before .before .before .before .args in
-    let e = each-got cmpHeadOf (cmpWhole (a .s .now)) (answered cmpAnswer (c .before .before .before .before .before .read-cmp .ensures) (c .before .before .before .answer .given .1)) in
+    let e = each-ok cmpHeadOf (cmpWhole (a .s .now)) (answered cmpAnswer (c .before .before .before .before .before .read-cmp .ensures) (c .before .before .before .answer .given .1)) in
     ap prove (c .claim-in .ensures ∙ ap (λ (p : Path). pathReading (a .s .now) p (a .id)) (c .before .cmp-path .ensures ∙ ap (cmpPathOf (a .s .now)) (sym (e .2))))
     ∙ cmp-proves (a .s .now) (a .id) (e .0) _ (e .1)
 

@@ -3,7 +3,7 @@ use borrow.Author.Needs.{needs}
 use Rattle.path.specs.declared.path.Start.{Start}
 use Rattle.spv.specs.Readings.{starting, pathReading}
 use Rattle.spv.specs.Siblings.{pathSiblings}
-use Rattle.spv.specs.Compare.{targetOf}
+use Rattle.spv.specs.Prove.{targetOf}
 use Rattle.spv.specs.Shapes.{claimed, claimedBy, opened}
 use Rattle.spv.proofs.ShapesLaws.{claimed-unread}
 use Rattle.spv.proofs.prove.claim_in.Statement.{statement}

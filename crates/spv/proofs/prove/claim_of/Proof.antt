@@ -1,7 +1,7 @@
 use mathlib.Core.Path.{sym, _∙_, ap}
 use borrow.Author.Needs.{needs}
 use Rattle.path.specs.declared.path.Form.{Form}
-use Rattle.spv.specs.Compare.{prove}
+use Rattle.spv.specs.Prove.{prove}
 use Rattle.spv.specs.Readings.{reading, readingUpTo}
 use Rattle.spv.proofs.prove.claim_of.Statement.{statement}
 use Rattle.spv.proofs.prove.claim_of.Tie as tie

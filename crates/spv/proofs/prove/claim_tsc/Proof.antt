@@ -1,11 +1,11 @@
 use mathlib.Core.Path.{sym, _∙_, ap, refl}
 use borrow.Author.Needs.{needs}
-use Rattle.format.proofs.ParseLaws.{answered, each-got, each-bad}
+use Rattle.format.proofs.ParseLaws.{answered, each-ok, each-fault}
 use Rattle.format.specs.Tsc.{tscHeadOf, tscWhole}
 use Rattle.format.specs.TscAnswer.{tscAnswer, refusalOfTsc}
 use Rattle.spv.specs.Result.{refusedReading}
 use Rattle.spv.proofs.ShapesLaws.{tsc-claim, claimed-unread}
-use Rattle.spv.specs.Compare.{prove}
+use Rattle.spv.specs.Prove.{prove}
 use Rattle.spv.proofs.ReadingsLaws.{tsc-refused}
 use Rattle.spv.proofs.prove.claim_tsc.Statement.{statement}
 use Rattle.spv.proofs.prove.claim_tsc.Tie as tie
@@ -31,7 +31,7 @@ unread-claim-requires c κs = search needs
 returns : tie.Need-returns
 returns c =
     let s = c .before .before .before .before .before .before .before .args .s .now in
-    let e = each-bad tscHeadOf (tscWhole s) (answered tscAnswer (c .before .before .before .before .before .read-tsc .ensures) (c .before .before .before .enum-told .given .1)) in
+    let e = each-fault tscHeadOf (tscWhole s) (answered tscAnswer (c .before .before .before .before .before .read-tsc .ensures) (c .before .before .before .enum-told .given .1)) in
     ap prove (claimed-unread s _ _ _ (c .unread-claim .ensures) (c .before .reject-reading .ensures ∙ ap refusedReading (c .before .before .refusal .ensures ∙ ap refusalOfTsc (c .before .before .before .enum-told .given .1))) ∙ sym (tsc-refused s _ _ e))
 
 tsc-path-requires : tie.Need-tsc-path-requires
@@ -49,7 +49,7 @@ target-root-requires c κs = search needs
 returns-2 : tie.Need-returns-2
 returns-2 c =
     let s = c .before .before .before .before .before .before .before .before .before .args .s .now in
-    let e = each-got tscHeadOf (tscWhole s) (answered tscAnswer (c .before .before .before .before .before .before .before .read-tsc .ensures) (c .before .before .before .before .before .answer .given .1)) in
+    let e = each-ok tscHeadOf (tscWhole s) (answered tscAnswer (c .before .before .before .before .before .before .before .read-tsc .ensures) (c .before .before .before .before .before .answer .given .1)) in
     tsc-claim s _ _ (e .0) _ (e .1) (e .2) refl (c .before .before .before .tsc-path .ensures) refl (c .before .before .subject-id .ensures) (c .before .tells-root .ensures) (c .target-root .ensures)
 
 pub claim-tsc-spec : {M : Type 1} → statement M

@@ -1,7 +1,7 @@
 use mathlib.Core.Path.{sym, _∙_, ap}
 use mathlib.Core.Bool.{Bool}
 use borrow.Author.Needs.{needs}
-use Rattle.spv.specs.Compare.{targetOf, hits}
+use Rattle.spv.specs.Prove.{targetOf, hits}
 use Rattle.spv.proofs.ShapesLaws.{hits-any, hits-exactly}
 use Rattle.spv.proofs.prove.hits_target.Statement.{statement}
 use Rattle.spv.proofs.prove.hits_target.Tie as tie

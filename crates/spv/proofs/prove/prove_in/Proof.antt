@@ -1,6 +1,6 @@
 use mathlib.Core.Path.{_∙_, ap}
 use borrow.Author.Needs.{needs}
-use Rattle.spv.specs.Compare.{Reading, prove}
+use Rattle.spv.specs.Prove.{Reading, prove}
 use Rattle.spv.specs.Shapes.{provedOf}
 use Rattle.spv.proofs.prove.prove_in.Statement.{statement}
 use Rattle.spv.proofs.prove.prove_in.Tie as tie

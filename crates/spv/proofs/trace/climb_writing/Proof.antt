@@ -11,8 +11,8 @@ use Rattle.spv.specs.Climb.{Sibling, Step, step}
 use Rattle.spv.specs.Shapes.{siblingOf}
 use Rattle.spv.specs.Trace.{asCarried}
 use Rattle.spv.specs.declared.node.Node.{Node}
-use Rattle.spv.specs.Low.{Low}
-use Rattle.spv.proofs.LowLaws.{low-start, low-half, low-sibling}
+use Rattle.spv.specs.PositionFits.{PositionFits}
+use Rattle.spv.proofs.PositionFitsLaws.{low-start, low-half, low-sibling}
 use Rattle.spv.specs.Siblings.{pathSiblings}
 use Rattle.spv.proofs.ShapesLaws.{told-joins, told-fails}
 use Rattle.spv.proofs.Turns.{Climbing, climbing-start, climbing-end, climbing-up, climbing-stop}
@@ -28,7 +28,7 @@ written-at : (p q : Buffer) (x y : Sibling) → q ≡ writeOn p (carriedBytes (a
 written-at p q x y e g = e ∙ ap (λ (z : Sibling). writeOn p (carriedBytes (asCarried z))) g
 
 abbrev Inv-loop : tie.InvT-loop
-Inv-loop s path i out₀ h k₀ j₀ c₀ next₀ out k j c next = Climbing (pathSiblings s path) h i c₀ k j c × Low k j × Trailing (pathSiblings s path) h i c₀ (buffer out₀ 0) k j c (buffer out next) × (length out ≡ length out₀)
+Inv-loop s path i out₀ h k₀ j₀ c₀ next₀ out k j c next = Climbing (pathSiblings s path) h i c₀ k j c × PositionFits k j × Trailing (pathSiblings s path) h i c₀ (buffer out₀ 0) k j c (buffer out next) × (length out ≡ length out₀)
 
 abbrev μ-loop : tie.MeasureT-loop
 μ-loop s path i out₀ h k₀ j₀ c₀ next₀ out k j c next = h - k
@@ -42,7 +42,7 @@ sibling-position-requires c κs = search needs
 sibling-at-requires : tie.Need-sibling-at-requires Inv-loop μ-loop
 sibling-at-requires c κs =
     let l = c .before .before .loop in
-    λ low. subst (Low (l .k)) (sym (c .sibling-position .ensures)) (low-sibling _ _ low (l .inv .1))
+    λ low. subst (PositionFits (l .k)) (sym (c .sibling-position .ensures)) (low-sibling _ _ low (l .inv .1))
 
 fold-requires : tie.Need-fold-requires Inv-loop μ-loop
 fold-requires c κs = search needs

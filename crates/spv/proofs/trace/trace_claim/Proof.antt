@@ -1,5 +1,5 @@
 use mathlib.Core.Path.{sym, refl, _∙_, ap}
-use Rattle.spv.specs.Compare.{Reading, proveBy, prove}
+use Rattle.spv.specs.Prove.{Reading, proveBy, prove}
 use Rattle.spv.proofs.ShapesLaws.{claimed-read, claimed-unread}
 use Rattle.spv.specs.Trace.{tracedOf}
 use borrow.Author.Needs.{needs}

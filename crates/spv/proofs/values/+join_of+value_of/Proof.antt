@@ -7,7 +7,7 @@ use Rattle.spv.specs.Siblings.{writtenBy, findAt}
 use Rattle.spv.proofs.SiblingsLaws.{value-found, value-missing}
 use Rattle.spv.specs.Values.{hasValue, joinBoth, valueOf}
 use Rattle.spv.proofs.ValuesLaws.{join-zero, join-none, join-two}
-use Rattle.spv.proofs.LowLaws.{low-left, low-right, low-fits}
+use Rattle.spv.proofs.PositionFitsLaws.{low-left, low-right, low-fits}
 use Rattle.spv.specs.Shapes.{siblingOf}
 use Rattle.spv.proofs.ShapesLaws.{node-says}
 use Prim.Native.Nat.{ℕ, _+_, _-_, _*_, _<_}
