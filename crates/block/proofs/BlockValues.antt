@@ -14,7 +14,7 @@ use native.Mathlib.Numerals.{add-one}
 use borrow.Author.Tests.{eqb-true, eqb-false, ne-eqb, lt-ltb, ltb-true, ltb-false}
 use Rattle.format.proofs.Basics.{or-true, or-comm}
 use Rattle.hash.specs.Sha256.{sha256d}
-use Rattle.format.specs.declared.level.Kind.the-variants.{Plain, Copy, Client}
+use Rattle.format.specs.declared.leaf.Kind.the-variants.{Plain, Copy, Client}
 use Rattle.path.specs.declared.path.Found.{Found}
 use Rattle.path.specs.declared.path.Found.the-variants.{Here, Missing}
 use Rattle.format.specs.Parse.{pick}

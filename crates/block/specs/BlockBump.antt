@@ -6,7 +6,7 @@ use mathlib.Core.Option.{Option, none, some}
 use Prim.Native.Nat.{ℕ, zero, suc, _+_, _-_, _^_, _/_, _%_, _≤_, _<_}
 use lib.ListN.{length, getD}
 use lib.Dec.{ltb, leb, eqb}
-use Rattle.format.specs.declared.level.Leaf.{Leaf}
+use Rattle.format.specs.declared.leaf.Leaf.{Leaf}
 use Rattle.path.specs.declared.path.Found.{Found}
 use Rattle.path.specs.declared.path.Found.the-variants.{Here, Missing}
 use Rattle.format.specs.Parse.{pick, ok}

@@ -2,8 +2,8 @@
 use Prim.Native.Nat.{ℕ}
 use mathlib.Core.Path.{_≡_, refl}
 use mathlib.Core.List.{List, [], _∷_}
-use Rattle.format.specs.declared.level.Leaf.{Leaf}
-use Rattle.format.specs.declared.level.Kind.the-variants.{Plain, Copy}
+use Rattle.format.specs.declared.leaf.Leaf.{Leaf}
+use Rattle.format.specs.declared.leaf.Kind.the-variants.{Plain, Copy}
 use Rattle.path.specs.Search.{lookup}
 use Rattle.spv.specs.Climb.{Siblings, siblingPosition, step, joined}
 use Rattle.spv.specs.Values.{hasValue, valueBy, joinBoth, joinOf, valueOf, workedOut}

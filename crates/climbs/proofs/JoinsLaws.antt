@@ -8,7 +8,7 @@ use mathlib.Core.List.{List, [], _∷_, _++_}
 use lib.ListN.{length, getD}
 use lib.Dec.{leb}
 use borrow.Author.Tests.{leb-true, leb-false}
-use Rattle.format.specs.declared.level.Leaf.{Leaf}
+use Rattle.format.specs.declared.leaf.Leaf.{Leaf}
 use Rattle.spv.specs.Climb.{Sibling, value, copied, absent, Siblings}
 use Rattle.spv.specs.Values.{hasValue, valueBy, valueOf, joinOf}
 use Rattle.spv.specs.Siblings.{sibling, writtenBy, findIn}

@@ -13,7 +13,7 @@ use borrow.Author.Tests.{lt-ltb, le-ltb, lt-leb, le-leb, leb-true, eq-eqb, ne-eq
 use Rattle.hash.specs.Sha256.{sha256d}
 use Rattle.hash.proofs.Sha256Laws.{sha256d-length}
 use Rattle.format.specs.declared.level.Layout.{Layout}
-use Rattle.format.specs.declared.level.Leaf.{Leaf}
+use Rattle.format.specs.declared.leaf.Leaf.{Leaf}
 use Rattle.format.specs.Bytes.{setHash, hashAt}
 use Rattle.format.proofs.BytesLaws.{set-inside, hash-there, hash-at-length}
 use Rattle.format.specs.Parse.{pick}

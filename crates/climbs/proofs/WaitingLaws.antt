@@ -10,9 +10,9 @@ use lib.ListN.{length, getD, set, take, replicate, List·getD-eq-default}
 use lib.Seq.{paste, getD-take, getD-set-same, getD-set-other, length-take-le}
 use lib.Dec.{ltb}
 use borrow.Author.Tests.{lt-ltb, le-ltb, ltb-true, ltb-false}
-use Rattle.format.specs.declared.level.Kind.the-variants.{Plain, Copy, Client}
+use Rattle.format.specs.declared.leaf.Kind.the-variants.{Plain, Copy, Client}
 use Rattle.format.specs.declared.level.Layout.{Layout}
-use Rattle.format.specs.declared.level.Leaf.{Leaf}
+use Rattle.format.specs.declared.leaf.Leaf.{Leaf}
 use Rattle.format.specs.declared.bump.BumpHead.{BumpHead}
 use Rattle.format.specs.Bytes.{setHash, hashAt}
 use Rattle.format.proofs.BytesLaws.{set-inside, hash-at-length}

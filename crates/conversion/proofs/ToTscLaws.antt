@@ -6,8 +6,8 @@ use mathlib.Core.List.{List, [], _∷_, map}
 use lib.ListN.{length, getD}
 use native.Mathlib.Omega.{arith}
 use native.Mathlib.Nat.{zero-add}
-use Rattle.format.specs.declared.level.Kind.{Kind}
-use Rattle.format.specs.declared.level.Kind.the-variants.{Plain, Copy, Client}
+use Rattle.format.specs.declared.leaf.Kind.{Kind}
+use Rattle.format.specs.declared.leaf.Kind.the-variants.{Plain, Copy, Client}
 use Rattle.format.specs.Parse.{pick, ok}
 use Rattle.format.proofs.BytesLaws.{same-eq, eq-same}
 use Rattle.format.specs.Refusals.{ROOTS-DIFFER}

@@ -7,8 +7,8 @@ use lib.Dec.{eqb}
 use native.Mathlib.Omega.{arith}
 use borrow.Author.Tests.{le-leb, lt-leb}
 use Rattle.format.proofs.Basics.{one-less}
-use Rattle.format.specs.declared.level.Kind.{Kind}
-use Rattle.format.specs.declared.level.Kind.the-variants.{Plain, Copy, Client}
+use Rattle.format.specs.declared.leaf.Kind.{Kind}
+use Rattle.format.specs.declared.leaf.Kind.the-variants.{Plain, Copy, Client}
 use Rattle.format.specs.declared.bump.BumpHead.{BumpHead}
 use Rattle.format.specs.Refusals.{MAX-LEAVES}
 use Rattle.format.specs.Bytes.{same, hashAt}

@@ -12,7 +12,7 @@ use native.Mathlib.Numerals.{add-one}
 use native.Mathlib.Nat.{sub-zero}
 use borrow.Author.Tests.{leb-true, leb-false}
 use Rattle.format.specs.declared.level.Layout.{Layout}
-use Rattle.format.specs.declared.level.Leaf.{Leaf}
+use Rattle.format.specs.declared.leaf.Leaf.{Leaf}
 use Rattle.format.proofs.Basics.{one-less}
 use Rattle.format.specs.Parse.{many, ok}
 use Rattle.format.proofs.ParseLaws.{many-told}

@@ -8,8 +8,8 @@ use lib.Dec.{leb, eqb}
 use lib.Pow.{pow-mono}
 use native.Mathlib.Omega.{arith}
 use borrow.Author.Tests.{lt-ltb, le-leb, ltb-true, leb-true, eqb-true, eqb-false}
-use Rattle.format.specs.declared.level.Kind.{Kind}
-use Rattle.format.specs.declared.level.Kind.the-variants.{Plain, Copy, Client}
+use Rattle.format.specs.declared.leaf.Kind.{Kind}
+use Rattle.format.specs.declared.leaf.Kind.the-variants.{Plain, Copy, Client}
 use Rattle.format.specs.declared.tsc.Subject.{Subject}
 use Rattle.format.specs.Parse.{Parse, pick, each, given, pure, require, _passing_else_, times, ok}
 use Rattle.format.proofs.ParseLaws.{onward-told, each-ok}

@@ -8,7 +8,7 @@ use native.Mathlib.Omega.{arith}
 use borrow.Author.Tests.{leb-true}
 use Rattle.format.proofs.Basics.{and-true}
 use Rattle.format.specs.declared.level.Layout.{Layout}
-use Rattle.format.specs.declared.level.Leaf.{Leaf}
+use Rattle.format.specs.declared.leaf.Leaf.{Leaf}
 use Rattle.format.specs.Parse.{Parse, each, ok, fault}
 use Rattle.format.proofs.ParseLaws.{each-ok, each-fault, passing-told, onward-told, whole-told}
 use Rattle.format.specs.Field.{byte}

@@ -12,8 +12,8 @@ use native.Mathlib.Nat.{one-mul, mod-eq-of-lt, sub-zero, zero-add, add-zero}
 use lib.Pow.{pow-add, pow-lt}
 use borrow.Author.Tests.{le-ltb, lt-ltb, eq-eqb, ne-eqb, leb-true}
 use Rattle.format.specs.declared.level.Layout.{Layout}
-use Rattle.format.specs.declared.level.Leaf.{Leaf}
-use Rattle.format.specs.declared.level.Kind.the-variants.{Plain, Client}
+use Rattle.format.specs.declared.leaf.Leaf.{Leaf}
+use Rattle.format.specs.declared.leaf.Kind.the-variants.{Plain, Client}
 use Rattle.format.specs.Parse.{Parse, pick, each, given, many, _passing_else_, ok, fault}
 use Rattle.format.proofs.ParseLaws.{each-cong, each-ok, passing-told, onward-told, many-length, many-step, many-refused, many-done}
 use Rattle.format.specs.Field.{bytes, varint}

@@ -10,7 +10,7 @@ use Rattle.format.specs.Cmp.{cmpAnswer}
 use Rattle.format.specs.declared.field.Number.{Number}
 use Rattle.format.specs.declared.field.Run.{Run}
 use Rattle.format.specs.FieldAnswer.{numberOf, runOf}
-use Rattle.format.specs.declared.level.KindAnswer.{KindAnswer}
+use Rattle.format.specs.declared.leaf.KindAnswer.{KindAnswer}
 use Rattle.format.specs.LevelAnswer.{kindOf}
 use Rattle.format.specs.declared.tsc.SubjectAnswer.{SubjectAnswer}
 use Rattle.format.specs.declared.tsc.TscAnswer.{TscAnswer}

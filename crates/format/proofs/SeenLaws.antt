@@ -10,9 +10,9 @@ use native.Mathlib.Omega.{arith}
 use borrow.Author.Tests.{ne-eqb, eqb-true, eqb-false, ltb-true}
 use Rattle.format.specs.declared.field.Number.{Number}
 use Rattle.format.specs.declared.level.Layout.{Layout}
-use Rattle.format.specs.declared.level.Leaf.{Leaf}
-use Rattle.format.specs.declared.level.Kind.{Kind}
-use Rattle.format.specs.declared.level.Kind.the-variants.{Plain, Client}
+use Rattle.format.specs.declared.leaf.Leaf.{Leaf}
+use Rattle.format.specs.declared.leaf.Kind.{Kind}
+use Rattle.format.specs.declared.leaf.Kind.the-variants.{Plain, Client}
 use Rattle.format.proofs.Basics.{or-true}
 use Rattle.format.specs.Parse.{Parse, pick, given, onward, each, many, _passing_else_, ok, fault}
 use Rattle.format.proofs.ParseLaws.{each-ok, each-fault, passing-told, count-start, count-step, count-refused, count-done}

@@ -10,7 +10,7 @@ use lib.Pow.{pow-pos, pow-mono}
 use native.Mathlib.Omega.{arith}
 use native.Mathlib.Nat.{div-eq-of-lt, div-lt-iff-lt-mul}
 use borrow.Author.Tests.{lt-ltb, eq-eqb, ne-eqb, leb-true, ltb-true, ltb-false}
-use Rattle.format.specs.declared.level.Kind.{Kind}
+use Rattle.format.specs.declared.leaf.Kind.{Kind}
 use Rattle.format.specs.declared.transaction.Items.{Items}
 use Rattle.format.specs.declared.transaction.TxHead.{TxHead}
 use Rattle.format.specs.declared.tsc.Subject.{Subject}

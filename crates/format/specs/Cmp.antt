@@ -3,7 +3,7 @@ use mathlib.Core.List.{List, reverse}
 use Prim.Native.Nat.{ℕ, _+_}
 use lib.Dec.{leb}
 use Rattle.format.specs.declared.level.Layout.{Layout}
-use Rattle.format.specs.declared.level.Leaf.{Leaf}
+use Rattle.format.specs.declared.leaf.Leaf.{Leaf}
 use Rattle.format.specs.declared.cmp.CmpHead.{CmpHead}
 use Rattle.format.specs.declared.cmp.CmpAnswer.{CmpAnswer}
 use Rattle.format.specs.declared.refusal.Refusal.{Refusal}

@@ -5,9 +5,9 @@ use Prim.Native.Nat.{ℕ, _+_, _-_, _^_, _%_}
 use lib.ListN.{length}
 use lib.Dec.{ltb, leb, eqb}
 use Rattle.format.specs.declared.level.Layout.{Layout}
-use Rattle.format.specs.declared.level.Leaf.{Leaf}
-use Rattle.format.specs.declared.level.Kind.{Kind}
-use Rattle.format.specs.declared.level.Kind.the-variants.{Plain, Copy, Client}
+use Rattle.format.specs.declared.leaf.Leaf.{Leaf}
+use Rattle.format.specs.declared.leaf.Kind.{Kind}
+use Rattle.format.specs.declared.leaf.Kind.the-variants.{Plain, Copy, Client}
 use Rattle.format.specs.Parse.{Reader, pick, pure, _>>=_, given, _passing_else_, many}
 use Rattle.format.specs.Field.{bytes, byte, varint}
 use Rattle.format.specs.Refusals.{OVER-LIMIT, BAD-OFFSET, BAD-FLAG, REPEATED, MAX-LEAVES}

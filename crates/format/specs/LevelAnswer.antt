@@ -1,6 +1,6 @@
 -- What the answers of the readers of leaves say.
-use Rattle.format.specs.declared.level.Kind.{Kind}
-use Rattle.format.specs.declared.level.KindAnswer.{KindAnswer}
+use Rattle.format.specs.declared.leaf.Kind.{Kind}
+use Rattle.format.specs.declared.leaf.KindAnswer.{KindAnswer}
 use Rattle.format.specs.declared.refusal.Refusal.{Refusal}
 use Rattle.format.specs.Parse.{Parse, ok, fault}
 

@@ -1,6 +1,6 @@
 -- A node of a TSC proof (01, "Layouts").
 use lib.Dec.{leb}
-use Rattle.format.specs.declared.level.Kind.{Kind}
+use Rattle.format.specs.declared.leaf.Kind.{Kind}
 use Rattle.format.specs.Parse.{Reader, _>>=_, _passing_else_}
 use Rattle.format.specs.Field.{byte}
 use Rattle.format.specs.Level.{kindField}

@@ -5,8 +5,8 @@ use mathlib.Core.Bool.{false}
 use Prim.Native.Nat.{ℕ, _≤_, _%_}
 use lib.ListN.{length, getD}
 use Rattle.format.specs.declared.field.Number.{Number}
-use Rattle.format.specs.declared.level.Leaf.{Leaf}
-use Rattle.format.specs.declared.level.Kind.{Kind}
+use Rattle.format.specs.declared.leaf.Leaf.{Leaf}
+use Rattle.format.specs.declared.leaf.Kind.{Kind}
 use Rattle.format.specs.Parse.{Parse, ok}
 use Rattle.format.specs.Level.{holds}
 

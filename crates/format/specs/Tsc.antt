@@ -5,7 +5,7 @@ use Prim.Native.Nat.{ℕ, _+_, _^_}
 use lib.ListN.{length}
 use lib.Bits.{bitAnd}
 use lib.Dec.{ltb, leb, eqb}
-use Rattle.format.specs.declared.level.Kind.{Kind}
+use Rattle.format.specs.declared.leaf.Kind.{Kind}
 use Rattle.format.specs.declared.tsc.Subject.{Subject}
 use Rattle.format.specs.declared.tsc.TscHead.{TscHead}
 use Rattle.format.specs.Parse.{Parse, Reader, pick, pure, here, onward, _>>=_, _>>_, given, _passing_else_, require, times, whole, ok, fault}

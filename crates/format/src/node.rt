@@ -2,8 +2,8 @@
 use super::field::Cursor;
 use super::field::Number;
 use super::field::one_byte;
-use super::level::KindAnswer;
-use super::level::read_kind;
+use super::leaf::KindAnswer;
+use super::leaf::read_kind;
 use super::refusal::BAD_FLAG;
 use super::refusal::Refusal;
 ghost use mathlib.Core.Path.{_≡_};

@@ -6,7 +6,7 @@ use super::field::Run;
 use super::field::one_byte;
 use super::field::read_run;
 use super::field::read_varint;
-use super::level::KindAnswer;
+use super::leaf::KindAnswer;
 use super::node::read_node;
 use super::refusal::BAD_FLAG;
 use super::refusal::BAD_OFFSET;

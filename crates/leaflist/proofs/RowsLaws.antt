@@ -7,7 +7,7 @@ use lib.Seq.{set-at, drop-cons}
 use native.Mathlib.Omega.{arith}
 use native.Mathlib.Numerals.{add-one}
 use borrow.Author.Tests.{le-leb, lt-leb}
-use Rattle.format.specs.declared.level.Leaf.{Leaf}
+use Rattle.format.specs.declared.leaf.Leaf.{Leaf}
 use Rattle.format.specs.declared.refusal.Refusal.{Refusal}
 use Rattle.format.specs.declared.bump.BumpHead.{BumpHead}
 use Rattle.format.proofs.Basics.{one-less}

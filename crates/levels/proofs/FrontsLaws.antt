@@ -9,9 +9,9 @@ use lib.Dec.{eqb, ltb}
 use native.Mathlib.Omega.{arith}
 use native.Mathlib.Numerals.{add-one}
 use borrow.Author.Tests.{eq-eqb, ne-eqb, eqb-true, eqb-false, lt-ltb, le-ltb, ltb-true, ltb-false}
-use Rattle.format.specs.declared.level.Kind.the-variants.{Copy}
+use Rattle.format.specs.declared.leaf.Kind.the-variants.{Copy}
 use Rattle.format.specs.declared.level.Layout.{Layout}
-use Rattle.format.specs.declared.level.Leaf.{Leaf}
+use Rattle.format.specs.declared.leaf.Leaf.{Leaf}
 use Rattle.format.specs.Parse.{Parse, pick, otherwise, ok, fault}
 use Rattle.path.specs.Unchecked.{uncheckedLeaf}
 use Rattle.encoding.specs.BumpBytes.{Entry, copy, carriedOf}

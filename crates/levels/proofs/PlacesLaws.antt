@@ -7,7 +7,7 @@ use lib.ListN.{length}
 use lib.Dec.{leb, ltb, eqb}
 use borrow.Author.Tests.{eq-eqb, ne-eqb, leb-true, ltb-true}
 use Rattle.format.specs.declared.level.Layout.{Layout}
-use Rattle.format.specs.declared.level.Leaf.{Leaf}
+use Rattle.format.specs.declared.leaf.Leaf.{Leaf}
 use Rattle.format.proofs.Basics.{or-true}
 use Rattle.format.specs.Parse.{pick, many, times, _passing_else_, ok, fault}
 use Rattle.format.proofs.ParseLaws.{onward-told, passing-told, many-told}

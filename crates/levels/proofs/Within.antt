@@ -5,7 +5,7 @@ use Prim.Native.Nat.{ℕ, zero, suc, _+_, _-_, _^_, _≤_}
 use lib.ListN.{getD, List·getD-map, List·getD-eq-default}
 use native.Mathlib.Omega.{arith}
 use Rattle.format.specs.declared.level.Layout.{Layout}
-use Rattle.format.specs.declared.level.Leaf.{Leaf}
+use Rattle.format.specs.declared.leaf.Leaf.{Leaf}
 use Rattle.format.specs.Parse.{many, ok}
 use Rattle.format.proofs.ParseLaws.{many-told, many-length}
 use Rattle.format.specs.Level.{levelOfTurn, levelInTurn, nextTurn}

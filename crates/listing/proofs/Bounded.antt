@@ -8,8 +8,8 @@ use lib.Dec.{ltb, leb, eqb}
 use native.Mathlib.Omega.{arith}
 use borrow.Author.Tests.{ltb-true, leb-true}
 use Rattle.format.specs.declared.level.Layout.{Layout}
-use Rattle.format.specs.declared.level.Kind.{Kind}
-use Rattle.format.specs.declared.level.Kind.the-variants.{Plain, Copy, Client}
+use Rattle.format.specs.declared.leaf.Kind.{Kind}
+use Rattle.format.specs.declared.leaf.Kind.the-variants.{Plain, Copy, Client}
 use Rattle.format.specs.Refusals.{LONG-VARINT, BAD-OFFSET, BAD-FLAG, REPEATED, EXTRA}
 use Rattle.format.specs.Parse.{Parse, Reader, pick, onward, each, _passing_else_, at-start, ok, fault}
 use Rattle.format.specs.Field.{bytes, byte, number, le2, le4, le8, announced, varint}

@@ -3,9 +3,9 @@ use mathlib.Core.List.{List, [], _∷_, _++_}
 use Prim.Native.Nat.{ℕ, _+_}
 use lib.ListN.{length}
 use lib.Dec.{leb}
-use Rattle.format.specs.declared.level.Leaf.{Leaf}
-use Rattle.format.specs.declared.level.Kind.{Kind}
-use Rattle.format.specs.declared.level.Kind.the-variants.{Plain, Copy, Client}
+use Rattle.format.specs.declared.leaf.Leaf.{Leaf}
+use Rattle.format.specs.declared.leaf.Kind.{Kind}
+use Rattle.format.specs.declared.leaf.Kind.the-variants.{Plain, Copy, Client}
 use Rattle.format.specs.Parse.{Parse, pick, ok, fault}
 use Rattle.format.specs.Refusals.{TOO-LONG}
 use Rattle.format.specs.Bump.{Bump, bumpWhole}

@@ -6,7 +6,7 @@ use lib.ListN.{getD, List·getD-map}
 use native.Mathlib.Omega.{arith}
 use native.Mathlib.Numerals.{add-one}
 use Rattle.format.specs.declared.level.Layout.{Layout}
-use Rattle.format.specs.declared.level.Leaf.{Leaf}
+use Rattle.format.specs.declared.leaf.Leaf.{Leaf}
 use Rattle.format.specs.Parse.{many, ok}
 use Rattle.format.proofs.ParseLaws.{many-told}
 use Rattle.format.specs.Level.{levelOfTurn, levelInTurn, nextTurn}

@@ -9,7 +9,7 @@ use native.Mathlib.Omega.{arith}
 use borrow.Author.Tests.{le-leb}
 use Rattle.format.specs.declared.bump.BumpHead.{BumpHead}
 use Rattle.format.specs.declared.level.Layout.{Layout}
-use Rattle.format.specs.declared.level.Leaf.{Leaf}
+use Rattle.format.specs.declared.leaf.Leaf.{Leaf}
 use Rattle.format.proofs.BytesLaws.{same-refl}
 use Rattle.format.specs.Parse.{Parse, ok, fault, otherwise}
 use Rattle.format.specs.Level.{levelOfTurn}

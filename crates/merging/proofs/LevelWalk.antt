@@ -4,7 +4,7 @@ use mathlib.Core.List.{List, map}
 use Prim.Native.Nat.{ℕ, _+_}
 use native.Mathlib.Omega.{arith}
 use Rattle.format.specs.declared.level.Layout.{Layout}
-use Rattle.format.specs.declared.level.Leaf.{Leaf}
+use Rattle.format.specs.declared.leaf.Leaf.{Leaf}
 use Rattle.format.specs.Parse.{ok}
 use Rattle.format.specs.Level.{levelField}
 use Rattle.encoding.specs.BumpBytes.{entryOf}

@@ -8,9 +8,9 @@ use lib.ListN.{length, getD, List·getD-map}
 use lib.Dec.{eqb, leb}
 use native.Mathlib.Omega.{arith}
 use borrow.Author.Tests.{lt-ltb, eq-eqb, ne-eqb, eqb-true, leb-true, leb-false}
-use Rattle.format.specs.declared.level.Kind.{Kind}
-use Rattle.format.specs.declared.level.Kind.the-variants.{Plain, Copy, Client}
-use Rattle.format.specs.declared.level.Leaf.{Leaf}
+use Rattle.format.specs.declared.leaf.Kind.{Kind}
+use Rattle.format.specs.declared.leaf.Kind.the-variants.{Plain, Copy, Client}
+use Rattle.format.specs.declared.leaf.Leaf.{Leaf}
 use Rattle.path.specs.declared.path.Found.the-variants.{Here}
 use Rattle.format.specs.declared.level.Layout.{Layout}
 use Rattle.format.proofs.Basics.{or-true}

@@ -7,8 +7,8 @@ use lib.ListN.{length, length-append}
 use lib.Dec.{ltb}
 use native.Mathlib.Omega.{arith}
 use borrow.Author.Tests.{eq-eqb}
-use Rattle.format.specs.declared.level.Kind.{Kind}
-use Rattle.format.specs.declared.level.Kind.the-variants.{Plain, Copy, Client}
+use Rattle.format.specs.declared.leaf.Kind.{Kind}
+use Rattle.format.specs.declared.leaf.Kind.the-variants.{Plain, Copy, Client}
 use Rattle.format.proofs.Basics.{one-less, or-true}
 use Rattle.format.specs.Parse.{pick}
 use Rattle.encoding.specs.Digits.{varintBytes}

@@ -7,10 +7,10 @@ use lib.Dec.{eqb}
 use borrow.Author.Tests.{ne-eqb}
 use Rattle.format.specs.declared.field.Cursor.{Cursor}
 use Rattle.format.specs.declared.level.Layout.{Layout}
-use Rattle.format.specs.declared.level.Leaf.{Leaf}
+use Rattle.format.specs.declared.leaf.Leaf.{Leaf}
 use Rattle.path.specs.declared.walk.LeafAnswer.{LeafAnswer}
-use Rattle.format.specs.declared.level.Kind.{Kind}
-use Rattle.format.specs.declared.level.Kind.the-variants.{Plain, Client}
+use Rattle.format.specs.declared.leaf.Kind.{Kind}
+use Rattle.format.specs.declared.leaf.Kind.the-variants.{Plain, Client}
 use Rattle.path.specs.declared.walk.Step.{Step}
 use Rattle.path.specs.declared.path.Start.{Start}
 use Rattle.path.specs.declared.path.Start.the-variants.{At}

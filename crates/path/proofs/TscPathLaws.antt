@@ -5,7 +5,7 @@ use Prim.Native.Nat.{ℕ, zero, suc, _<_}
 use lib.ListN.{length, getD, replicate}
 use native.Mathlib.Omega.{arith}
 use borrow.Author.Tests.{lt-ltb}
-use Rattle.format.specs.declared.level.Kind.{Kind}
+use Rattle.format.specs.declared.leaf.Kind.{Kind}
 use Rattle.path.specs.declared.path.Found.the-variants.{Here}
 use Rattle.format.specs.Parse.{each, many, times, ok, fault}
 use Rattle.format.proofs.ParseLaws.{many-told}

@@ -1,5 +1,5 @@
 -- What the answer of a walk says of a leaf.
-use Rattle.format.specs.declared.level.Leaf.{Leaf}
+use Rattle.format.specs.declared.leaf.Leaf.{Leaf}
 use Rattle.path.specs.declared.walk.LeafAnswer.{LeafAnswer}
 use Rattle.format.specs.declared.refusal.Refusal.{Refusal}
 use Rattle.format.specs.Parse.{Parse, ok, fault}

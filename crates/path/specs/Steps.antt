@@ -3,8 +3,8 @@ use mathlib.Core.Path.{_≡_}
 use mathlib.Core.List.{List}
 use Prim.Native.Nat.{ℕ}
 use Rattle.format.specs.declared.refusal.Refusal.{Refusal}
-use Rattle.format.specs.declared.level.Leaf.{Leaf}
-use Rattle.format.specs.declared.level.Kind.{Kind}
+use Rattle.format.specs.declared.leaf.Leaf.{Leaf}
+use Rattle.format.specs.declared.leaf.Kind.{Kind}
 use Rattle.path.specs.declared.walk.Step.{Step}
 use Rattle.path.specs.declared.path.Found.{Found}
 use Rattle.format.specs.Parse.{Parse, onward, otherwise, ok, fault}

@@ -1,9 +1,9 @@
 -- Leaves and levels without their tests, as code walks over what was read before. `UncheckedLaws` says that this finds the same.
 use mathlib.Core.List.{List}
 use Rattle.format.specs.declared.level.Layout.{Layout}
-use Rattle.format.specs.declared.level.Leaf.{Leaf}
-use Rattle.format.specs.declared.level.Kind.{Kind}
-use Rattle.format.specs.declared.level.Kind.the-variants.{Plain}
+use Rattle.format.specs.declared.leaf.Leaf.{Leaf}
+use Rattle.format.specs.declared.leaf.Kind.{Kind}
+use Rattle.format.specs.declared.leaf.Kind.the-variants.{Plain}
 use Rattle.format.specs.Parse.{Reader, pure, _>>=_, given, times}
 use Rattle.format.specs.Field.{bytes, byte, varint}
 use Rattle.format.specs.Level.{kindField}

@@ -8,7 +8,7 @@ use lib.ListN.{length, getD}
 use lib.Dec.{eqb}
 use native.Mathlib.Omega.{arith}
 use borrow.Author.Tests.{eqb-true, eqb-false, eq-eqb}
-use Rattle.format.specs.declared.level.Leaf.{Leaf}
+use Rattle.format.specs.declared.leaf.Leaf.{Leaf}
 use Rattle.path.specs.declared.path.Found.the-variants.{Here, Missing}
 use Rattle.format.specs.Parse.{pick}
 use Rattle.path.specs.Search.{lookup}

@@ -4,7 +4,7 @@ use mathlib.Core.Bool.{Bool, true, false}
 use mathlib.Core.List.{List, [], _∷_}
 use lib.ListN.{length, getD}
 use lib.Dec.{eqb}
-use Rattle.format.specs.declared.level.Leaf.{Leaf}
+use Rattle.format.specs.declared.leaf.Leaf.{Leaf}
 use Rattle.format.specs.Parse.{pick}
 use Rattle.spv.specs.Climb.{Sibling, value, copied, absent, Siblings, siblingPosition}
 use Rattle.spv.specs.Values.{hasValue, joinOf, valueOf}

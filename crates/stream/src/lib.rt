@@ -1,7 +1,9 @@
 // A raw transaction that arrives in parts (02, Item 10).
+mod digits;
 mod hashing;
 mod progress;
 mod state;
+mod walk;
 
 pub use state::Answer;
 pub use state::State;

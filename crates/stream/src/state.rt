@@ -7,7 +7,7 @@ use super::progress::Fed;
 use super::progress::Progress;
 use super::progress::Stage;
 use super::progress::is_end;
-use super::progress::walk;
+use super::walk::walk;
 use format::refusal::SHORT;
 ghost use mathlib.Core.Path.{_≡_};
 ghost use Rattle.stream.specs.Parts.{more, refused, received, started, withPart, withEnd};

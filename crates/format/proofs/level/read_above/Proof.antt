@@ -4,8 +4,8 @@ use Rattle.format.proofs.ParseLaws.{answered}
 use Rattle.format.proofs.SeenLaws.{leaf-carried, above-carried}
 use Rattle.format.proofs.level.read_above.Statement.{statement}
 use Rattle.format.proofs.level.read_above.Tie as tie
-use Rattle.format.proofs.level.read_bounded.Reads as read-bounded-reads
-use Rattle.format.proofs.level.read_carried.Reads as read-carried-reads
+use Rattle.format.proofs.leaf.read_bounded.Reads as read-bounded-reads
+use Rattle.format.proofs.leaf.read_carried.Reads as read-carried-reads
 
 read-bounded-requires : tie.Need-read-bounded-requires
 read-bounded-requires c κs = search needs

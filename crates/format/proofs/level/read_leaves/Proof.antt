@@ -14,7 +14,7 @@ use Rattle.format.specs.Seen.{Slotted}
 use Rattle.format.proofs.SeenLaws.{slotted-more, leaves-step, leaves-refused}
 use Rattle.format.proofs.level.read_leaves.Statement.{statement}
 use Rattle.format.proofs.level.read_leaves.Tie as tie
-use Rattle.format.proofs.level.read_leaf.Reads as read-leaf-reads
+use Rattle.format.proofs.leaf.read_leaf.Reads as read-leaf-reads
 
 abbrev Inv-loop : tie.InvT-loop
 Inv-loop s layout level greatest count seen₀ slots₀ next₀ i₀ seen slots next i =

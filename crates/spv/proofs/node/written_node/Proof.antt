@@ -1,6 +1,6 @@
 use mathlib.Core.Path.{_∙_, sym, ap}
 use borrow.Author.Needs.{needs}
-use Rattle.format.specs.declared.level.Kind.{Kind}
+use Rattle.format.specs.declared.leaf.Kind.{Kind}
 use Rattle.spv.specs.Siblings.{written}
 use Rattle.spv.specs.Shapes.{nodeOf}
 use Rattle.spv.proofs.node.written_node.Statement.{statement}

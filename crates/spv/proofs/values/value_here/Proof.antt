@@ -1,5 +1,5 @@
 use mathlib.Core.Path.{_∙_, sym, ap}
-use Rattle.format.specs.declared.level.Kind.{Kind}
+use Rattle.format.specs.declared.leaf.Kind.{Kind}
 use Rattle.spv.specs.Climb.{absent}
 use Rattle.spv.specs.Values.{valueBy}
 use Rattle.spv.specs.Siblings.{written}
