@@ -21,7 +21,7 @@ use Rattle.format.specs.BeefAnswer.{noBump, entryHeadOf, firstAt, beefHeadOf, h
 use Rattle.format.proofs.BeefLaws.{BeefRead, EntryRead, beef-told, heads-read}
 use Rattle.format.proofs.TransactionLaws.{TxRead, tx-told}
 use Rattle.format.specs.declared.bump.BumpHead.{BumpHead}
-use Rattle.format.specs.declared.refusal.Refusal.{Refusal}
+use Rattle.format.specs.declared.refusal.ReadRefusal.{ReadRefusal}
 use Rattle.format.specs.declared.beef.BeefHead.{BeefHead}
 use Rattle.format.specs.declared.beef.Anchor.{Anchor}
 use Rattle.format.specs.declared.beef.Anchor.the-variants.{Unanchored, Bump as InBump}
@@ -233,7 +233,7 @@ module _ (s roots : List ℕ) (fee room : ℕ) where
     judge-roots h = simp (le-leb _ _ fits, ne-eqb _ _ h)
 
     module _ (even : length roots % 32 ≡ 0) where
-      pub judge-refused : (x : Refusal) → each beefHeadOf (beefWhole room s) ≡ fault (x .number) (x .place) → refused (refusedReading x) ≡ judgeBeef s roots fee room
+      pub judge-refused : (x : ReadRefusal) → each beefHeadOf (beefWhole room s) ≡ fault (x .number) (x .place) → refused (refusedReading x) ≡ judgeBeef s roots fee room
       unfolding judgeUpTo judgeRead
       judge-refused x e = simp (le-leb _ _ fits, eq-eqb _ _ even, each-fault beefHeadOf (beefWhole room s) e)
 

@@ -11,7 +11,7 @@ use lib.Seq.{take-all}
 use borrow.Author.Tests.{lt-leb, le-leb, eq-eqb, ne-eqb, ltb-true, ltb-false, eqb-true, eqb-false}
 use Rattle.hash.specs.Sha256.{sha256d}
 use Rattle.format.specs.declared.bump.BumpHead.{BumpHead}
-use Rattle.format.specs.declared.refusal.Refusal.{Refusal}
+use Rattle.format.specs.declared.refusal.ReadRefusal.{ReadRefusal}
 use Rattle.format.specs.declared.beef.BeefHead.{BeefHead}
 use Rattle.format.specs.declared.beef.EntryHead.{EntryHead}
 use Rattle.format.specs.declared.beef.Anchor.{Anchor}
@@ -371,7 +371,7 @@ module _ (s roots : List ℕ) (fee room : ℕ) where
     work-roots h = simp (le-leb _ _ fits, ne-eqb _ _ h)
 
     module _ (even : length roots % 32 ≡ 0) where
-      pub work-refused : (x : Refusal) → each beefHeadOf (beefWhole room s) ≡ fault (x .number) (x .place) → 0 ≡ judgeWork s roots fee room
+      pub work-refused : (x : ReadRefusal) → each beefHeadOf (beefWhole room s) ≡ fault (x .number) (x .place) → 0 ≡ judgeWork s roots fee room
       unfolding judgeWork readWork
       work-refused x e = simp (le-leb _ _ fits, eq-eqb _ _ even, each-fault beefHeadOf (beefWhole room s) e)
 

@@ -13,7 +13,7 @@ use format::TscHead;
 use format::read_node;
 use format::refusal::BAD_HEIGHT;
 use format::refusal::NO_ROOM;
-use format::refusal::Refusal;
+use format::refusal::ReadRefusal;
 use spv::Outcome;
 ghost use mathlib.Core.Path.{_≡_};
 ghost use mathlib.Core.List.{List, [], _∷_};
@@ -197,7 +197,7 @@ fn write_proved(s: &[u8], head: TscHead, id: [u8; 32], block: u32, out: &mut [u8
     let i = head.index;
     if n == 0 {
         let place = node_count_at(head);
-        return refuse(spv::reject_reading(Refusal {
+        return refuse(spv::reject_reading(ReadRefusal {
             number: BAD_HEIGHT,
             place,
         }));

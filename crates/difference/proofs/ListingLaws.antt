@@ -6,7 +6,7 @@ use Prim.Native.Nat.{ℕ, _+_, _*_, _/_, _<_, _≤_, min}
 use lib.ListN.{length, drop}
 use native.Mathlib.Omega.{arith}
 use borrow.Author.Tests.{le-leb, lt-leb}
-use Rattle.format.specs.declared.refusal.Refusal.{Refusal}
+use Rattle.format.specs.declared.refusal.ReadRefusal.{ReadRefusal}
 use Rattle.format.specs.declared.bump.BumpHead.{BumpHead}
 use Rattle.format.specs.Parse.{each, ok, fault}
 use Rattle.format.proofs.ParseLaws.{each-ok, each-fault}
@@ -24,11 +24,11 @@ use Rattle.difference.specs.Merge.{walkAll}
 use Rattle.difference.proofs.WalkTheorem.{told-all}
 
 module _ (a b : List ℕ) (room : ℕ) where
-  pub first-unread : (f : Refusal) → each headOf (bumpWhole a) ≡ fault (f .number) (f .place) → refused (refusedReading f) ≡ listDifferences a b room
+  pub first-unread : (f : ReadRefusal) → each headOf (bumpWhole a) ≡ fault (f .number) (f .place) → refused (refusedReading f) ≡ listDifferences a b room
   unfolding listDifferences
   first-unread f e = rw (each-fault headOf (bumpWhole a) e) refl
 
-  pub second-unread : {x : BumpHead} {q : ℕ} (f : Refusal) → each headOf (bumpWhole a) ≡ ok x q → each headOf (bumpWhole b) ≡ fault (f .number) (f .place)
+  pub second-unread : {x : BumpHead} {q : ℕ} (f : ReadRefusal) → each headOf (bumpWhole a) ≡ ok x q → each headOf (bumpWhole b) ≡ fault (f .number) (f .place)
       → refused (refusedReading f) ≡ listDifferences a b room
   unfolding listDifferences
   second-unread f e g = rw (each-ok headOf (bumpWhole a) e .1, each-fault headOf (bumpWhole b) g) refl

@@ -1,7 +1,7 @@
 -- A meaning that can be undone leaves one answer: the contract of a reading fixes what it returns.
 use mathlib.Core.Path.{_≡_, ap, sym, _∙_, refl}
 use Rattle.format.specs.declared.field.Cursor.{Cursor}
-use Rattle.format.specs.declared.refusal.Refusal.{Refusal}
+use Rattle.format.specs.declared.refusal.ReadRefusal.{ReadRefusal}
 use Rattle.format.specs.Parse.{Parse, ok, fault}
 use Rattle.format.specs.declared.bump.BumpAnswer.{BumpAnswer}
 use Rattle.format.specs.Bump.{bumpAnswer}
@@ -28,11 +28,11 @@ pub one-answer : {X P : Type 0} (meaning : X → P) (undo : P → X) → ((x : X
 one-answer meaning undo undone a b e = sym (undone a) ∙ ap undo e ∙ undone b
 
 -- every answer of a reading is a value with its cursor, or a refusal
-abbrev pub rebuilt : {X A : Type 0} → (A → Cursor → X) → (Refusal → X) → Parse A → X
+abbrev pub rebuilt : {X A : Type 0} → (A → Cursor → X) → (ReadRefusal → X) → Parse A → X
 rebuilt value refused (ok a at) = value a (record { at = at })
 rebuilt value refused (fault n at) = refused (record { number = n; place = at })
 
-pub one-reading : {X A : Type 0} (meaning : X → Parse A) (value : A → Cursor → X) (refused : Refusal → X) → ((x : X) → rebuilt value refused (meaning x) ≡ x)
+pub one-reading : {X A : Type 0} (meaning : X → Parse A) (value : A → Cursor → X) (refused : ReadRefusal → X) → ((x : X) → rebuilt value refused (meaning x) ≡ x)
     → (a b : X) → meaning a ≡ meaning b → a ≡ b
 one-reading meaning value refused = one-answer meaning (rebuilt value refused)
 

@@ -3,7 +3,7 @@ use mathlib.Core.List.{List, [], _∷_, map}
 use Prim.Native.Nat.{ℕ}
 use lib.ListN.{length, replicate}
 use lib.Dec.{leb}
-use Rattle.format.specs.declared.refusal.Refusal.{Refusal}
+use Rattle.format.specs.declared.refusal.ReadRefusal.{ReadRefusal}
 use Rattle.format.specs.declared.bump.BumpHead.{BumpHead}
 use Rattle.format.specs.declared.transaction.Items.{Items}
 use Rattle.format.specs.declared.beef.Anchor.{Anchor}
@@ -23,7 +23,7 @@ abbrev pub anchorAnswer : AnchorAnswer → Parse Anchor
 anchorAnswer (AnchorAnswer.Value v c) = ok v (c .at)
 anchorAnswer (AnchorAnswer.Refused r) = fault (r .number) (r .place)
 
-abbrev pub refusalOfAnchor : AnchorAnswer → Refusal
+abbrev pub refusalOfAnchor : AnchorAnswer → ReadRefusal
 refusalOfAnchor (AnchorAnswer.Value v c) = record { number = 0; place = 0 }
 refusalOfAnchor (AnchorAnswer.Refused r) = r
 
@@ -35,7 +35,7 @@ abbrev pub entryAnswer : EntryAnswer → Parse EntryHead
 entryAnswer (EntryAnswer.Value v c) = ok v (c .at)
 entryAnswer (EntryAnswer.Refused r) = fault (r .number) (r .place)
 
-abbrev pub refusalOfEntry : EntryAnswer → Refusal
+abbrev pub refusalOfEntry : EntryAnswer → ReadRefusal
 refusalOfEntry (EntryAnswer.Value v c) = record { number = 0; place = 0 }
 refusalOfEntry (EntryAnswer.Refused r) = r
 
@@ -55,7 +55,7 @@ abbrev pub beefAnswer : BeefAnswer → Parse BeefHead
 beefAnswer (BeefAnswer.Value v c) = ok v (c .at)
 beefAnswer (BeefAnswer.Refused r) = fault (r .number) (r .place)
 
-abbrev pub refusalOfBeef : BeefAnswer → Refusal
+abbrev pub refusalOfBeef : BeefAnswer → ReadRefusal
 refusalOfBeef (BeefAnswer.Value v c) = record { number = 0; place = 0 }
 refusalOfBeef (BeefAnswer.Refused r) = r
 

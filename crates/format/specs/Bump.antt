@@ -7,7 +7,7 @@ use Rattle.format.specs.declared.level.Layout.{Layout}
 use Rattle.format.specs.declared.leaf.Leaf.{Leaf}
 use Rattle.format.specs.declared.bump.BumpHead.{BumpHead}
 use Rattle.format.specs.declared.bump.BumpAnswer.{BumpAnswer}
-use Rattle.format.specs.declared.refusal.Refusal.{Refusal}
+use Rattle.format.specs.declared.refusal.ReadRefusal.{ReadRefusal}
 use Rattle.format.specs.Parse.{Parse, Reader, pure, here, _>>=_, _passing_else_, whole, ok, fault}
 use Rattle.format.specs.Field.{byte, varint}
 use Rattle.format.specs.Level.{levelFields, total}
@@ -54,6 +54,6 @@ abbrev pub bumpAnswer : BumpAnswer → Parse BumpHead
 bumpAnswer (BumpAnswer.Value v c) = ok v (c .at)
 bumpAnswer (BumpAnswer.Refused r) = fault (r .number) (r .place)
 
-abbrev pub refusalOfBump : BumpAnswer → Refusal
+abbrev pub refusalOfBump : BumpAnswer → ReadRefusal
 refusalOfBump (BumpAnswer.Value v c) = record { number = 0; place = 0 }
 refusalOfBump (BumpAnswer.Refused r) = r

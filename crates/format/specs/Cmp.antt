@@ -6,7 +6,7 @@ use Rattle.format.specs.declared.level.Layout.{Layout}
 use Rattle.format.specs.declared.leaf.Leaf.{Leaf}
 use Rattle.format.specs.declared.cmp.CmpHead.{CmpHead}
 use Rattle.format.specs.declared.cmp.CmpAnswer.{CmpAnswer}
-use Rattle.format.specs.declared.refusal.Refusal.{Refusal}
+use Rattle.format.specs.declared.refusal.ReadRefusal.{ReadRefusal}
 use Rattle.format.specs.Parse.{Parse, Reader, pure, here, _>>=_, _passing_else_, whole, ok, fault}
 use Rattle.format.specs.Field.{byte}
 use Rattle.format.specs.Level.{levelFields, total}
@@ -48,6 +48,6 @@ abbrev pub cmpAnswer : CmpAnswer → Parse CmpHead
 cmpAnswer (CmpAnswer.Value v c) = ok v (c .at)
 cmpAnswer (CmpAnswer.Refused r) = fault (r .number) (r .place)
 
-abbrev pub refusalOfCmp : CmpAnswer → Refusal
+abbrev pub refusalOfCmp : CmpAnswer → ReadRefusal
 refusalOfCmp (CmpAnswer.Value v c) = record { number = 0; place = 0 }
 refusalOfCmp (CmpAnswer.Refused r) = r

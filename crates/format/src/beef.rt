@@ -16,7 +16,7 @@ use super::refusal::EMPTY;
 use super::refusal::EXTRA;
 use super::refusal::NO_ROOM;
 use super::refusal::OVER_LIMIT;
-use super::refusal::Refusal;
+use super::refusal::ReadRefusal;
 use super::refusal::TOO_LONG;
 use super::transaction::Items;
 use super::transaction::ItemsAnswer;
@@ -57,16 +57,16 @@ pub enum Anchor {
 
 pub enum AnchorAnswer {
     Value(Anchor, Cursor),
-    Refused(Refusal),
+    Refused(ReadRefusal),
 }
 
 impl AnchorAnswer {
-    pub fn refusal(self) -> Refusal
+    pub fn refusal(self) -> ReadRefusal
         ensures { λ r. ⌜ r ≡ refusalOfAnchor self ⌝ }
     {
         match self {
             AnchorAnswer::Refused(x) => x,
-            AnchorAnswer::Value(_, _) => Refusal {
+            AnchorAnswer::Value(_, _) => ReadRefusal {
                 number: 0,
                 place: 0,
             },
@@ -82,16 +82,16 @@ pub struct EntryHead {
 
 pub enum EntryAnswer {
     Value(EntryHead, Cursor),
-    Refused(Refusal),
+    Refused(ReadRefusal),
 }
 
 impl EntryAnswer {
-    pub fn refusal(self) -> Refusal
+    pub fn refusal(self) -> ReadRefusal
         ensures { λ r. ⌜ r ≡ refusalOfEntry self ⌝ }
     {
         match self {
             EntryAnswer::Refused(x) => x,
-            EntryAnswer::Value(_, _) => Refusal {
+            EntryAnswer::Value(_, _) => ReadRefusal {
                 number: 0,
                 place: 0,
             },
@@ -108,16 +108,16 @@ pub struct BeefHead {
 
 pub enum BeefAnswer {
     Value(BeefHead, Cursor),
-    Refused(Refusal),
+    Refused(ReadRefusal),
 }
 
 impl BeefAnswer {
-    pub fn refusal(self) -> Refusal
+    pub fn refusal(self) -> ReadRefusal
         ensures { λ r. ⌜ r ≡ refusalOfBeef self ⌝ }
     {
         match self {
             BeefAnswer::Refused(x) => x,
-            BeefAnswer::Value(_, _) => Refusal {
+            BeefAnswer::Value(_, _) => ReadRefusal {
                 number: 0,
                 place: 0,
             },
@@ -131,7 +131,7 @@ pub struct Bundle {
     pub bumps: [BumpHead; Beef::MAX_BUMPS],
 }
 
-fn refused_bundle(refusal: Refusal) -> Bundle
+fn refused_bundle(refusal: ReadRefusal) -> Bundle
     ensures { λ r. ⌜ r ≡ record { answer = BeefAnswer.Refused refusal; bumps = noBumps } ⌝ }
 {
     let bumps = no_bumps();
@@ -152,7 +152,7 @@ fn read_version(s: &[u8], c: Cursor) -> Number
     if version == Beef::VERSION {
         return field;
     }
-    Number::Refused(Refusal {
+    Number::Refused(ReadRefusal {
         number: BAD_VERSION,
         place: at,
     })
@@ -167,19 +167,19 @@ fn read_tx_count(s: &[u8], c: Cursor, room: usize) -> Number
         return field;
     };
     if Beef::MAX_TRANSACTIONS < count as usize {
-        return Number::Refused(Refusal {
+        return Number::Refused(ReadRefusal {
             number: OVER_LIMIT,
             place: at,
         });
     }
     if count < 1 {
-        return Number::Refused(Refusal {
+        return Number::Refused(ReadRefusal {
             number: EMPTY,
             place: at,
         });
     }
     if room < count as usize {
-        return Number::Refused(Refusal {
+        return Number::Refused(ReadRefusal {
             number: NO_ROOM,
             place: at,
         });
@@ -196,7 +196,7 @@ fn read_bump_number(s: &[u8], c: Cursor, bumps: u64) -> Number
         return field;
     };
     if bumps <= number {
-        return Number::Refused(Refusal {
+        return Number::Refused(ReadRefusal {
             number: BAD_INDEX,
             place: at,
         });
@@ -213,7 +213,7 @@ fn read_anchor(s: &[u8], c: Cursor, bumps: u64) -> AnchorAnswer
         return AnchorAnswer::Refused(first.refusal());
     };
     if 1 < mark {
-        return AnchorAnswer::Refused(Refusal {
+        return AnchorAnswer::Refused(ReadRefusal {
             number: BAD_FLAG,
             place: at,
         });
@@ -284,7 +284,7 @@ fn open_beef(s: &[u8]) -> Number
     ensures { λ r. ⌜ numberOf r ≡ opened (now (s .entry)) ⌝ }
 {
     if MAX_INPUT < s.len() {
-        return Number::Refused(Refusal {
+        return Number::Refused(ReadRefusal {
             number: TOO_LONG,
             place: 0,
         });
@@ -305,7 +305,7 @@ fn close_beef(s: &[u8], first: Number, room: usize) -> BeefAnswer
     };
     let at = next.at;
     if at < s.len() {
-        return BeefAnswer::Refused(Refusal {
+        return BeefAnswer::Refused(ReadRefusal {
             number: EXTRA,
             place: at,
         });

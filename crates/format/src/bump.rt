@@ -8,7 +8,7 @@ use super::level::read_levels;
 use super::refusal::BAD_HEIGHT;
 use super::refusal::EXTRA;
 use super::refusal::OVER_LIMIT;
-use super::refusal::Refusal;
+use super::refusal::ReadRefusal;
 use super::refusal::TOO_LONG;
 use hash::MAX_INPUT;
 ghost use mathlib.Core.Path.{_≡_};
@@ -41,16 +41,16 @@ pub struct BumpHead {
 
 pub enum BumpAnswer {
     Value(BumpHead, Cursor),
-    Refused(Refusal),
+    Refused(ReadRefusal),
 }
 
 impl BumpAnswer {
-    pub fn refusal(self) -> Refusal
+    pub fn refusal(self) -> ReadRefusal
         ensures { λ r. ⌜ r ≡ refusalOfBump self ⌝ }
     {
         match self {
             BumpAnswer::Refused(x) => x,
-            BumpAnswer::Value(_, _) => Refusal {
+            BumpAnswer::Value(_, _) => ReadRefusal {
                 number: 0,
                 place: 0,
             },
@@ -67,7 +67,7 @@ fn read_block(s: &[u8], c: Cursor) -> Number
         return field;
     };
     if Bump::MAX_BLOCK < block {
-        return Number::Refused(Refusal {
+        return Number::Refused(ReadRefusal {
             number: OVER_LIMIT,
             place: at,
         });
@@ -84,13 +84,13 @@ fn read_height(s: &[u8], c: Cursor) -> Number
         return field;
     };
     if height < 1 {
-        return Number::Refused(Refusal {
+        return Number::Refused(ReadRefusal {
             number: BAD_HEIGHT,
             place: at,
         });
     }
     if Bump::MAX_HEIGHT < height {
-        return Number::Refused(Refusal {
+        return Number::Refused(ReadRefusal {
             number: BAD_HEIGHT,
             place: at,
         });
@@ -128,7 +128,7 @@ pub fn read_bump(s: &[u8]) -> BumpAnswer
     ensures { λ r. ⌜ bumpAnswer r ≡ each headOf (bumpWhole (now (s .entry))) ⌝ }
 {
     if MAX_INPUT < s.len() {
-        return BumpAnswer::Refused(Refusal {
+        return BumpAnswer::Refused(ReadRefusal {
             number: TOO_LONG,
             place: 0,
         });
@@ -139,7 +139,7 @@ pub fn read_bump(s: &[u8]) -> BumpAnswer
     };
     let at = next.at;
     if at < s.len() {
-        return BumpAnswer::Refused(Refusal {
+        return BumpAnswer::Refused(ReadRefusal {
             number: EXTRA,
             place: at,
         });

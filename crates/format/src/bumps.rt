@@ -7,7 +7,7 @@ use super::field::Cursor;
 use super::field::Number;
 use super::field::read_varint;
 use super::refusal::OVER_LIMIT;
-use super::refusal::Refusal;
+use super::refusal::ReadRefusal;
 ghost use mathlib.Core.Path.{_≡_};
 ghost use Prim.Native.Nat.{_≤_};
 ghost use lib.ListN.{length};
@@ -58,7 +58,7 @@ fn read_bump_count(s: &[u8], c: Cursor) -> Number
         return field;
     };
     if Beef::MAX_BUMPS < count as usize {
-        return Number::Refused(Refusal {
+        return Number::Refused(ReadRefusal {
             number: OVER_LIMIT,
             place: at,
         });

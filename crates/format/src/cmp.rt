@@ -7,7 +7,7 @@ use super::level::Layout;
 use super::level::read_levels;
 use super::refusal::BAD_HEIGHT;
 use super::refusal::EXTRA;
-use super::refusal::Refusal;
+use super::refusal::ReadRefusal;
 use super::refusal::TOO_LONG;
 use hash::MAX_INPUT;
 ghost use mathlib.Core.Path.{_≡_};
@@ -38,16 +38,16 @@ pub struct CmpHead {
 
 pub enum CmpAnswer {
     Value(CmpHead, Cursor),
-    Refused(Refusal),
+    Refused(ReadRefusal),
 }
 
 impl CmpAnswer {
-    pub fn refusal(self) -> Refusal
+    pub fn refusal(self) -> ReadRefusal
         ensures { λ r. ⌜ r ≡ refusalOfCmp self ⌝ }
     {
         match self {
             CmpAnswer::Refused(x) => x,
-            CmpAnswer::Value(_, _) => Refusal {
+            CmpAnswer::Value(_, _) => ReadRefusal {
                 number: 0,
                 place: 0,
             },
@@ -64,7 +64,7 @@ fn read_top(s: &[u8], c: Cursor) -> Number
         return field;
     };
     if Cmp::MAX_TOP < top {
-        return Number::Refused(Refusal {
+        return Number::Refused(ReadRefusal {
             number: BAD_HEIGHT,
             place: at,
         });
@@ -98,7 +98,7 @@ pub fn read_cmp(s: &[u8]) -> CmpAnswer
     ensures { λ r. ⌜ cmpAnswer r ≡ each cmpHeadOf (cmpWhole (now (s .entry))) ⌝ }
 {
     if MAX_INPUT < s.len() {
-        return CmpAnswer::Refused(Refusal {
+        return CmpAnswer::Refused(ReadRefusal {
             number: TOO_LONG,
             place: 0,
         });
@@ -109,7 +109,7 @@ pub fn read_cmp(s: &[u8]) -> CmpAnswer
     };
     let at = next.at;
     if at < s.len() {
-        return CmpAnswer::Refused(Refusal {
+        return CmpAnswer::Refused(ReadRefusal {
             number: EXTRA,
             place: at,
         });

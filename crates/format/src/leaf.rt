@@ -10,7 +10,7 @@ use super::level::SLOTS;
 use super::refusal::BAD_FLAG;
 use super::refusal::BAD_OFFSET;
 use super::refusal::REPEATED;
-use super::refusal::Refusal;
+use super::refusal::ReadRefusal;
 ghost use mathlib.Core.Path.{_≡_};
 ghost use mathlib.Core.List.{[]};
 ghost use Prim.Native.Nat.{_+_, _<_};
@@ -34,16 +34,16 @@ pub struct Leaf {
 
 pub enum KindAnswer {
     Value(Kind, Cursor),
-    Refused(Refusal),
+    Refused(ReadRefusal),
 }
 
 impl KindAnswer {
-    pub fn refusal(self) -> Refusal
+    pub fn refusal(self) -> ReadRefusal
         ensures { λ r. ⌜ r ≡ refusalOfKind self ⌝ }
     {
         match self {
             KindAnswer::Refused(x) => x,
-            KindAnswer::Value(_, _) => Refusal {
+            KindAnswer::Value(_, _) => ReadRefusal {
                 number: 0,
                 place: 0,
             },
@@ -76,7 +76,7 @@ pub(crate) fn read_bounded(s: &[u8], c: Cursor, greatest: u64) -> Number
         return field;
     };
     if greatest < offset {
-        return Number::Refused(Refusal {
+        return Number::Refused(ReadRefusal {
             number: BAD_OFFSET,
             place: at,
         });
@@ -96,7 +96,7 @@ fn read_offset(s: &[u8], c: Cursor, greatest: u64, seen: &[u64], slots: &[u8]) -
     };
     if slots[offset as usize % SLOTS] != 0 {
         if contains(seen, offset) {
-            return Number::Refused(Refusal {
+            return Number::Refused(ReadRefusal {
                 number: REPEATED,
                 place: at,
             });
@@ -131,7 +131,7 @@ fn read_flag(s: &[u8], c: Cursor, level: u64, offset: u64) -> Number
     if flag_allowed(level, offset, flag) {
         return field;
     }
-    Number::Refused(Refusal {
+    Number::Refused(ReadRefusal {
         number: BAD_FLAG,
         place: at,
     })

@@ -7,7 +7,7 @@ use super::leaf::read_carried;
 use super::leaf::read_leaf;
 use super::refusal::OVER_LIMIT;
 use super::refusal::REPEATED;
-use super::refusal::Refusal;
+use super::refusal::ReadRefusal;
 ghost use mathlib.Core.Path.{_≡_};
 ghost use mathlib.Core.List.{[]};
 ghost use Prim.Native.Nat.{_+_, _≤_, _<_, _^_};
@@ -71,7 +71,7 @@ fn read_above(s: &[u8], c: Cursor, layout: Layout, level: u64, greatest: u64, le
         return first;
     };
     if offset < least {
-        return Number::Refused(Refusal {
+        return Number::Refused(ReadRefusal {
             number: REPEATED,
             place: at,
         });
@@ -120,7 +120,7 @@ fn read_level(s: &[u8], c: Cursor, layout: Layout, level: u64, greatest: u64) ->
         return field;
     };
     if (Layout::MAX_LEAVES as u64) < count {
-        return Number::Refused(Refusal {
+        return Number::Refused(ReadRefusal {
             number: OVER_LIMIT,
             place: at,
         });

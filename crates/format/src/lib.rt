@@ -50,7 +50,7 @@ pub use leaf::read_kind;
 pub use level::Layout;
 pub use level::level_in_turn;
 pub use node::read_node;
-pub use refusal::Refusal;
+pub use refusal::ReadRefusal;
 pub use transaction::Input;
 pub use transaction::InputAnswer;
 pub use transaction::Items;

@@ -5,7 +5,7 @@ use super::field::one_byte;
 use super::leaf::KindAnswer;
 use super::leaf::read_kind;
 use super::refusal::BAD_FLAG;
-use super::refusal::Refusal;
+use super::refusal::ReadRefusal;
 ghost use mathlib.Core.Path.{_≡_};
 ghost use Rattle.format.specs.LevelAnswer.{kindOf};
 ghost use Rattle.format.specs.Node.{nodeField};
@@ -20,7 +20,7 @@ pub fn read_node(s: &[u8], c: Cursor) -> KindAnswer
         return KindAnswer::Refused(first.refusal());
     };
     if 1 < kind {
-        return KindAnswer::Refused(Refusal {
+        return KindAnswer::Refused(ReadRefusal {
             number: BAD_FLAG,
             place: at,
         });

@@ -13,7 +13,7 @@ use super::refusal::BAD_OFFSET;
 use super::refusal::BAD_TX;
 use super::refusal::EXTRA;
 use super::refusal::OVER_LIMIT;
-use super::refusal::Refusal;
+use super::refusal::ReadRefusal;
 use super::refusal::TOO_LONG;
 use super::transaction::Items;
 use super::transaction::ItemsAnswer;
@@ -50,16 +50,16 @@ pub enum Subject {
 
 pub enum SubjectAnswer {
     Value(Subject, Cursor),
-    Refused(Refusal),
+    Refused(ReadRefusal),
 }
 
 impl SubjectAnswer {
-    pub fn refusal(self) -> Refusal
+    pub fn refusal(self) -> ReadRefusal
         ensures { λ r. ⌜ r ≡ refusalOfSubject self ⌝ }
     {
         match self {
             SubjectAnswer::Refused(x) => x,
-            SubjectAnswer::Value(_, _) => Refusal {
+            SubjectAnswer::Value(_, _) => ReadRefusal {
                 number: 0,
                 place: 0,
             },
@@ -88,16 +88,16 @@ impl TscHead {
 
 pub enum TscAnswer {
     Value(TscHead, Cursor),
-    Refused(Refusal),
+    Refused(ReadRefusal),
 }
 
 impl TscAnswer {
-    pub fn refusal(self) -> Refusal
+    pub fn refusal(self) -> ReadRefusal
         ensures { λ r. ⌜ r ≡ refusalOfTsc self ⌝ }
     {
         match self {
             TscAnswer::Refused(x) => x,
-            TscAnswer::Value(_, _) => Refusal {
+            TscAnswer::Value(_, _) => ReadRefusal {
                 number: 0,
                 place: 0,
             },
@@ -114,13 +114,13 @@ fn read_flags(s: &[u8], c: Cursor) -> Number
         return field;
     };
     if 8 <= flags {
-        return Number::Refused(Refusal {
+        return Number::Refused(ReadRefusal {
             number: BAD_FLAG,
             place: at,
         });
     }
     if flags & 6 == 6 {
-        return Number::Refused(Refusal {
+        return Number::Refused(ReadRefusal {
             number: BAD_FLAG,
             place: at,
         });
@@ -138,7 +138,7 @@ fn exact_transaction(s: &[u8], c: Cursor, n: usize) -> SubjectAnswer
     };
     let field = tx_at(s, Cursor { at: start });
     let TxAnswer::Value(head, next) = field else {
-        return SubjectAnswer::Refused(Refusal {
+        return SubjectAnswer::Refused(ReadRefusal {
             number: BAD_TX,
             place: start,
         });
@@ -146,7 +146,7 @@ fn exact_transaction(s: &[u8], c: Cursor, n: usize) -> SubjectAnswer
     let stated = end.at;
     let found = next.at;
     if found != stated {
-        return SubjectAnswer::Refused(Refusal {
+        return SubjectAnswer::Refused(ReadRefusal {
             number: BAD_TX,
             place: start,
         });
@@ -206,7 +206,7 @@ fn read_node_count(s: &[u8], c: Cursor) -> Number
         return field;
     };
     if Tsc::MAX_NODES < count {
-        return Number::Refused(Refusal {
+        return Number::Refused(ReadRefusal {
             number: OVER_LIMIT,
             place: at,
         });
@@ -239,7 +239,7 @@ fn all_nodes(s: &[u8], c: Cursor, index: u64, index_at: usize) -> ItemsAnswer
         return ItemsAnswer::Refused(first.refusal());
     };
     if !index_fits(index, wanted) {
-        return ItemsAnswer::Refused(Refusal {
+        return ItemsAnswer::Refused(ReadRefusal {
             number: BAD_OFFSET,
             place: index_at,
         });
@@ -294,7 +294,7 @@ pub fn read_tsc(s: &[u8]) -> TscAnswer
     ensures { λ r. ⌜ tscAnswer r ≡ each tscHeadOf (tscWhole (now (s .entry))) ⌝ }
 {
     if MAX_INPUT < s.len() {
-        return TscAnswer::Refused(Refusal {
+        return TscAnswer::Refused(ReadRefusal {
             number: TOO_LONG,
             place: 0,
         });
@@ -305,7 +305,7 @@ pub fn read_tsc(s: &[u8]) -> TscAnswer
     };
     let at = next.at;
     if at < s.len() {
-        return TscAnswer::Refused(Refusal {
+        return TscAnswer::Refused(ReadRefusal {
             number: EXTRA,
             place: at,
         });

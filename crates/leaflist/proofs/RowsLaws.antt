@@ -8,7 +8,7 @@ use native.Mathlib.Omega.{arith}
 use native.Mathlib.Numerals.{add-one}
 use borrow.Author.Tests.{le-leb, lt-leb}
 use Rattle.format.specs.declared.leaf.Leaf.{Leaf}
-use Rattle.format.specs.declared.refusal.Refusal.{Refusal}
+use Rattle.format.specs.declared.refusal.ReadRefusal.{ReadRefusal}
 use Rattle.format.specs.declared.bump.BumpHead.{BumpHead}
 use Rattle.format.proofs.Basics.{one-less}
 use Rattle.format.specs.Parse.{each, ok, fault}
@@ -125,7 +125,7 @@ pub list-made : (s : List ℕ) {b : Bump} {q : ℕ} → bumpWhole s ≡ ok b q �
 list-made s {b} e = list-same s (b .height) 0 (b .start) (b .levels) (read s e)
 
 module _ (s : List ℕ) (room : ℕ) where
-  pub unread : (f : Refusal) → each headOf (bumpWhole s) ≡ fault (f .number) (f .place) → refused (refusedReading f) ≡ building s room
+  pub unread : (f : ReadRefusal) → each headOf (bumpWhole s) ≡ fault (f .number) (f .place) → refused (refusedReading f) ≡ building s room
   unfolding building
   unread f e = rw (each-fault headOf (bumpWhole s) e) refl
 

@@ -4,7 +4,7 @@ mod text;
 
 use encoding::buffer::write;
 use format::BumpAnswer;
-use format::Refusal;
+use format::ReadRefusal;
 use format::read_bump;
 use format::refusal::TOO_LONG;
 use lines::number_line;
@@ -45,7 +45,7 @@ pub fn list(s: &[u8], out: &mut [u8]) -> usize
     if LISTED_BYTES < s.len() {
         return write_refusal(
             out,
-            Refusal {
+            ReadRefusal {
                 number: TOO_LONG,
                 place: 0,
             },

@@ -7,7 +7,7 @@ use format::Kind;
 use format::Layout;
 use format::Leaf;
 use format::Number;
-use format::Refusal;
+use format::ReadRefusal;
 use format::hash_at;
 use format::read_varint;
 use path::LeafAnswer;
@@ -45,7 +45,7 @@ fn pair_line(out: &mut [u8], at: usize, first: &[u8], a: u64, second: &[u8], b: 
     write(out, next, b"\n")
 }
 
-pub fn write_refusal(out: &mut [u8], refusal: Refusal) -> usize
+pub fn write_refusal(out: &mut [u8], refusal: ReadRefusal) -> usize
     ensures { λ r. ⌜ buffer (now (out .exit)) r ≡ writeOn (buffer (now (out .entry)) 0) (refusedLine (refusal .number) (refusal .place)) ⌝ }
 {
     let number = refusal.number;

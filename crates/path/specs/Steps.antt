@@ -2,7 +2,7 @@
 use mathlib.Core.Path.{_≡_}
 use mathlib.Core.List.{List}
 use Prim.Native.Nat.{ℕ}
-use Rattle.format.specs.declared.refusal.Refusal.{Refusal}
+use Rattle.format.specs.declared.refusal.ReadRefusal.{ReadRefusal}
 use Rattle.format.specs.declared.leaf.Leaf.{Leaf}
 use Rattle.format.specs.declared.leaf.Kind.{Kind}
 use Rattle.path.specs.declared.walk.Step.{Step}
@@ -24,6 +24,6 @@ Tells Step.Stuck r = (n : ℕ) × (q : ℕ) × (r ≡ fault n q)
 abbrev pub kindThere : Parse Leaf → Found
 kindThere p = otherwise p Found.Missing (λ leaf _. Found.Here (leaf .kind))
 
-abbrev pub refusalAt : Parse Leaf → Refusal
+abbrev pub refusalAt : Parse Leaf → ReadRefusal
 refusalAt (ok leaf at) = record { number = 0; place = 0 }
 refusalAt (fault n at) = record { number = n; place = at }

@@ -9,7 +9,7 @@ use format::one_byte;
 use format::read_kind;
 use format::read_run;
 use format::read_varint;
-use format::refusal::Refusal;
+use format::refusal::ReadRefusal;
 ghost use mathlib.Core.Path.{_≡_};
 ghost use lib.ListN.{length};
 ghost use Rattle.format.specs.Parse.{each, times};
@@ -22,16 +22,16 @@ ghost use Rattle.path.specs.LeafAnswer.{leafOf, refusalOfLeaf};
 
 pub enum LeafAnswer {
     Value(Leaf, Cursor),
-    Refused(Refusal),
+    Refused(ReadRefusal),
 }
 
 impl LeafAnswer {
-    pub fn refusal(self) -> Refusal
+    pub fn refusal(self) -> ReadRefusal
         ensures { λ r. ⌜ r ≡ refusalOfLeaf self ⌝ }
     {
         match self {
             LeafAnswer::Refused(x) => x,
-            LeafAnswer::Value(_, _) => Refusal {
+            LeafAnswer::Value(_, _) => ReadRefusal {
                 number: 0,
                 place: 0,
             },

@@ -1,7 +1,7 @@
 -- What a call comes to: accepted with a value, or refused.
 use Prim.Native.Nat.{ℕ}
 use Rattle.format.specs.Parse.{Parse, ok, fault}
-use Rattle.format.specs.declared.refusal.Refusal.{Refusal}
+use Rattle.format.specs.declared.refusal.ReadRefusal.{ReadRefusal}
 use Rattle.spv.specs.declared.rejection.Rejection.{Rejection}
 
 pub data Result (A : Type 0) : Type 0 where
@@ -17,7 +17,7 @@ abbrev pub atSibling : ℕ → ℕ → ℕ → Rejection
 atSibling number k q = record { number = number; carried = 0; layer = k; sibling = q }
 
 -- a refusal of reading carries its place
-abbrev pub refusedReading : Refusal → Rejection
+abbrev pub refusedReading : ReadRefusal → Rejection
 refusedReading f = carrying (f .number) (f .place)
 
 -- what was read, and what it comes to

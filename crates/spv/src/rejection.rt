@@ -1,9 +1,9 @@
 // Refusals as calls answer them (specs/Result.antt).
-use format::Refusal;
+use format::ReadRefusal;
 ghost use mathlib.Core.Path.{_≡_};
 ghost use Rattle.spv.specs.Result.{carrying, refusedReading};
 
-// The number; what it carries, a place, a transaction's number or 0; for 14 and 15 the layer and the position there of the sibling that is
+// A call's refusal: the number; what it carries, a place, a transaction's number or 0; for 14 and 15 the layer and the position there of the sibling that is
 // missing or a twin, 0 in both for all others.
 pub struct Rejection {
     pub number: u8,
@@ -25,7 +25,7 @@ pub fn reject(number: u8) -> Rejection
 }
 
 // A refusal of reading.
-pub fn reject_reading(refusal: Refusal) -> Rejection
+pub fn reject_reading(refusal: ReadRefusal) -> Rejection
     ensures { λ r. ⌜ r ≡ refusedReading refusal ⌝ }
 {
     Rejection {
