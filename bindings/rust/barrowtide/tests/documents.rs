@@ -89,7 +89,9 @@ fn the_wrong_programs_that_are_told_are_those_that_are_tried() {
             "{of}/{name} is not told"
         );
     }
+    let crates = Path::new(TOP).join("crates");
     for (of, name) in told.iter().filter_map(|t| t.split_once('/')) {
-        assert!(tried.iter().any(|(c, n)| c == of && n == name), "{of}/{name} is not tried");
+        let tried = tried.iter().any(|(c, n)| c == of && n == name);
+        assert!(tried || !crates.join(of).is_dir(), "{of}/{name} is not tried");
     }
 }
