@@ -274,6 +274,64 @@ fn gate() {
     accepted(&run(other));
 }
 
+/// Each wrong program of an edit has to be refused at a fact of its own function, and no other function.
+#[test]
+fn wrong_programs() {
+    let place = Place::new("wrong_programs");
+    place.write(
+        "crates/hash/must-fail/first.edit",
+        "# one\nprogram: exchanged in join\nfile: src/lib\nold: a\nnew: b\n\n\
+         # two\nprogram: turned in rounds::back\nfile: src/lib\nold: c\nnew: d\n",
+    );
+    let own =
+        |function: &str| format!("/t/proofs/{function}/Proof.antt:1:2: error: `returns`: no\n");
+    let rests = |function: &str| {
+        let why = "was not admitted (it has holes or undetermined implicits, or was rejected)";
+        let path = format!("/t/proofs/{function}/Proof.antt:3:4");
+        format!("{path}: error: `spec`: `returns` {why}, so this cannot be checked\n")
+    };
+    let shape = |function: &str| {
+        format!(
+            "/t/proofs/{function}/Proof.antt:1:2: error: `returns`: record `A` has no field `f`\n"
+        )
+    };
+    let look = |log: &str| {
+        place.write("target/must-fail/hash/first/.log", log);
+        let output = place.run(".ci/refusals", &[]);
+        assert_eq!(output.status.code(), Some(i32::from(!output.status.success())));
+        (output.status.success(), text(&output.stdout) + &text(&output.stderr))
+    };
+    let both = own("join") + &rests("join") + &own("rounds/back");
+    let good = "2 wrong programs, each refused at a fact of its own\n";
+    assert_eq!(look(&both), (true, good.into()));
+    // A caller of a wrong program; a cycle of calls; a function that has no proof file.
+    assert_eq!(look(&(both.clone() + &rests("all"))), (true, good.into()));
+    assert_eq!(look(&(own("join") + &own("rounds/+back+forth"))), (true, good.into()));
+    let found = "fn hash::join: no proof: expected `join-spec` in /t; `search` does not close it\n";
+    assert_eq!(look(&(found.to_owned() + &own("rounds/back"))), (true, good.into()));
+
+    for (log, said) in [
+        (own("join"), "hash/turned: not refused at a fact of its own: rounds::back"),
+        (own("join") + &rests("rounds/back"), "hash/turned: not refused"),
+        (own("join") + &shape("rounds/back"), "hash/turned: not refused"),
+        (own("join") + &own("back"), "hash/turned: not refused"),
+        (both.clone() + &own("all"), "no program is said to be wrong there: all"),
+        (
+            "fn hash::join: no proof: expected it; it calls `hash::f`, which is not proved\n"
+                .to_owned()
+                + &own("rounds/back"),
+            "hash/exchanged: not refused",
+        ),
+    ] {
+        let (fine, words) = look(&log);
+        assert!(!fine && words.contains(said), "{words}");
+    }
+    place.remove("target");
+    let untried = place.run(".ci/refusals", &["hash"]);
+    assert!(text(&untried.stderr).contains("hash/first was not tried"));
+    assert_eq!(untried.status.code(), Some(1));
+}
+
 /// A changed header takes no proof, changed sources do.
 #[test]
 fn renewed() {

@@ -12,7 +12,8 @@ pub const TOP: &str = concat!(env!("CARGO_MANIFEST_DIR"), "/../../..");
 pub const ARCHIVE: &str = barrowtide_sys::ARCHIVE;
 
 /// What the scripts are made of.
-const FILES: [&str; 8] = [
+const FILES: [&str; 9] = [
+    ".ci/refusals",
     ".ci/run",
     "barrowtide",
     "bindings/archive.sh",
