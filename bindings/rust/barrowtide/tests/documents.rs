@@ -74,8 +74,8 @@ fn the_wrong_programs_that_are_told_are_those_that_are_tried() {
         let folder = file.parent().and_then(Path::parent).expect("a crate");
         let of = folder.file_name().expect("a name").to_str().expect("text");
         for line in text(&file).lines() {
-            if let Some(rest) = line.strip_prefix("program: ") {
-                let (name, _) = rest.split_once(" in ").expect("program: NAME in FUNCTION ..");
+            if let Some(rest) = line.strip_prefix("# program: ") {
+                let (name, _) = rest.split_once(" in ").expect("# program: NAME in FUNCTION ..");
                 tried.push((of.to_owned(), name.to_owned()));
             }
         }

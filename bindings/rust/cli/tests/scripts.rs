@@ -280,8 +280,8 @@ fn wrong_programs() {
     let place = Place::new("wrong_programs");
     place.write(
         "crates/hash/must-fail/first.edit",
-        "# one\nprogram: exchanged in join\nfile: src/lib\nold: a\nnew: b\n\n\
-         # two\nprogram: turned in rounds::back\nfile: src/lib\nold: c\nnew: d\n",
+        "# one\n# program: exchanged in join\nfile: src/lib\nold: a\nnew: b\n\n\
+         # two\n# program: turned in rounds::back\nfile: src/lib\nold: c\nnew: d\n",
     );
     let own =
         |function: &str| format!("/t/proofs/{function}/Proof.antt:1:2: error: `returns`: no\n");
