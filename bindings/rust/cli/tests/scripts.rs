@@ -307,6 +307,7 @@ fn wrong_programs() {
     // A caller of a wrong program; a cycle of calls; a function that has no proof file.
     assert_eq!(look(&(both.clone() + &rests("all"))), (true, good.into()));
     assert_eq!(look(&(own("join") + &own("rounds/+back+forth"))), (true, good.into()));
+    assert_eq!(look(&(own("+all+join") + &own("rounds/+back"))), (true, good.into()));
     let found = "fn hash::join: no proof: expected `join-spec` in /t; `search` does not close it\n";
     assert_eq!(look(&(found.to_owned() + &own("rounds/back"))), (true, good.into()));
 
