@@ -1,5 +1,7 @@
 // The C interface; include/barrowtide.h has its prototypes. A call returns the number of its refusal, or 0; memory that it gives nothing for keeps its
 // content. What a refusal blames is a C struct of three 64-bit numbers, lent as an array of them.
+#![tactic(auto)]
+
 mod blame;
 pub mod convert;
 pub mod differences;

@@ -18,7 +18,7 @@ use spv::Rejection;
 const MAX_IDS: usize = 1024;
 
 // How many bytes were written, or a refusal.
-#[derive(Drop)]
+#[derive(Clone, Copy)]
 pub enum Written {
     Bytes(usize),
     Refused(Rejection),

@@ -14,7 +14,7 @@ use super::tree::node_at;
 use encoding::buffer::{put, varint_size, write, write_varint};
 
 // What is asked for at an offset.
-#[derive(Drop)]
+#[derive(Clone, Copy)]
 pub enum Asked {
     Nothing,
     Plain,
@@ -66,7 +66,7 @@ fn leaf_bytes(o: u64, a: Asked) -> usize
     }
 }
 
-#[derive(Drop)]
+#[derive(Clone, Copy)]
 pub struct Tally {
     pub leaves: u64,
     pub bytes: usize,

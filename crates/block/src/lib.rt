@@ -1,4 +1,6 @@
 // The BUMP of chosen positions of a block's ids.
+#![tactic(auto)]
+
 mod block;
 mod ids;
 mod level;

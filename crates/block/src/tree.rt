@@ -15,7 +15,7 @@ use lanes::Nodes;
 use spv::Rejection;
 
 // The least height of a tree that holds a list, and the places of its level 0.
-#[derive(Drop)]
+#[derive(Clone, Copy)]
 pub struct Shape {
     pub height: usize,
     pub width: usize,
@@ -145,7 +145,7 @@ pub(crate) fn build(ids: &[u8], heap: &mut [u8], height: usize, n: usize, top: u
 }
 
 // Where a climb ends: at the root, or refused for a twin.
-#[derive(Drop)]
+#[derive(Clone, Copy)]
 pub enum Climb {
     Free,
     Twin(Rejection),

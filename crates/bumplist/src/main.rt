@@ -1,4 +1,6 @@
 // Lists the BUMP on standard input (listing/specs/Listing.antt).
+#![tactic(auto)]
+
 ghost use Rattle.std.specs.Prelude.{◌≡◌, ◌≤◌, length, take};
 ghost use Rattle.listing.specs.Listing.{LISTING_ROOM, listing};
 

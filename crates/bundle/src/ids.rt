@@ -11,14 +11,14 @@ use lanes::Nodes;
 use spv::Span;
 
 // Where a transaction starts and ends, and the number of its BUMP.
-#[derive(Drop)]
+#[derive(Clone, Copy)]
 pub(crate) struct NamedSpan {
     start: usize,
     end: usize,
     anchor: u64,
 }
 
-#[derive(Drop)]
+#[derive(Clone, Copy)]
 pub(crate) struct Spans {
     a: NamedSpan,
     b: NamedSpan,
@@ -27,7 +27,7 @@ pub(crate) struct Spans {
 }
 
 // A transaction's place, where the next one is read, and whether there can be one.
-#[derive(Drop)]
+#[derive(Clone, Copy)]
 struct Reached {
     span: NamedSpan,
     next: Cursor,
@@ -35,7 +35,7 @@ struct Reached {
 }
 
 // The same of four transactions.
-#[derive(Drop)]
+#[derive(Clone, Copy)]
 struct Group {
     spans: Spans,
     next: Cursor,

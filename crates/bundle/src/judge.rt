@@ -33,14 +33,14 @@ pub(crate) const IDS_ROOM: usize = 8192;
 pub(crate) const NUMBERS_ROOM: usize = 2560;
 
 // What judging answers: the number of transactions, or a refusal.
-#[derive(Drop)]
+#[derive(Clone, Copy)]
 pub enum Verdict {
     Accepted(usize),
     Refused(Rejection),
 }
 
 // A verdict, and the SHA-256 block compressions of judging by the definition.
-#[derive(Drop)]
+#[derive(Clone, Copy)]
 pub struct Judged {
     pub verdict: Verdict,
     pub work: u64,
@@ -48,7 +48,7 @@ pub struct Judged {
 
 // How a transaction stands after the earlier ones: refused, or passed with what its record says of its anchor: 1, the number of its BUMP and its
 // position in the block, or 0, 0, 0.
-#[derive(Drop)]
+#[derive(Clone, Copy)]
 pub enum Ruling {
     Refuses(Rejection),
     Passes {

@@ -1,4 +1,6 @@
 // Judging a BEEF against a list of trusted roots, into a table that the caller lends.
+#![tactic(auto)]
+
 mod anchored;
 mod ids;
 mod judge;

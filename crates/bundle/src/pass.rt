@@ -19,7 +19,7 @@ const WINDOW: usize = 65536;
 const U32: u64 = 4294967296;
 
 // The first refusal: its number and its transaction, or 0 and 0.
-#[derive(Drop)]
+#[derive(Clone, Copy)]
 pub(crate) struct Fault {
     pub number: u8,
     pub entry: usize,
@@ -90,7 +90,7 @@ fn first_outputs(numbers: &[u64], n: usize) -> [u64; 257]
 }
 
 // What is reached after a window: the first transaction so far that spends an output again, and the next output.
-#[derive(Drop)]
+#[derive(Clone, Copy)]
 struct Reach {
     first: usize,
     walk: Walk,

@@ -30,7 +30,7 @@ pub(crate) fn outputs_total(s: &[u8], count: u64, start: Cursor) -> u64
 }
 
 // A place among the outputs of a bundle: the transaction, how many of its outputs are left, and where the next one is.
-#[derive(Drop)]
+#[derive(Clone, Copy)]
 pub(crate) struct Walk {
     pub entry: usize,
     pub left: u64,

@@ -27,7 +27,7 @@ use spv::{Status, climb_from, reject_reading};
 const ROWS_ROOM: usize = 8192;
 
 // What is wanted so far, and how many clients have not climbed yet.
-#[derive(Drop)]
+#[derive(Clone, Copy)]
 pub struct Waiting {
     pub want: Want,
     pub count: usize,

@@ -1,4 +1,6 @@
 // All climbs by one path at once: one pass over the tree, from the leaves to the root, makes each node's value once.
+#![tactic(auto)]
+
 mod all;
 mod clients;
 mod count;

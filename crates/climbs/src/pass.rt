@@ -11,7 +11,7 @@ use super::row::{above, advance, turn};
 use spv::{Node, NodeKind, absent_node, has_value, join_both};
 
 // A node's value, if it was asked for, and the joins that it cost.
-#[derive(Drop)]
+#[derive(Clone, Copy)]
 pub struct Known {
     pub known: bool,
     pub node: Node,

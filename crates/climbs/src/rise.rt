@@ -16,7 +16,7 @@ use lanes::Nodes;
 use spv::{Joined, failed, sibling_position};
 
 // What a row hashes at a layer, if it moves.
-#[derive(Drop)]
+#[derive(Clone, Copy)]
 pub struct Turn {
     pub moves: bool,
     pub joined: Joined,

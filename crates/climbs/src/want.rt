@@ -9,21 +9,21 @@ ghost use Rattle.spv.specs.Prove.{target_of, any, bound};
 use format::refusal::{NOT_LISTED, ROOTS_DIFFER};
 use spv::{Climbed, End, Rejection, Status, hits_target, reject};
 
-#[derive(Drop)]
+#[derive(Clone, Copy)]
 pub enum Agreement {
     Agreed,
     Refused(Rejection),
 }
 
 // The root that all clients come to; zero if refused.
-#[derive(Drop)]
+#[derive(Clone, Copy)]
 pub struct Checked {
     pub agreement: Agreement,
     pub root: [u8; 32],
 }
 
 // The root wanted of the next client, if it is bound to one; or a refusal.
-#[derive(Drop)]
+#[derive(Clone, Copy)]
 pub struct Want {
     pub status: Status,
     pub bound: bool,

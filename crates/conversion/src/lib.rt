@@ -1,4 +1,6 @@
 // A proof said in another form.
+#![tactic(auto)]
+
 mod from_tsc;
 mod to_tsc;
 

@@ -28,7 +28,7 @@ pub const SECOND: u64 = 4;
 pub const BOTH: u64 = 5;
 
 // How many entries were written, or why none.
-#[derive(Drop)]
+#[derive(Clone, Copy)]
 pub enum Listed {
     Entries(usize),
     Refused(Rejection),

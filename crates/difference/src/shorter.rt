@@ -6,7 +6,7 @@ ghost use Rattle.difference.specs.Shorter.{shorter, choice_of, handed, part, sho
 use format::refusal::UNLIKE;
 use spv::{Outcome, Rejection};
 
-#[derive(Drop)]
+#[derive(Clone, Copy)]
 enum Weighed {
     First,
     Second,

@@ -17,7 +17,7 @@ use super::refusal::{
 use super::transaction::{Items, ItemsAnswer, TxAnswer, TxHead, tx_by};
 use hash::MAX_INPUT;
 
-#[derive(Drop)]
+#[derive(Clone, Copy)]
 pub struct Beef;
 
 impl Beef {
@@ -35,13 +35,13 @@ impl Beef {
 }
 
 // Whether a transaction is anchored: by a BUMP, told by its number, or not.
-#[derive(Drop)]
+#[derive(Clone, Copy)]
 pub enum Anchor {
     Unanchored,
     Bump(u64),
 }
 
-#[derive(Drop)]
+#[derive(Clone, Copy)]
 pub enum AnchorAnswer {
     Value(Anchor, Cursor),
     Refused(ReadRefusal),
@@ -62,13 +62,13 @@ impl AnchorAnswer {
 }
 
 // A transaction of a bundle.
-#[derive(Drop)]
+#[derive(Clone, Copy)]
 pub struct EntryHead {
     pub transaction: TxHead,
     pub anchor: Anchor,
 }
 
-#[derive(Drop)]
+#[derive(Clone, Copy)]
 pub enum EntryAnswer {
     Value(EntryHead, Cursor),
     Refused(ReadRefusal),
@@ -89,14 +89,14 @@ impl EntryAnswer {
 }
 
 // How many BUMPs and transactions a bundle has, and where its first transaction starts.
-#[derive(Drop)]
+#[derive(Clone, Copy)]
 pub struct BeefHead {
     pub bumps: usize,
     pub transactions: usize,
     pub entries: Cursor,
 }
 
-#[derive(Drop)]
+#[derive(Clone, Copy)]
 pub enum BeefAnswer {
     Value(BeefHead, Cursor),
     Refused(ReadRefusal),
@@ -117,7 +117,7 @@ impl BeefAnswer {
 }
 
 // A reading of a bundle: its answer, and the heads of the BUMPs, none if it is refused.
-#[derive(Drop)]
+#[derive(Clone, Copy)]
 pub struct Bundle {
     pub answer: BeefAnswer,
     pub bumps: [BumpHead; Beef::MAX_BUMPS],

@@ -10,7 +10,7 @@ use super::refusal::{BAD_HEIGHT, EXTRA, OVER_LIMIT, ReadRefusal, TOO_LONG};
 use hash::MAX_INPUT;
 
 // The format: its limits (01, "Sizes"; 02, Item 8), and where a reading of it starts.
-#[derive(Drop)]
+#[derive(Clone, Copy)]
 pub struct Bump;
 
 impl Bump {
@@ -26,7 +26,7 @@ impl Bump {
 }
 
 // A BUMP's block height and tree height, how many leaves its levels have, and where they start.
-#[derive(Drop)]
+#[derive(Clone, Copy)]
 pub struct BumpHead {
     pub block: u64,
     pub height: u64,
@@ -34,7 +34,7 @@ pub struct BumpHead {
     pub levels: Cursor,
 }
 
-#[derive(Drop)]
+#[derive(Clone, Copy)]
 pub enum BumpAnswer {
     Value(BumpHead, Cursor),
     Refused(ReadRefusal),

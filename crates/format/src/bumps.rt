@@ -13,7 +13,7 @@ use super::field::{Cursor, Number, read_varint};
 use super::refusal::{OVER_LIMIT, ReadRefusal};
 
 // A reading of its BUMPs: how many there are, and their heads, none if one is refused.
-#[derive(Drop)]
+#[derive(Clone, Copy)]
 pub(crate) struct Bumps {
     pub count: Number,
     pub heads: [BumpHead; Beef::MAX_BUMPS],

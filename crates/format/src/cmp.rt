@@ -11,7 +11,7 @@ use super::refusal::{BAD_HEIGHT, EXTRA, ReadRefusal, TOO_LONG};
 use hash::MAX_INPUT;
 
 // The format: its limit (02, Item 8), and where a reading of it starts.
-#[derive(Drop)]
+#[derive(Clone, Copy)]
 pub struct Cmp;
 
 impl Cmp {
@@ -26,14 +26,14 @@ impl Cmp {
 }
 
 // A CMP's layers, how many leaves its levels have, and where they start.
-#[derive(Drop)]
+#[derive(Clone, Copy)]
 pub struct CmpHead {
     pub height: u64,
     pub leaves: u64,
     pub levels: Cursor,
 }
 
-#[derive(Drop)]
+#[derive(Clone, Copy)]
 pub enum CmpAnswer {
     Value(CmpHead, Cursor),
     Refused(ReadRefusal),

@@ -11,20 +11,20 @@ use super::level::{Layout, SLOTS};
 use super::refusal::{BAD_FLAG, BAD_OFFSET, REPEATED, ReadRefusal};
 
 // What a leaf carries: the place of its 32 bytes, or nothing.
-#[derive(Drop)]
+#[derive(Clone, Copy)]
 pub enum Kind {
     Plain(usize),
     Copy,
     Client(usize),
 }
 
-#[derive(Drop)]
+#[derive(Clone, Copy)]
 pub struct Leaf {
     pub offset: u64,
     pub kind: Kind,
 }
 
-#[derive(Drop)]
+#[derive(Clone, Copy)]
 pub enum KindAnswer {
     Value(Kind, Cursor),
     Refused(ReadRefusal),

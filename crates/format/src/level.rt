@@ -11,7 +11,7 @@ use super::leaf::{read_bounded, read_carried, read_leaf};
 use super::refusal::{OVER_LIMIT, REPEATED, ReadRefusal};
 
 // Which of the two layouts.
-#[derive(Drop)]
+#[derive(Clone, Copy)]
 pub enum Layout {
     Bump,
     Cmp,

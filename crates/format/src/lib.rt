@@ -1,4 +1,6 @@
 // Readers of the published layouts of Merkle proofs over lent bytes.
+#![tactic(auto)]
+
 mod beef;
 mod bump;
 mod bumps;

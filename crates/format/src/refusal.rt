@@ -1,7 +1,7 @@
 // Refusals by the numbers of 01, "Numbers of refusal" (specs/Refusals.antt).
 
 // A reading's refusal: its number and what it carries, most often a place in the input. What a call answers is a `Rejection` (`spv`).
-#[derive(Drop)]
+#[derive(Clone, Copy)]
 pub struct ReadRefusal {
     pub number: u8,
     pub place: usize,

@@ -16,7 +16,7 @@ use super::refusal::{BAD_FLAG, BAD_OFFSET, BAD_TX, EXTRA, OVER_LIMIT, ReadRefusa
 use super::transaction::{Items, ItemsAnswer, TxAnswer, tx_at};
 use hash::MAX_INPUT;
 
-#[derive(Drop)]
+#[derive(Clone, Copy)]
 pub struct Tsc;
 
 impl Tsc {
@@ -30,13 +30,13 @@ impl Tsc {
 }
 
 // What is proved: an id by its place, or a transaction by its first byte and the place after its last.
-#[derive(Drop)]
+#[derive(Clone, Copy)]
 pub enum Subject {
     Id(usize),
     Transaction(usize, usize),
 }
 
-#[derive(Drop)]
+#[derive(Clone, Copy)]
 pub enum SubjectAnswer {
     Value(Subject, Cursor),
     Refused(ReadRefusal),
@@ -57,7 +57,7 @@ impl SubjectAnswer {
 }
 
 // A TSC proof: the place of its target, how many nodes it has and where they start.
-#[derive(Drop)]
+#[derive(Clone, Copy)]
 pub struct TscHead {
     pub flags: u64,
     pub index: u64,
@@ -76,7 +76,7 @@ impl TscHead {
     }
 }
 
-#[derive(Drop)]
+#[derive(Clone, Copy)]
 pub enum TscAnswer {
     Value(TscHead, Cursor),
     Refused(ReadRefusal),

@@ -8,7 +8,7 @@ ghost use Rattle.hash.specs.Parts as P;
 use std::num::wrapping_add_u32;
 
 // The eight words of a hash value, or the eight working variables.
-#[derive(Drop)]
+#[derive(Clone, Copy)]
 pub struct State {
     pub a: u32,
     pub b: u32,
@@ -262,7 +262,7 @@ fn plus(s: State, t: State) -> State
 }
 
 // After a number of rounds: the working variables, the words of the next sixteen rounds, and the sum of each with its constant.
-#[derive(Drop)]
+#[derive(Clone, Copy)]
 struct Stage {
     s: State,
     w: [u32; 16],

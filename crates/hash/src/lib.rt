@@ -1,4 +1,6 @@
 // Double SHA-256 (FIPS 180-4) of a lent message, and of two Merkle nodes joined (specs/Sha256.antt).
+#![tactic(auto)]
+
 ghost use Rattle.std.specs.Prelude.{◌≡◌, ◌+◌, ◌*◌, ◌/◌, ◌%◌, ◌^◌, ◌<◌, ◌≤◌, ◌++◌, length, slice_index};
 ghost use Rattle.hash.specs.Sha256 as F;
 ghost use Rattle.hash.specs.Parts as P;
@@ -15,7 +17,7 @@ pub use compress::{K0, K1, K2, K3, PADDING0, PADDING1, PADDING2, PADDING3};
 pub const MAX_INPUT: usize = 16_777_216;
 
 // What the hash call answers: the number of a refusal, or 0; the place that a refusal carries; the digest, zero on refusal.
-#[derive(Drop)]
+#[derive(Clone, Copy)]
 pub struct Hashed {
     pub number: u8,
     pub place: usize,

@@ -9,7 +9,7 @@ use hash::{K0, K1, K2, K3, PADDING0, PADDING1, PADDING2, PADDING3};
 use std::num::wrapping_add_u32;
 
 // Four words side by side.
-#[derive(Drop)]
+#[derive(Clone, Copy)]
 pub struct Four {
     pub a: u32,
     pub b: u32,
@@ -18,7 +18,7 @@ pub struct Four {
 }
 
 // Four hash values side by side.
-#[derive(Drop)]
+#[derive(Clone, Copy)]
 pub struct State4 {
     pub a: Four,
     pub b: Four,

@@ -1,4 +1,6 @@
 // Four joins at once, each in a lane of its own (specs/Lanes.antt); and four double hashes.
+#![tactic(auto)]
+
 ghost use Rattle.std.specs.Prelude.{◌≡◌, ℕ, ◌+◌, ◌*◌, ◌<◌, ◌≤◌, ◌++◌};
 ghost use Rattle.hash.specs.Sha256 as F;
 ghost use Rattle.lanes.specs.Lanes as L;
@@ -10,7 +12,7 @@ use compress::{Four, State4, all, compress_padding4, compress4};
 pub use messages::sha256d4;
 
 // Four nodes, one for each lane.
-#[derive(Drop)]
+#[derive(Clone, Copy)]
 pub struct Nodes {
     pub a: [u8; 32],
     pub b: [u8; 32],

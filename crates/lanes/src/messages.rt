@@ -9,7 +9,7 @@ use super::{Nodes, digest_block, digests, initial, side_by_side, word};
 use hash::{MAX_INPUT, State, block_of, compressed, sha256d};
 
 // How many blocks the message of each lane has.
-#[derive(Drop)]
+#[derive(Clone, Copy)]
 struct Counts {
     a: usize,
     b: usize,

@@ -10,7 +10,7 @@ use levels::{offset_at, order_level};
 use spv::Rejection;
 
 // How many leaves were listed, or why none.
-#[derive(Drop)]
+#[derive(Clone, Copy)]
 pub enum Built {
     Leaves(usize),
     Refused(Rejection),

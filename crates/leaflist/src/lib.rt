@@ -1,4 +1,6 @@
 // A list of a BUMP's leaves beside its bytes, by level and offset: built, and searched alone (paper 02, Item 14).
+#![tactic(auto)]
+
 mod building;
 mod searching;
 

@@ -8,7 +8,7 @@ ghost use Rattle.leaflist.specs.Rows.{side_of};
 use levels::Place;
 
 // Where a row stands to what is looked for.
-#[derive(Drop)]
+#[derive(Clone, Copy)]
 pub(crate) enum Side {
     Before,
     Here,

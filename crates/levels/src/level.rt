@@ -8,21 +8,21 @@ use format::{Cursor, Kind, Layout};
 use path::LeafAnswer;
 
 // The offset of the next leaf.
-#[derive(Drop)]
+#[derive(Clone, Copy)]
 pub enum Next {
     Offset(u64),
     End,
 }
 
 // What stands at an offset.
-#[derive(Drop)]
+#[derive(Clone, Copy)]
 pub enum Spot {
     Stands(Kind),
     Nothing,
 }
 
 // The place of a leaf's first byte, if there is such a leaf.
-#[derive(Drop)]
+#[derive(Clone, Copy)]
 pub enum Place {
     At(usize),
     Nowhere,

@@ -1,4 +1,6 @@
 // A level of a BUMP that was read before: its leaves in the order of their offsets, and two such levels side by side.
+#![tactic(auto)]
+
 mod level;
 mod order;
 

@@ -1,4 +1,6 @@
 // The listing of a BUMP as text, over lent bytes (specs/Listing.antt).
+#![tactic(auto)]
+
 mod lines;
 mod text;
 

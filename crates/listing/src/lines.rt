@@ -11,7 +11,7 @@ use format::{Cursor, Kind, Layout, Leaf, Number, ReadRefusal, hash_at, read_vari
 use path::{LeafAnswer, leaf_at};
 
 // Where the next byte goes, and where reading goes on.
-#[derive(Drop)]
+#[derive(Clone, Copy)]
 pub struct Step {
     pub at: usize,
     pub next: Cursor,

@@ -13,7 +13,7 @@ use format::Cursor;
 use levels::order_level;
 
 // Whether a level is over its limit, whether two leaves clash, and how many bytes and leaves the levels take.
-#[derive(Drop)]
+#[derive(Clone, Copy)]
 pub(crate) struct Tally {
     pub over: bool,
     pub clash: bool,

@@ -22,7 +22,7 @@ use leaflist::build;
 use spv::Rejection;
 
 // How many bytes the merged path has and how many leaves its list, or why there is none.
-#[derive(Drop)]
+#[derive(Clone, Copy)]
 pub enum Merged {
     Written(usize, usize),
     Refused(Rejection),
@@ -45,7 +45,7 @@ fn alike(x: BumpHead, root: [u8; 32], y: BumpHead, other: [u8; 32]) -> bool
 const PLACES: usize = Layout::MAX_LEAVES;
 
 // What a walk over the merged levels comes to: their tally, or where they end once they are written.
-#[derive(Drop)]
+#[derive(Clone, Copy)]
 struct Walked {
     tally: Tally,
     end: usize,

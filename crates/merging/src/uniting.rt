@@ -14,7 +14,7 @@ use format::Kind;
 use levels::{Next, Spot, flags_of, front, lesser, next_offset, past, place_of};
 
 // The leaf of the first or of the second path is kept, or the two can't both be.
-#[derive(Drop)]
+#[derive(Clone, Copy)]
 pub(crate) enum Choice {
     First(Kind),
     Second(Kind),
@@ -150,7 +150,7 @@ fn kept_size(offset: u64, choice: Choice) -> usize
 }
 
 // How many leaves a merged level has, how many bytes they take, and whether two clash.
-#[derive(Drop)]
+#[derive(Clone, Copy)]
 pub(crate) struct LevelTally {
     pub count: usize,
     pub bytes: usize,

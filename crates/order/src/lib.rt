@@ -1,4 +1,6 @@
 // Putting transactions in order (02, Item 12; specs/Set.antt): a set of raw transactions, handed in end to end in no order.
+#![tactic(auto)]
+
 mod answer;
 mod bits;
 mod ids;

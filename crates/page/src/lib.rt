@@ -1,4 +1,6 @@
 // A page of ids against one BUMP (specs/Page.antt): the answers that asking for each id alone would give, from one reading (paper 02, Item 2).
+#![tactic(auto)]
+
 ghost use Rattle.std.specs.Prelude.{◌≡◌, length, ◌+◌, ◌/◌, ◌≤◌, ◌<◌};
 ghost use Rattle.spv.specs.Rows.{rows};
 ghost use Rattle.format.specs.Bump.{bump_whole};
@@ -22,7 +24,7 @@ const NUMBERS_ROOM: usize = 513;
 // What asking for one id answers: the number of its refusal, what that carries and the layer and sibling that it names, or the id's position, the number
 // of layers and the root. What is not said is zero. Any bytes are a value of each field, so that a caller may lend any memory, and no byte lies between the fields.
 #[repr(C)]
-#[derive(Drop)]
+#[derive(Clone, Copy)]
 pub struct Answer {
     pub refusal: u64,
     pub carried: u64,
@@ -34,14 +36,14 @@ pub struct Answer {
 }
 
 // What a page answers: for how many ids, or why for none.
-#[derive(Drop)]
+#[derive(Clone, Copy)]
 pub enum Paged {
     Answered(usize),
     Refused(Rejection),
 }
 
 // A page that was opened: its answer, and where the levels of its BUMP stand.
-#[derive(Drop)]
+#[derive(Clone, Copy)]
 struct Opening {
     paged: Paged,
     path: Path,

@@ -1,4 +1,6 @@
 // Searching in what was read: the leaf at a layer and position, the offset of an id.
+#![tactic(auto)]
+
 mod excerpt;
 mod path;
 mod subject;

@@ -16,7 +16,7 @@ use format::{
 // Layers that a path has room for.
 pub const LAYERS: usize = Bump::MAX_HEIGHT as usize;
 
-#[derive(Drop)]
+#[derive(Clone, Copy)]
 pub enum Form {
     Bump,
     Cmp,
@@ -24,7 +24,7 @@ pub enum Form {
 }
 
 // For each layer the place of its level's count, or of its node in a TSC proof.
-#[derive(Drop)]
+#[derive(Clone, Copy)]
 pub struct Path {
     pub form: Form,
     pub layers: usize,
@@ -32,14 +32,14 @@ pub struct Path {
 }
 
 // The leaf looked for.
-#[derive(Drop)]
+#[derive(Clone, Copy)]
 pub enum Found {
     Here(Kind),
     Missing,
 }
 
 // The least offset that carries an id.
-#[derive(Drop)]
+#[derive(Clone, Copy)]
 pub enum Start {
     At(u64),
     Nowhere,

@@ -13,7 +13,7 @@ use format::{
     Cursor, KindAnswer, Layout, Leaf, Number, Run, one_byte, read_kind, read_run, read_varint,
 };
 
-#[derive(Drop)]
+#[derive(Clone, Copy)]
 pub enum LeafAnswer {
     Value(Leaf, Cursor),
     Refused(ReadRefusal),
@@ -68,7 +68,7 @@ pub fn leaf_at(s: &[u8], c: Cursor, layout: Layout) -> LeafAnswer
 }
 
 // What a search looks at in a leaf: its offset, the place of its 32 bytes if it isn't a copy, and the cursor after it.
-#[derive(Drop)]
+#[derive(Clone, Copy)]
 pub(crate) enum Step {
     Hash(u64, usize, Cursor),
     Copy(u64, Cursor),

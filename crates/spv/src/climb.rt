@@ -12,13 +12,13 @@ use format::refusal::{MISSING, TWIN};
 use path::{Found, Path};
 
 // One layer: the two halves of what is hashed, zero where the layer fails by a refusal's number.
-#[derive(Drop)]
+#[derive(Clone, Copy)]
 pub enum StepKind {
     Joins,
     Fails(u8),
 }
 
-#[derive(Drop)]
+#[derive(Clone, Copy)]
 pub struct Joined {
     pub kind: StepKind,
     pub left: [u8; 32],
@@ -26,13 +26,13 @@ pub struct Joined {
 }
 
 // Where a climb ends: at the root, or refused at a layer, with the sibling's position there. The root is zero if refused.
-#[derive(Drop)]
+#[derive(Clone, Copy)]
 pub enum End {
     Root,
     Stop(Rejection),
 }
 
-#[derive(Drop)]
+#[derive(Clone, Copy)]
 pub struct Climbed {
     pub end: End,
     pub root: [u8; 32],

@@ -17,7 +17,7 @@ use format::refusal::{SAME_ID, UNLIKE};
 use path::{Form, Path};
 
 // The strings of two climbs at the lowest layer where they meet, zero if they never do.
-#[derive(Drop)]
+#[derive(Clone, Copy)]
 pub struct Meeting {
     pub found: bool,
     pub first: [u8; 64],
@@ -115,14 +115,14 @@ pub(crate) fn meet(
     no_meeting()
 }
 
-#[derive(Drop)]
+#[derive(Clone, Copy)]
 pub enum Comparison {
     Pair,
     Refused(Rejection),
 }
 
 // Two different strings of one hash; zero if refused.
-#[derive(Drop)]
+#[derive(Clone, Copy)]
 pub struct Compared {
     pub comparison: Comparison,
     pub first: [u8; 64],

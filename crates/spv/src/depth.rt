@@ -23,7 +23,7 @@ use format::refusal::UNLIKE;
 use path::{Form, Path};
 
 // Which two strings of one hash were found: the raw transaction itself and the second, or the first and the second.
-#[derive(Drop)]
+#[derive(Clone, Copy)]
 pub enum DepthComparison {
     Transaction,
     Strings,
@@ -31,7 +31,7 @@ pub enum DepthComparison {
 }
 
 // The first is the shorter proof's, zero where it is the raw transaction; both are zero if refused.
-#[derive(Drop)]
+#[derive(Clone, Copy)]
 pub struct DepthCompared {
     pub comparison: DepthComparison,
     pub first: [u8; 64],

@@ -1,4 +1,6 @@
 // Merkle root computation over the published forms of Merkle proof: proving an id and comparing two proofs, of one number of layers or of two.
+#![tactic(auto)]
+
 mod climb;
 mod compare;
 mod depth;

@@ -8,14 +8,14 @@ ghost use Rattle.spv.specs.Shapes.{node_of};
 use format::Kind;
 
 // What stands beside the climb; the hash is zero unless there is a value.
-#[derive(Drop)]
+#[derive(Clone, Copy)]
 pub enum NodeKind {
     Value,
     Copied,
     Absent,
 }
 
-#[derive(Drop)]
+#[derive(Clone, Copy)]
 pub struct Node {
     pub kind: NodeKind,
     pub hash: [u8; 32],

@@ -12,14 +12,14 @@ use format::{BumpAnswer, CmpAnswer, TscAnswer};
 use path::{Form, LAYERS, Path, Start};
 
 // Whether a proof was read.
-#[derive(Drop)]
+#[derive(Clone, Copy)]
 pub enum Status {
     Read,
     Unread(Rejection),
 }
 
 // A proof as it was read: where its siblings stand, its position and id, and the root that its target names if it is bound to one.
-#[derive(Drop)]
+#[derive(Clone, Copy)]
 pub struct Claim {
     pub status: Status,
     pub path: Path,
@@ -29,14 +29,14 @@ pub struct Claim {
     pub target: [u8; 32],
 }
 
-#[derive(Drop)]
+#[derive(Clone, Copy)]
 pub enum Outcome {
     Accepted { position: u64, layers: usize },
     Refused(Rejection),
 }
 
 // What a proof proves: the id and the root are zero if it is refused.
-#[derive(Drop)]
+#[derive(Clone, Copy)]
 pub struct Proved {
     pub outcome: Outcome,
     pub id: [u8; 32],

@@ -6,7 +6,7 @@ use format::ReadRefusal;
 
 // A call's refusal: the number; what it carries, a place, a transaction's number or 0; for 14 and 15 the layer and the position there of the sibling that is
 // missing or a twin, 0 in both for all others.
-#[derive(Drop)]
+#[derive(Clone, Copy)]
 pub struct Rejection {
     pub number: u8,
     pub carried: usize,

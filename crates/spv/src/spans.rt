@@ -7,7 +7,7 @@ use format::span_hash;
 use lanes::Nodes;
 
 // Where a part starts and ends.
-#[derive(Drop)]
+#[derive(Clone, Copy)]
 pub struct Span {
     pub start: usize,
     pub end: usize,

@@ -22,7 +22,7 @@ use path::Path;
 const TRACE_ROOM: usize = 2112;
 
 // The nodes stand end to end, each a type byte, 0 followed by 32 bytes or 1 for a copy. On a refusal there are none, and all is zero.
-#[derive(Drop)]
+#[derive(Clone, Copy)]
 pub struct Traced {
     pub proved: Proved,
     pub nodes: [u8; TRACE_ROOM],
@@ -30,7 +30,7 @@ pub struct Traced {
 }
 
 // A climb, and where the node after its last one goes.
-#[derive(Drop)]
+#[derive(Clone, Copy)]
 pub struct Trail {
     pub climbed: Climbed,
     pub next: usize,

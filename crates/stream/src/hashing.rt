@@ -5,7 +5,7 @@ ghost use Rattle.hash.specs.Sha256 as F;
 ghost use Rattle.stream.specs.HashState as S;
 
 // The hash value after the whole blocks that came, and the bytes after them, with zeros up to a block.
-#[derive(Drop)]
+#[derive(Clone, Copy)]
 pub struct Hashing {
     pub words: [u32; 8],
     pub tail: [u8; 64],

@@ -1,4 +1,6 @@
 // A raw transaction that arrives in parts (02, Item 10).
+#![tactic(auto)]
+
 mod digits;
 mod hashing;
 mod progress;

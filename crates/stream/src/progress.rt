@@ -11,7 +11,7 @@ pub const MAX_PARTS: u64 = 4_294_967_295;
 const NODE_PAIR: u64 = 64;
 
 // The fields in their order.
-#[derive(Drop)]
+#[derive(Clone, Copy)]
 pub enum Stage {
     Version,
     InputCount,
@@ -31,7 +31,7 @@ pub enum Stage {
 // The field that the next byte belongs to: where it starts, and how many of its bytes are still to come. Of a VarInt: how many bytes
 // it announced, 0 before its first byte, and these as far as they came. Of the transaction: the items of the list still to come with
 // this one, the counts, and the bytes so far.
-#[derive(Drop)]
+#[derive(Clone, Copy)]
 pub struct Progress {
     pub stage: Stage,
     pub start: u64,
@@ -45,7 +45,7 @@ pub struct Progress {
 }
 
 // After a byte: the field that the next one belongs to, or a refusal by its number and place.
-#[derive(Drop)]
+#[derive(Clone, Copy)]
 pub enum Fed {
     On(Progress),
     Refused(u8, u64),

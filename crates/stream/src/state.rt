@@ -12,7 +12,7 @@ use format::refusal::SHORT;
 // What a call answers: 0 as long as nothing is answered, 1 a refusal and 2 a transaction that was received; the number of a refusal and
 // its place, or zeros; length, counts and id of what was received, or zeros.
 #[repr(C)]
-#[derive(Drop)]
+#[derive(Clone, Copy)]
 pub struct Answer {
     pub answered: u32,
     pub number: u32,
@@ -26,7 +26,7 @@ pub struct Answer {
 // The hash value after the whole blocks that came and the bytes after them; the field that the next byte belongs to, by its number,
 // with what is known of it; the counts; the bytes so far; and the answer, once it is given.
 #[repr(C)]
-#[derive(Drop)]
+#[derive(Clone, Copy)]
 pub struct State {
     pub words: [u32; 8],
     pub tail: [u8; 64],

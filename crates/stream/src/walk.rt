@@ -104,7 +104,7 @@ fn output_size(part: &[u8], place: usize, end: usize) -> usize
 }
 
 // What is passed of a list of outputs: up to a place, with so many left.
-#[derive(Drop)]
+#[derive(Clone, Copy)]
 struct Skipped {
     place: usize,
     left: u64,

@@ -1,0 +1,33 @@
+use borrow.Author.Rules.{rules}
+use native.Mathlib.Omega.{arith}
+use mathlib.Core.Path.{◌≡◌, ap, ◌∙◌}
+use Prim.Native.Nat.{ℕ, ◌+◌, ◌-◌, ◌*◌, ◌≤◌}
+use mathlib.Core.List.{List}
+use lib.ListN.{length}
+use Rattle.spv.specs.Hashes.{hashes_of}
+use Rattle.encoding.specs.Digits.{varint_bytes}
+use Rattle.encoding.proofs.VarintEncoding.{varint-length}
+use Rattle.block.specs.Tree.{size as layer_size}
+use Rattle.block.specs.Heap.{Level}
+use Rattle.block.proofs.HeapLaws.{level-start, level-small, level_on}
+use Rattle.block.specs.Leaves.{Ready}
+use Rattle.block.proofs.LevelLaws.{rest, count-start, count_on, sized_on, sized-end}
+use Rattle.block.proofs.level.levels_size.Goals as goal
+
+pub loop-k-init : goal.loop-k-init
+loop-k-init c = (level-start _ _ (omega arith), omega arith, omega arith, λ list heap chosen r. (count-start _ _ r.count, omega arith))
+
+pub level_tally-t-requires : goal.level_tally-t-requires
+level_tally-t-requires c = let w = level-small _ _ _ c.loop-k.invariant.0 c.loop-k-test.true (omega arith) in (w.0, w.1, omega arith)
+
+pub overflow_add-size : goal.overflow_add-size
+overflow_add-size c = omega (arith, varint-length c.level_tally-t.result.leaves)
+
+pub overflow_add-size-in-loop-k : goal.overflow_add-size-in-loop-k
+overflow_add-size-in-loop-k c = omega (arith, varint-length c.level_tally-t.result.leaves)
+
+pub loop-k-preserved : goal.loop-k-preserved
+loop-k-preserved c = (level_on _ _ _ c.loop-k.invariant.0 c.loop-k-test.true, omega arith, omega (arith, varint-length c.level_tally-t.result.leaves), λ list heap chosen r. let i = c.loop-k.invariant.3 list heap chosen r in (count_on _ _ _ i.0, sized_on r _ _ _ c.loop-k.invariant.0 c.loop-k-test.true i.0 _ (c.varint_size.ensures ∙ ap (λ (x : ℕ). length (varint_bytes x)) c.level_tally-t.ensures.0) c.level_tally-t.ensures.1 ∙ i.1))
+
+pub returns : goal.returns
+returns c = (omega arith, λ list heap chosen r. sized-end _ _ _ _ c.loop-k-test.false _ (c.loop-k.invariant.3 list heap chosen r).1)

@@ -1,0 +1,19 @@
+use mathlib.Core.Path.{sym}
+use borrow.Author.Rules.{rules}
+use native.Mathlib.Omega.{arith}
+use lib.Seq.{length-take-le}
+use Rattle.bundle.proofs.AnchoredLaws.{risen_settled}
+use Rattle.bundle.proofs.anchored.climb_named.Goals as goal
+
+pub slice_bounds-climb_rows-end-2 : goal.slice_bounds-climb_rows-end-2
+slice_bounds-climb_rows-end-2 c = sym (length-take-le c.gather-count.result c.args.starts.now (omega arith))
+
+pub climb_rows-requires : goal.climb_rows-requires
+climb_rows-requires c =
+    let long = length-take-le c.gather-count.result c.args.starts.now (omega arith) in
+    (omega arith, (omega arith, (omega arith, (omega arith, (omega arith, (c.requires.n_in_bounds.1.1.1.1.1.1, rw long c.gather-count.ensures.held))))))
+
+pub returns : goal.returns
+returns c =
+    let long = length-take-le c.gather-count.result c.args.starts.now (omega arith) in
+    risen_settled _ _ _ _ _ _ _ _ c.gather-count.ensures _ _ long c.climb_rows.ensures

@@ -1,0 +1,5 @@
+use Rattle.bundle.proofs.PassLaws.{zeros-blank}
+use Rattle.bundle.proofs.pass.no_firsts.Goals as goal
+
+pub returns : goal.returns
+returns c = zeros-blank 257

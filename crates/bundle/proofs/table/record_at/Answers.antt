@@ -1,0 +1,21 @@
+use mathlib.Core.Path.{◌∙◌}
+use borrow.Author.Rules.{rules}
+use borrow.Author.Tests.{lt-ltb, le-ltb, lt-leb, le-leb}
+use Rattle.bundle.specs.Table.{flat_record}
+use Rattle.bundle.proofs.table.record_at.Goals as goal
+
+pub returns-then-count-row : goal.returns-then-count-row
+unfolding flat_record
+returns-then-count-row c = c.blank.ensures ∙ simp (le-ltb _ _ c.if-count-row.true)
+
+pub returns-then-row-ge-MAX_TRANSACTIONS : goal.returns-then-row-ge-MAX_TRANSACTIONS
+unfolding flat_record
+returns-then-row-ge-MAX_TRANSACTIONS c = c.blank-then-row-ge-MAX_TRANSACTIONS.ensures ∙ simp (lt-ltb _ _ c.if-count-row.false, le-ltb _ _ c.if-row-ge-MAX_TRANSACTIONS.true)
+
+pub returns-then-numbers-lt-NUMBERS_ROOM : goal.returns-then-numbers-lt-NUMBERS_ROOM
+unfolding flat_record
+returns-then-numbers-lt-NUMBERS_ROOM c = c.blank-then-numbers-lt-NUMBERS_ROOM.ensures ∙ simp (lt-ltb _ _ c.if-count-row.false, lt-ltb _ _ c.if-row-ge-MAX_TRANSACTIONS.false, lt-leb _ _ c.if-numbers-lt-NUMBERS_ROOM.true)
+
+pub returns : goal.returns
+unfolding flat_record
+returns c = rw c.hash_at-id.ensures (simp (lt-ltb _ _ c.if-count-row.false, lt-ltb _ _ c.if-row-ge-MAX_TRANSACTIONS.false, le-leb _ _ c.if-numbers-lt-NUMBERS_ROOM.false))

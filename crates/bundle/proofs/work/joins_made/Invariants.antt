@@ -1,0 +1,13 @@
+use Prim.Native.Nat.{◌-◌, ◌*◌, ◌≤◌}
+use mathlib.Core.Path.{◌≡◌, refl}
+use borrow.Author.Rules.{rules}
+use native.Mathlib.Omega.{arith}
+use Rattle.bundle.specs.Windows.{sum_to}
+use Rattle.bundle.specs.WorkMade.{kept_joins}
+use Rattle.bundle.proofs.work.joins_made.Given as goal
+
+abbrev pub invariant-loop-k : goal.invariant-loop-k
+invariant-loop-k l = (l.k ≤ l.n) × (l.joins ≡ sum_to (kept_joins l.anchors l.ends) l.k) × (l.joins ≤ 4294967296 * l.k)
+
+abbrev pub decreases-loop-k : goal.decreases-loop-k
+decreases-loop-k l = l.n - l.k

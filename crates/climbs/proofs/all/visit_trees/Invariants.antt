@@ -1,0 +1,13 @@
+use Rattle.std.proofs.Common.{◌≡◌, ◌-◌, ◌^◌, ◌<◌, ◌≤◌, length, get_or, sym, refl, ◌∙◌, subst, arith, rules}
+use Rattle.climbs.specs.LookUp.{looked_up}
+use Rattle.spv.specs.Values.{worked_out}
+use Rattle.spv.specs.PositionFits.{PositionFits}
+use Rattle.climbs.specs.Row.{Rows, Moved, Reached}
+use Rattle.climbs.specs.Spent.{Spent}
+use Rattle.climbs.proofs.all.visit_trees.Given as goal
+
+abbrev pub invariant-loop-lo : goal.invariant-loop-lo
+invariant-loop-lo l = (length l.states ≡ length l.t) × (length l.hashes ≡ length l.others) × (l.lo ≤ length l.order) × Moved (worked_out (looked_up l.s l.places l.layers l.initial.states)) l.initial.hashes l.starts l.t l.others l.states l.hashes × Reached l.order l.states l.initial.hashes 0 l.lo × Spent (looked_up l.s l.places l.layers l.initial.states) l.initial.hashes l.starts l.t l.others l.initial.costs l.states l.hashes l.costs
+
+abbrev pub decreases-loop-lo : goal.decreases-loop-lo
+decreases-loop-lo l = length l.order - l.lo

@@ -1,0 +1,6 @@
+use Rattle.std.proofs.Common.{◌∙◌, arith, rules}
+use Rattle.climbs.proofs.WaitingLaws.{own_clients}
+use Rattle.climbs.proofs.clients.check_own.Goals as goal
+
+pub returns : goal.returns
+returns c = c.check_many.ensures ∙ own_clients c.args.s.now c.args.path c.args.s.now _ _ _ _ c.requires (omega arith) c.unbound.ensures

@@ -1,0 +1,18 @@
+use Rattle.climbs.proofs.LookUpLaws.{prefer-hash, prefer-value, prefer-copy, prefer-absent}
+use Rattle.spv.proofs.ShapesLaws.{is-value, is-copied, is-absent, node-says}
+use Rattle.spv.specs.Shapes.{sibling_of, sibling_by, node_of}
+use Rattle.spv.specs.Climb.{Sibling, value, copied, absent}
+use Rattle.std.proofs.Common.{◌≡◌, sym, refl, ap, ◌∙◌, arith, rules}
+use Rattle.climbs.proofs.lookup.prefer.Goals as goal
+
+pub returns-then-has_value : goal.returns-then-has_value
+returns-then-has_value c = prefer-hash (sibling_of c.args.a) (sibling_of c.args.b) (is-copied c.args.a c.in-Copied.is) (sym c.has_value.ensures ∙ c.if-has_value.true)
+
+pub returns-in-Value : goal.returns-in-Value
+returns-in-Value c = prefer-value (sibling_of c.args.a) (sibling_of c.args.b) _ (is-value c.args.a c.in-Value.is)
+
+pub returns-else-has_value : goal.returns-else-has_value
+returns-else-has_value c = prefer-copy (sibling_of c.args.a) (sibling_of c.args.b) (is-copied c.args.a c.in-Copied.is) (sym c.has_value.ensures ∙ c.if-has_value.false)
+
+pub returns-in-Absent : goal.returns-in-Absent
+returns-in-Absent c = prefer-absent (sibling_of c.args.a) (sibling_of c.args.b) (is-absent c.args.a c.in-Absent.is)

@@ -1,0 +1,7 @@
+use Rattle.climbs.specs.Row.{refusal_of}
+use Rattle.std.proofs.Common.{rules}
+use Rattle.climbs.proofs.row.rejection_of.Goals as goal
+
+pub returns : goal.returns
+unfolding refusal_of
+returns c = rw (c.number_of.ensures, c.sibling_at.ensures)

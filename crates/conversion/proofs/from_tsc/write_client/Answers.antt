@@ -1,0 +1,6 @@
+use Rattle.conversion.proofs.ConvertLaws.{wrote_client-leaf}
+use borrow.Author.Rules.{rules}
+use Rattle.conversion.proofs.from_tsc.write_client.Goals as goal
+
+pub returns : goal.returns
+returns c = wrote_client-leaf _ _ _ c.write_varint-next.ensures c.put-next.ensures c.write.ensures

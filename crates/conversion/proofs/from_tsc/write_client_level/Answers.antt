@@ -1,0 +1,9 @@
+use Rattle.conversion.proofs.ConvertLaws.{wrote_odd, wrote_even}
+use borrow.Author.Rules.{rules}
+use Rattle.conversion.proofs.from_tsc.write_client_level.Goals as goal
+
+pub returns-then-i-eq1 : goal.returns-then-i-eq1
+returns-then-i-eq1 c = wrote_odd _ _ _ _ c.put-next.ensures c.if-i-eq1.true c.write_sibling-next.ensures c.write_client.ensures
+
+pub returns : goal.returns
+returns c = wrote_even _ _ _ _ c.put-next.ensures c.if-i-eq1.false c.write_client-next.ensures c.write_sibling.ensures

@@ -1,0 +1,12 @@
+use Rattle.difference.specs.Differences.{higher}
+use borrow.Author.Tests.{le-leb, lt-leb}
+use mathlib.Core.Path.{sym}
+use Rattle.difference.proofs.listing.higher.Goals as goal
+
+pub returns-then-a-b : goal.returns-then-a-b
+unfolding higher
+returns-then-a-b c = sym (rw (le-leb _ _ c.if-a-b.true))
+
+pub returns-else-a-b : goal.returns-else-a-b
+unfolding higher
+returns-else-a-b c = sym (rw (lt-leb _ _ c.if-a-b.false))

@@ -1,0 +1,15 @@
+use borrow.Author.Rules.{rules}
+use mathlib.Core.Path.{◌≡◌, refl, sym, ◌∙◌}
+use mathlib.Core.Bool.{◌||◌}
+use Prim.Native.Nat.{◌≤◌, ◌-◌}
+use lib.ListN.{length, drop}
+use Rattle.format.specs.Level.{holds}
+use Rattle.format.proofs.SeenLaws.{scan_here, scan_on, scan_end}
+use mathlib.Core.Logic.{⊎_elim}
+use Rattle.format.proofs.leaf.contains.Goals as goal
+
+pub loop-i-preserved : goal.loop-i-preserved
+loop-i-preserved c = (search rules, c.loop-i.invariant.1 ∙ ⊎_elim (λ w. scan_here _ _ _ c.loop-i.found c.if-x-l.found c.loop-i-test.true w.0.taken w.1) (λ w. scan_on _ _ _ c.loop-i.found c.if-x-l.found c.loop-i-test.true w.0.left w.1) c.if-x-l.branch)
+
+pub returns : goal.returns
+returns c = sym (c.loop-i.invariant.1 ∙ scan_end _ _ _ c.loop-i.found c.loop-i-test.false)

@@ -1,0 +1,40 @@
+use borrow.Author.Rules.{rules}
+use native.Mathlib.Omega.{arith}
+use native.Mathlib.Numerals.{add-one}
+use mathlib.Core.Path.{◌≡◌, refl, sym, ◌∙◌}
+use mathlib.Core.List.{[], ◌∷◌, ◌++◌}
+use Prim.Native.Nat.{◌≤◌, ◌-◌, ◌+◌}
+use lib.ListN.{length, take, set, length-set}
+use lib.Seq.{length-take-le, take-suc-set}
+use Rattle.format.specs.FieldAnswer.{number_of}
+use Rattle.format.specs.Parse.{each, many}
+use Rattle.format.proofs.ParseLaws.{answered, count-start, count-done}
+use Rattle.format.specs.Level.{holds, leaf_field, leaf_fields, and_offset}
+use Rattle.format.specs.Seen.{Slotted}
+use Rattle.format.proofs.SeenLaws.{slotted_more, leaves-step, leaves-refused}
+use Rattle.format.proofs.level.read_leaves.Goals as goal
+
+pub loop-i-init : goal.loop-i-init
+unfolding holds
+loop-i-init c = (omega arith, search rules, (search rules, λ x h. refl), count-start _ _ _ _ _ _)
+
+pub slice_bounds-read_leaf-end : goal.slice_bounds-read_leaf-end
+slice_bounds-read_leaf-end c = sym (length-take-le _ _ (omega arith))
+
+pub read_leaf-field-requires : goal.read_leaf-field-requires
+read_leaf-field-requires c = c.loop-i.invariant.2
+
+pub returns-in_default : goal.returns-in_default
+returns-in_default c = rw c.in_default.is (sym (c.loop-i.invariant.3 ∙ leaves-refused _ _ _ _ _ _ _ _ (omega arith) (answered number_of c.read_leaf-field.ensures c.in_default.is)))
+
+pub loop-i-preserved : goal.loop-i-preserved
+loop-i-preserved c =
+    let grown : take (c.loop-i.i + 1) (set c.loop-i.seen c.loop-i.i c.in-Value.offset) ≡ take c.loop-i.i c.loop-i.seen ++ (c.in-Value.offset ∷ []) = rw add-one (take-suc-set c.loop-i.seen c.loop-i.i c.in-Value.offset (omega arith)) in (
+      omega arith,
+      simp length-set (omega arith),
+      rw grown (slotted_more c.loop-i.slots (take c.loop-i.i c.loop-i.seen) c.in-Value.offset c.loop-i.invariant.2),
+      c.loop-i.invariant.3 ∙ rw grown (leaves-step _ _ _ _ _ c.loop-i.i _ _ (omega arith) (answered number_of c.read_leaf-field.ensures c.in-Value.is)),
+    )
+
+pub returns : goal.returns
+returns c = sym (c.loop-i.invariant.3 ∙ count-done _ _ _ _ _ _ _ (omega arith))

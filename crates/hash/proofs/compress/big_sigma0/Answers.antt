@@ -1,0 +1,8 @@
+-- `hash::big0` meets its contract: the definition's own expression. Assumes nothing.
+use Rattle.std.proofs.Common.{refl}
+use Rattle.hash.specs.Sha256.{Σ0, ◌⊕◌, rotr, shr, shl}
+use Rattle.hash.proofs.compress.big_sigma0.Goals as goal
+
+pub returns : goal.returns
+unfolding Σ0 ◌⊕◌ rotr shr shl
+returns c = refl

@@ -1,0 +1,7 @@
+-- After t turns the working variables are those of t rounds.
+use Rattle.std.proofs.Common.{◌≡◌, ◌-◌, ◌≤◌, refl, ◌∙◌, add-one, arith, rules}
+use Rattle.hash.specs.Parts.{rounds_by}
+use Rattle.hash.proofs.compress.rounds.Given as goal
+
+abbrev pub invariant-loop-t : goal.invariant-loop-t
+invariant-loop-t l = (l.t ≤ 16) × (l.r ≡ rounds_by l.initial.r l.x l.t)

@@ -1,0 +1,7 @@
+-- A padded digest is one block.
+use Rattle.std.proofs.Common.{rules}
+use Rattle.hash.proofs.Digests.{digest-hashed}
+use Rattle.hash.proofs.hash_digest.Goals as goal
+
+pub returns : goal.returns
+returns c = cc (digest-hashed c.args.s)

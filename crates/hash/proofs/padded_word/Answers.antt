@@ -1,0 +1,16 @@
+-- Each return is a word of the padded message: in the message, among the zeros, or of four bytes.
+use Rattle.std.proofs.Common.{◌∙◌, arith, rules}
+use Rattle.hash.specs.Sha256.{word}
+use Rattle.hash.proofs.Padding.{word-front, word-zero}
+use Rattle.hash.proofs.padded_word.Goals as goal
+
+pub returns-then-at-n : goal.returns-then-at-n
+unfolding word
+returns-then-at-n c = c.word.ensures ∙ word-front c.args.s.now c.args.at (omega arith)
+
+pub returns-then-at-end : goal.returns-then-at-end
+returns-then-at-end c = word-zero c.args.s.now c.args.at (omega arith) (omega arith)
+
+pub returns : goal.returns
+unfolding word
+returns c = cc c.word-2.ensures

@@ -1,0 +1,8 @@
+use Rattle.std.proofs.Common.{rules}
+use Rattle.hash.specs.Sha256.{◌⊕◌, shr, shl}
+use Rattle.lanes.proofs.Mixed.{mixed_Σ0}
+use Rattle.lanes.proofs.compress.big_sigma0.Goals as goal
+
+pub returns : goal.returns
+unfolding ◌⊕◌ shr shl
+returns c = mixed_Σ0 c.args.x (search rules)

@@ -1,0 +1,7 @@
+use Rattle.lanes.specs.Lanes.{lanewise3}
+use Rattle.std.proofs.Common.{rules}
+use Rattle.lanes.proofs.compress.chs.Goals as goal
+
+pub returns : goal.returns
+unfolding lanewise3
+returns c = cc

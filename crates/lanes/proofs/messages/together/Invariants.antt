@@ -1,0 +1,8 @@
+-- After i turns each lane has the hash value of i blocks of its message, or of all.
+use Rattle.std.proofs.Common.{◌≡◌, ℕ, ◌-◌, ◌^◌, ◌<◌, ◌≤◌, List, length, ◌∙◌, arith, rules}
+use Rattle.hash.specs.Sha256.{MAX_INPUT}
+use Rattle.lanes.specs.Lanes.{lane, in_lane, after}
+use Rattle.lanes.proofs.messages.together.Given as goal
+
+abbrev pub invariant-loop-i : goal.invariant-loop-i
+invariant-loop-i l = (l.i ≤ l.common) × ((l : ℕ) → lane l l.h ≡ after (in_lane l l.a l.b l.c l.d) l.i)

@@ -1,0 +1,7 @@
+use Rattle.listing.specs.Listing.{refused_line}
+use borrow.Author.Rules.{rules}
+use Rattle.listing.proofs.lines.write_refusal.Goals as goal
+
+pub returns : goal.returns
+unfolding refused_line
+returns c = c.pair_line.ensures

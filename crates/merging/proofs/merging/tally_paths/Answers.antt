@@ -1,0 +1,6 @@
+use mathlib.Core.Path.{refl}
+use borrow.Author.Rules.{rules}
+use Rattle.merging.proofs.merging.tally_paths.Goals as goal
+
+pub returns : goal.returns
+returns c = c.walk_paths-walked.ensures.0 refl

@@ -1,0 +1,6 @@
+use borrow.Author.Rules.{rules}
+use Rattle.order.proofs.BitsLaws.{bit_shifted}
+use Rattle.order.proofs.bits.has_bit.Goals as goal
+
+pub returns : goal.returns
+returns c = bit_shifted _ _

@@ -1,0 +1,6 @@
+use borrow.Author.Rules.{rules}
+use Rattle.order.proofs.BitsLaws.{powered}
+use Rattle.order.proofs.bits.power.Goals as goal
+
+pub returns : goal.returns
+returns c = powered c.args.b c.requires

@@ -1,0 +1,6 @@
+use borrow.Author.Rules.{rules}
+use Rattle.order.specs.Ids.{key_of}
+use Rattle.order.proofs.ids.key_of.Goals as goal
+
+pub returns : goal.returns
+returns c = unfold key_of in c.eight.ensures

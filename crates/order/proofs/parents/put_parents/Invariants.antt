@@ -1,0 +1,16 @@
+use Prim.Native.Nat.{◌≤◌, ◌-◌, ◌<◌}
+use mathlib.Core.Path.{◌≡◌, refl, sym, ◌∙◌}
+use lib.ListN.{length}
+use borrow.Author.Rules.{rules}
+use native.Mathlib.Nat.{sub-zero}
+use native.Mathlib.Omega.{arith}
+use Rattle.format.specs.TransactionAnswer.{input_answer}
+use Rattle.spv.specs.Hashes.{hashes}
+use Rattle.order.specs.Parents.{parents_from, all_named}
+use Rattle.order.proofs.parents.put_parents.Given as goal
+
+abbrev pub invariant-loop-k : goal.invariant-loop-k
+invariant-loop-k l = (l.k ≤ l.initial.matrix) × (length l.matrix ≡ length l.count) × (all_named (hashes l.n l.ids) l.i l.matrix (parents_from l.s (l.initial.matrix - l.k) l.next.at) ≡ all_named (hashes l.n l.ids) l.i l.count (parents_from l.s l.initial.matrix l.initial.next.at))
+
+abbrev pub decreases-loop-k : goal.decreases-loop-k
+decreases-loop-k l = l.initial.matrix - l.k

@@ -1,0 +1,39 @@
+use Prim.Native.Nat.{ℕ, ◌≤◌, ◌-◌}
+use mathlib.Core.Path.{◌≡◌, refl, ap, ◌∙◌}
+use native.Mathlib.Omega.{arith}
+use native.Mathlib.Numerals.{add-one}
+use lib.ListN.{length, take, drop, replicate, length-replicate, length-set}
+use borrow.Author.Rules.{rules}
+use Rattle.order.proofs.CodeLaws.{marks_start, marks_placed, Placing, placing-start, placing_on, placing_stops, answer_none, answer_some, rest_on}
+use Rattle.order.proofs.placing.our_order.Goals as goal
+
+pub loop-k-init : goal.loop-k-init
+loop-k-init c = (omega arith, refl, ap length c.no_marks-marks.ensures ∙ length-replicate {A = ℕ} 256 0, rw c.no_marks-marks.ensures marks_start, placing-start c.args.matrix.now c.args.n c.args.row.now, refl)
+
+pub shape_of-row-then-i-n : goal.shape_of-row-then-i-n
+shape_of-row-then-i-n c = ap length c.zero_row.ensures ∙ length-replicate {A = ℕ} (length c.loop-k.row) 0 ∙ c.loop-k.invariant.1
+
+pub returns-then-i-n : goal.returns-then-i-n
+returns-then-i-n c =
+    answer_none c.args.matrix.now c.args.n c.zero_row.new.row c.args.row.now
+    (placing_stops c.args.matrix.now c.args.n c.loop-k.marks c.loop-k.row c.loop-k.k c.first_ready-i.result (omega arith) (omega arith) c.first_ready-i.ensures.1 c.loop-k.invariant.3 c.loop-k.invariant.4)
+    (c.zero_row.ensures ∙ ap (λ (m : ℕ). replicate m 0) c.loop-k.invariant.1)
+
+pub loop-k-preserved : goal.loop-k-preserved
+loop-k-preserved c =
+    (
+      omega arith,
+      length-set c.loop-k.row c.loop-k.k c.first_ready-i.result ∙ c.loop-k.invariant.1,
+      length-set c.loop-k.marks c.first_ready-i.result 1 ∙ c.loop-k.invariant.2,
+      rw add-one (marks_placed c.loop-k.marks c.loop-k.row c.loop-k.k c.first_ready-i.result (omega arith) c.loop-k.invariant.2 (omega arith) c.loop-k.invariant.3),
+      rw add-one (placing_on c.args.matrix.now c.args.n c.loop-k.marks c.loop-k.row c.loop-k.k c.first_ready-i.result (omega arith) (omega arith) (omega arith) c.first_ready-i.ensures.1 c.loop-k.invariant.3 c.loop-k.invariant.4),
+      rw add-one (rest_on c.loop-k.row c.args.row.now c.loop-k.k c.first_ready-i.result c.loop-k.invariant.5),
+    )
+
+pub shape_of-row : goal.shape_of-row
+shape_of-row c = c.loop-k.invariant.1
+
+pub returns : goal.returns
+returns c =
+    let e : c.loop-k.k ≡ c.args.n = omega arith in
+    answer_some c.args.matrix.now c.args.n c.loop-k.row c.args.row.now (omega arith) (rw e at c.loop-k.invariant.5) (rw e at c.loop-k.invariant.4)

@@ -1,0 +1,25 @@
+use Prim.Native.Nat.{◌-◌}
+use mathlib.Core.Path.{◌≡◌, refl, ◌∙◌}
+use native.Mathlib.Omega.{arith}
+use lib.ListN.{length}
+use borrow.Author.Rules.{rules}
+use Rattle.format.proofs.BytesLaws.{hash-at-length}
+use Rattle.page.specs.Flat.{Copied}
+use Rattle.page.proofs.FlatLaws.{copied_none, copied_on, copied_all}
+use Rattle.page.proofs.copy_ids.Goals as goal
+
+pub loop-row-init : goal.loop-row-init
+loop-row-init c = (refl, copied_none _ _)
+
+pub loop-row-preserved : goal.loop-row-preserved
+loop-row-preserved c =
+    (
+      c.set_hash.auto.list ∙ c.loop-row.invariant.0,
+      rw (c.set_hash.ensures, c.hash_at.ensures) (copied_on _ _ _ (omega (arith, c.loop-row-test.true, c.requires.ids_len_bound)) (omega (arith, c.requires.in_bounds, c.loop-row.invariant.0)) (hash-at-length _ _) c.loop-row.invariant.1),
+    )
+
+pub shape_of-roots : goal.shape_of-roots
+shape_of-roots c = c.loop-row.invariant.0
+
+pub returns : goal.returns
+returns c = copied_all _ _ _ _ c.loop-row-test.false c.loop-row.invariant.1

@@ -1,0 +1,13 @@
+use Prim.Native.Nat.{ℕ, ◌+◌, ◌-◌, ◌≤◌}
+use mathlib.Core.Path.{◌≡◌, refl, sym, subst, ◌∙◌}
+use native.Mathlib.Omega.{arith}
+use lib.ListN.{length, get_or, length-set}
+use Rattle.page.specs.Flat.{NUMBERS_ROOM, Noted}
+use borrow.Author.Rules.{rules}
+use Rattle.page.proofs.note_rows.Given as goal
+
+abbrev pub invariant-loop-row : goal.invariant-loop-row
+invariant-loop-row l = (length l.numbers ≡ length l.initial.numbers) × (NUMBERS_ROOM ≤ length l.numbers) × Noted l.states (get_or l.initial.numbers 512 0) l.row l.initial.numbers l.numbers
+
+abbrev pub decreases-loop-row : goal.decreases-loop-row
+decreases-loop-row l = l.count - l.row

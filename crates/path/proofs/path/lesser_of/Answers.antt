@@ -1,0 +1,22 @@
+use borrow.Author.Rules.{rules}
+use native.Mathlib.Omega.{arith}
+use mathlib.Core.Path.{ap}
+use Rattle.path.specs.declared.path.Start.{Start}
+use Rattle.path.specs.Search.{lesser}
+use Rattle.path.proofs.path.lesser_of.Goals as goal
+
+pub returns-in_default : goal.returns-in_default
+unfolding lesser
+returns-in_default c = rw c.in_default.is
+
+pub returns-in_default-b : goal.returns-in_default-b
+unfolding lesser
+returns-in_default-b c = rw (c.in-At.is, c.in_default-b.is)
+
+pub returns-then-x-y : goal.returns-then-x-y
+unfolding lesser
+returns-then-x-y c = rw (c.in-At.is, c.in-At-b.is) (ap Start.At (omega arith))
+
+pub returns-else-x-y : goal.returns-else-x-y
+unfolding lesser
+returns-else-x-y c = rw (c.in-At.is, c.in-At-b.is) (ap Start.At (omega arith))

@@ -1,0 +1,15 @@
+use borrow.Author.Rules.{rules}
+use native.Mathlib.Omega.{arith}
+use mathlib.Core.Path.{◌≡◌, refl, sym, ◌∙◌}
+use Prim.Native.Nat.{◌≤◌, ◌-◌}
+use native.Mathlib.Nat.{sub-zero}
+use lib.ListN.{length, length-set}
+use Rattle.format.specs.FieldAnswer.{number_of}
+use Rattle.path.specs.Path.{placing, places}
+use Rattle.path.proofs.path.level_places.Given as goal
+
+abbrev pub invariant-loop-i : goal.invariant-loop-i
+invariant-loop-i l = (l.i ≤ l.height) × (length l.known ≡ 64) × (places l.layout l.height l.s l.initial.next.at ≡ placing l.layout l.height (l.height - l.i) l.i l.s l.next.at l.known)
+
+abbrev pub decreases-loop-i : goal.decreases-loop-i
+decreases-loop-i l = l.height - l.i

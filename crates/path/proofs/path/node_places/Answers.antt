@@ -1,0 +1,27 @@
+use borrow.Author.Rules.{rules}
+use mathlib.Core.Path.{◌∙◌}
+use Prim.Native.Nat.{ℕ, ◌-◌}
+use Rattle.format.specs.FieldAnswer.{run_of}
+use Rattle.format.proofs.ParseLaws.{answered}
+use Rattle.format.proofs.Gather.{Gathering, gather-start, gather-step, gather-refused, gather-done, each_same}
+use Rattle.path.specs.TscPath.{node_place_field}
+use Rattle.path.proofs.TscPathLaws.{places-kept, places-refused}
+use Rattle.path.proofs.path.node_places.Goals as goal
+
+pub loop-i-init : goal.loop-i-init
+loop-i-init c = gather-start _ _ _ _ _ _ _
+
+pub returns-in_default : goal.returns-in_default
+returns-in_default c =
+    places-refused _ _ _ (gather-refused _ _ _ _ _ _ _ c.loop-i.invariant c.loop-i-test.true
+    (each_same _ ∙ answered run_of c.node_place-field.ensures c.in_default.is))
+
+pub loop-i-preserved : goal.loop-i-preserved
+loop-i-preserved c =
+    gather-step _ _ _ _ _ _ _ c.requires c.loop-i.invariant c.loop-i-test.true
+    (each_same _ ∙ answered run_of c.node_place-field.ensures c.in-Value.is)
+
+pub returns : goal.returns
+returns c =
+    let d = gather-done _ _ _ _ _ _ _ c.requires c.loop-i.invariant c.loop-i-test.false in
+    places-kept _ _ _ d.0 d.2

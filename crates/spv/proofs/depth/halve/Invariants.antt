@@ -1,0 +1,12 @@
+use mathlib.Core.Path.{◌≡◌, sym, ◌∙◌}
+use Prim.Native.Nat.{◌-◌}
+use native.Mathlib.Nat.{sub-zero}
+use Rattle.spv.specs.Depth.{halved}
+use borrow.Author.Rules.{rules}
+use Rattle.spv.proofs.depth.halve.Given as goal
+
+abbrev pub invariant-loop-k : goal.invariant-loop-k
+invariant-loop-k l = halved (l.n - l.k) l.j ≡ halved l.n l.position
+
+abbrev pub decreases-loop-k : goal.decreases-loop-k
+decreases-loop-k l = l.n - l.k

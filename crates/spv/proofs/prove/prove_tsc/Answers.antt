@@ -1,0 +1,7 @@
+use mathlib.Core.Path.{◌∙◌, ap}
+use borrow.Author.Rules.{rules}
+use Rattle.spv.specs.Shapes.{proved_of}
+use Rattle.spv.proofs.prove.prove_tsc.Goals as goal
+
+pub returns : goal.returns
+returns c = c.prove_claim.ensures ∙ ap proved_of c.claim_tsc.ensures

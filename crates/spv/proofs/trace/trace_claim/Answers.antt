@@ -1,0 +1,13 @@
+use mathlib.Core.Path.{sym, refl, ◌∙◌, ap}
+use Rattle.spv.specs.Prove.{Reading, prove_by, prove}
+use Rattle.spv.proofs.ShapesLaws.{claimed-read, claimed-unread}
+use Rattle.spv.specs.Trace.{traced_of}
+use borrow.Author.Rules.{rules}
+use Rattle.spv.proofs.trace.trace_claim.Goals as goal
+
+pub returns-in-Read : goal.returns-in-Read
+returns-in-Read c = c.trace_settled.ensures ∙ sym (ap (λ (r : Reading). traced_of (prove r)) (claimed-read c.args.s.now c.args.x c.in-Read.is))
+
+pub returns-in-Unread : goal.returns-in-Unread
+unfolding prove_by
+returns-in-Unread c = c.untraced.ensures ∙ sym (ap (λ (r : Reading). traced_of (prove r)) (claimed-unread c.args.s.now c.args.x _ _ c.in-Unread.is refl))

@@ -1,0 +1,8 @@
+use Rattle.stream.specs.HashState.{from_words}
+use mathlib.Core.Path.{refl}
+use borrow.Author.Rules.{rules}
+use Rattle.stream.proofs.hashing.unpacked.Goals as goal
+
+pub returns : goal.returns
+unfolding from_words
+returns c = refl

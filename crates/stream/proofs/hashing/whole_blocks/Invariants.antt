@@ -1,0 +1,13 @@
+use lib.ListN.{length}
+use borrow.Author.Rules.{rules}
+use native.Mathlib.Omega.{arith}
+use mathlib.Core.Path.{◌≡◌, refl, ◌∙◌, ap}
+use Rattle.stream.specs.HashState.{blocks_from}
+use Prim.Native.Nat.{◌-◌, ◌≤◌, ◌/◌, ℕ, ◌*◌, ◌+◌}
+use Rattle.stream.proofs.hashing.whole_blocks.Given as goal
+
+abbrev pub invariant-loop-i : goal.invariant-loop-i
+invariant-loop-i l = (l.i ≤ l.n) × (l.r ≡ blocks_from l.initial.r l.s l.i)
+
+abbrev pub decreases-loop-i : goal.decreases-loop-i
+decreases-loop-i l = l.n - l.i

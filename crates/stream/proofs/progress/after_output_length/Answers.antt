@@ -1,0 +1,12 @@
+use Rattle.stream.specs.Progress.{next_at}
+use borrow.Author.Tests.{le-leb, lt-leb}
+use borrow.Author.Rules.{rules}
+use Rattle.stream.proofs.progress.after_output_length.Goals as goal
+
+pub returns-then-v-lt1 : goal.returns-then-v-lt1
+unfolding next_at
+returns-then-v-lt1 c = rw (lt-leb _ _ c.if-v-lt1.true, ← c.after_output.ensures)
+
+pub returns : goal.returns
+unfolding next_at
+returns c = rw (le-leb _ _ c.if-v-lt1.false, ← c.begin.ensures)

@@ -1,0 +1,7 @@
+use Rattle.stream.specs.Lent.{answer_of}
+use mathlib.Core.Path.{refl}
+use Rattle.stream.proofs.state.no_answer.Goals as goal
+
+pub returns : goal.returns
+unfolding answer_of
+returns c = refl

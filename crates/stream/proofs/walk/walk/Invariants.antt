@@ -1,0 +1,15 @@
+use mathlib.Core.Path.{◌≡◌, refl, ap, ◌∙◌}
+use Prim.Native.Nat.{◌+◌, ◌-◌, ◌≤◌}
+use native.Mathlib.Omega.{arith}
+use borrow.Author.Rules.{rules}
+use lib.ListN.{length, drop}
+use Rattle.stream.specs.declared.progress.Fed.{Fed}
+use Rattle.stream.specs.Parts.{MAX_PARTS}
+use Rattle.stream.specs.Progress.{run}
+use Rattle.stream.proofs.walk.walk.Given as goal
+
+abbrev pub invariant-loop-i : goal.invariant-loop-i
+invariant-loop-i l = (l.i ≤ length l.part) × (run MAX_PARTS (Fed.On l.initial.field) l.part ≡ run MAX_PARTS (Fed.On l.field) (drop l.i l.part))
+
+abbrev pub decreases-loop-i : goal.decreases-loop-i
+decreases-loop-i l = length l.part - l.i
