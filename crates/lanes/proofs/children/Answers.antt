@@ -21,4 +21,4 @@ pub loop-t-2-preserved : goal.loop-t-2-preserved
 loop-t-2-preserved c = (omega arith, omega arith, simp length-set c.loop-t-2.invariant.2, λ i. right_on i (take 8 (lanes i c.loop-t.w)) (node i c.args.right) c.loop-t-2.w c.loop-t-2.t c.words-in-loop-t-2.result (omega arith) (omega arith) (c.loop-t-2.invariant.3 i) (c.words-in-loop-t-2.ensures i))
 
 pub returns : goal.returns
-returns c = both i (node i c.args.left) (node i c.args.right) c.loop-t.w c.loop-t-2.w c.loop-t-2.t c.loop-t.t (omega arith) (omega arith) c.loop-t-2.invariant.2 (c.loop-t.invariant.2 i) (c.loop-t-2.invariant.3 i)
+returns c i = both i (node i c.args.left) (node i c.args.right) c.loop-t.w c.loop-t-2.w c.loop-t-2.t c.loop-t.t (omega arith) (omega arith) c.loop-t-2.invariant.2 (c.loop-t.invariant.2 i) (c.loop-t-2.invariant.3 i)

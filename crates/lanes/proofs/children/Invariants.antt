@@ -2,6 +2,7 @@
 use Rattle.std.proofs.Common.{◌≡◌, ℕ, ◌-◌, ◌≤◌, ◌++◌, length, take, sym, refl, append-nil, arith, length-set, rules}
 use Rattle.hash.specs.Sha256.{words}
 use Rattle.lanes.specs.Lanes.{lanes, node}
+use Rattle.lanes.proofs.SideBySide.{left_on, right_on, both}
 use Rattle.lanes.proofs.children.Given as goal
 
 abbrev pub invariant-loop-t : goal.invariant-loop-t

@@ -3,4 +3,4 @@ use Rattle.std.proofs.Common.{rules}
 use Rattle.lanes.proofs.digest_block.Goals as goal
 
 pub returns : goal.returns
-returns c = lanes-digest i c.args.s c.all-one.result c.all-none.result c.all-bits.result c.all-one.ensures c.all-none.ensures c.all-bits.ensures
+returns c i = lanes-digest i c.args.s c.all-one.result c.all-none.result c.all-bits.result c.all-one.ensures c.all-none.ensures c.all-bits.ensures

@@ -25,9 +25,9 @@ check_order-requires c =
 pub returns-then-not-check_order : goal.returns-then-not-check_order
 returns-then-not-check_order c =
     let o = opened-told _ _ _ c.open_set-answer.ensures c.in-Accepted.is in
-    answer_fails _ _ (check_made _ _ _ o c.fill_parents.ensures c.no_bytes-matrix.ensures _) (sym c.check_order.ensures ∙ not-true _ c.if-not-check_order.true) c.refuse.ensures
+    answer_fails _ _ (check_made _ _ _ o c.fill_parents.ensures c.no_bytes-matrix.ensures _) (sym c.check_order.ensures ∙ c.if-not-check_order.true) c.refuse.ensures
 
 pub returns : goal.returns
 returns c =
     let o = opened-told _ _ _ c.open_set-answer.ensures c.in-Accepted.is in
-    answer_passes _ _ (check_made _ _ _ o c.fill_parents.ensures c.no_bytes-matrix.ensures _) (sym c.check_order.ensures ∙ not-false _ c.if-not-check_order.false) c.in-Accepted.is
+    answer_passes _ _ (check_made _ _ _ o c.fill_parents.ensures c.no_bytes-matrix.ensures _) (sym c.check_order.ensures ∙ c.if-not-check_order.false) c.in-Accepted.is

@@ -34,10 +34,10 @@ pub returns-then-not-our_order : goal.returns-then-not-our_order
 returns-then-not-our_order c =
     let o = opened-told _ _ _ c.open_set-answer.ensures c.in-Accepted.is in
     let e = order_made _ _ _ o c.fill_parents.ensures c.no_bytes-matrix.ensures c.if-row-count.false in
-    (answer_none _ e c.our_order.ensures.0 (not-true _ c.if-not-our_order.true) c.refuse-then-not-our_order.ensures, row-ours _ c.args.row.now e c.our_order.ensures.1)
+    (answer_none _ e c.our_order.ensures.0 c.if-not-our_order.true c.refuse-then-not-our_order.ensures, row-ours _ c.args.row.now e c.our_order.ensures.1)
 
 pub returns : goal.returns
 returns c =
     let o = opened-told _ _ _ c.open_set-answer.ensures c.in-Accepted.is in
     let e = order_made _ _ _ o c.fill_parents.ensures c.no_bytes-matrix.ensures c.if-row-count.false in
-    (answer_some _ e c.our_order.ensures.0 (not-false _ c.if-not-our_order.false) c.in-Accepted.is, row-ours _ c.args.row.now e c.our_order.ensures.1)
+    (answer_some _ e c.our_order.ensures.0 c.if-not-our_order.false c.in-Accepted.is, row-ours _ c.args.row.now e c.our_order.ensures.1)

@@ -3,6 +3,7 @@ use mathlib.Core.Path.{◌≡◌, refl, sym, subst, ◌∙◌}
 use native.Mathlib.Omega.{arith}
 use lib.ListN.{length, get_or, length-set}
 use Rattle.page.specs.Flat.{NUMBERS_ROOM, Noted}
+use Rattle.page.proofs.FlatLaws.{noted-none, noted_on, noted-end}
 use borrow.Author.Rules.{rules}
 use Rattle.page.proofs.note_rows.Given as goal
 

@@ -2,6 +2,8 @@ use borrow.Author.Rules.{rules}
 use mathlib.Core.Path.{◌≡◌, refl, sym, ◌∙◌}
 use Prim.Native.Nat.{◌-◌, ◌/◌}
 use lib.ListN.{length}
+use Rattle.spv.proofs.HashesLaws.{search-end}
+use Rattle.block.proofs.IdsLaws.{found_here, not-here}
 use Rattle.spv.specs.Hashes.{searching}
 use Rattle.block.proofs.ids.among_from.Given as goal
 

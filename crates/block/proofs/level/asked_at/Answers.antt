@@ -15,10 +15,10 @@ pub is_marked-requires-2 : goal.is_marked-requires-2
 is_marked-requires-2 c = omega (arith, sibling_in _ _ c.requires.1 c.requires.0)
 
 pub returns-then-not-is_marked : goal.returns-then-not-is_marked
-returns-then-not-is_marked c = form_nothing _ _ _ _ _ (sym c.is_marked.ensures ∙ c.if-is_marked.false) (sibling-told _ _ _ c.sibling_position-sibling.ensures c.is_marked-2.ensures (not-true _ c.if-not-is_marked.true))
+returns-then-not-is_marked c = form_nothing _ _ _ _ _ (sym c.is_marked.ensures ∙ c.if-is_marked.false) (sibling-told _ _ _ c.sibling_position-sibling.ensures c.is_marked-2.ensures c.if-not-is_marked.true)
 
 pub returns-then-o-count : goal.returns-then-o-count
-returns-then-o-count c = form_plain _ _ _ _ _ (sym c.is_marked.ensures ∙ c.if-is_marked.false) (sibling-told _ _ _ c.sibling_position-sibling.ensures c.is_marked-2.ensures (not-false _ c.if-not-is_marked.false)) c.if-o-count.true
+returns-then-o-count c = form_plain _ _ _ _ _ (sym c.is_marked.ensures ∙ c.if-is_marked.false) (sibling-told _ _ _ c.sibling_position-sibling.ensures c.is_marked-2.ensures c.if-not-is_marked.false) c.if-o-count.true
 
 pub returns-else-o-count : goal.returns-else-o-count
-returns-else-o-count c = form_copy _ _ _ _ _ (sym c.is_marked.ensures ∙ c.if-is_marked.false) (sibling-told _ _ _ c.sibling_position-sibling.ensures c.is_marked-2.ensures (not-false _ c.if-not-is_marked.false)) c.if-o-count.false
+returns-else-o-count c = form_copy _ _ _ _ _ (sym c.is_marked.ensures ∙ c.if-is_marked.false) (sibling-told _ _ _ c.sibling_position-sibling.ensures c.is_marked-2.ensures c.if-not-is_marked.false) c.if-o-count.false

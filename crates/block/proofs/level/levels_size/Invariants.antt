@@ -6,9 +6,12 @@ use mathlib.Core.List.{List}
 use lib.ListN.{length}
 use Rattle.spv.specs.Hashes.{hashes_of}
 use Rattle.encoding.specs.Digits.{varint_bytes}
+use Rattle.encoding.proofs.VarintEncoding.{varint-length}
 use Rattle.block.specs.Tree.{size as layer_size}
 use Rattle.block.specs.Heap.{Level}
+use Rattle.block.proofs.HeapLaws.{level-start, level-small, level_on}
 use Rattle.block.specs.Leaves.{Ready}
+use Rattle.block.proofs.LevelLaws.{rest, count-start, count_on, sized_on, sized-end}
 use Rattle.block.proofs.level.levels_size.Given as goal
 
 abbrev pub invariant-loop-k : goal.invariant-loop-k

@@ -7,6 +7,7 @@ use Rattle.spv.specs.Hashes.{hashes_of}
 use Rattle.block.specs.BlockBump.{climbs_from}
 use Rattle.block.specs.Heap.{Grown, climb_of}
 use Rattle.block.specs.Marks.{Marked}
+use Rattle.block.proofs.ClimbsLaws.{climbs-start, climbs-stop, climbs_on, climbs-end}
 use Rattle.block.proofs.tree.climb_chosen.Given as goal
 
 abbrev pub invariant-loop-i : goal.invariant-loop-i

@@ -16,7 +16,7 @@ is_marked-requires c =
     omega arith
 
 pub returns-then-not-is_marked : goal.returns-then-not-is_marked
-returns-then-not-is_marked c = λ ch g m. one-passed _ _ _ (sym (mark-chosen _ _ _ _ _ m c.requires.0 c.requires.2 c.requires.3) ∙ sym c.is_marked.ensures ∙ not-true _ c.if-not-is_marked.true)
+returns-then-not-is_marked c = λ ch g m. one-passed _ _ _ (sym (mark-chosen _ _ _ _ _ m c.requires.0 c.requires.2 c.requires.3) ∙ sym c.is_marked.ensures ∙ c.if-not-is_marked.true)
 
 pub climb_from-requires : goal.climb_from-requires
 climb_from-requires c =
@@ -27,4 +27,4 @@ pub returns : goal.returns
 returns c =
     λ ch g m.
     c.climb_from.ensures g c.requires.4
-    ∙ one-chosen _ _ _ (sym (mark-chosen _ _ _ _ _ m c.requires.0 c.requires.2 c.requires.3) ∙ sym c.is_marked.ensures ∙ not-false _ c.if-not-is_marked.false)
+    ∙ one-chosen _ _ _ (sym (mark-chosen _ _ _ _ _ m c.requires.0 c.requires.2 c.requires.3) ∙ sym c.is_marked.ensures ∙ c.if-not-is_marked.false)

@@ -1,6 +1,7 @@
 use native.Mathlib.Omega.{arith}
 use mathlib.Core.Path.{◌≡◌, refl}
 use Prim.Native.Nat.{ℕ, ◌<◌, ◌-◌, ◌^◌}
+use Rattle.block.proofs.HeapLaws.{shape_on, shape_end}
 use Rattle.block.proofs.tree.shape_for.Given as goal
 
 abbrev pub invariant-loop-width : goal.invariant-loop-width

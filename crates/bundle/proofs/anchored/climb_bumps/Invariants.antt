@@ -5,10 +5,11 @@ use native.Mathlib.Omega.{arith}
 use lib.ListN.{length, get_or}
 use Rattle.format.specs.Refusals.{MAX_BUMPS}
 use Rattle.bundle.specs.Anchored.{Right}
+use Rattle.bundle.proofs.AnchoredLaws.{risen_on}
 use Rattle.bundle.proofs.anchored.climb_bumps.Given as goal
 
 abbrev pub invariant-loop-b : goal.invariant-loop-b
-invariant-loop-b l = (length l.last ≡ MAX_BUMPS) × (length l.ends ≡ length l.bumps) × (l.b ≤ l.initial.ends) × (l.initial.ends + 1 ≡ l.count) × ((i : ℕ) → i < l.n → get_or l.anchors i 0 < l.b → Right l.s l.roots l.last l.anchors l.ids l.ends i)
+invariant-loop-b l = (length l.bumps ≡ MAX_BUMPS) × (length l.ends ≡ length l.initial.ends) × (l.b ≤ l.last) × (l.last + 1 ≡ l.count) × ((i : ℕ) → i < l.n → get_or l.anchors i 0 < l.b → Right l.s l.roots l.bumps l.anchors l.ids l.ends i)
 
 abbrev pub decreases-loop-b : goal.decreases-loop-b
-decreases-loop-b l = l.initial.ends - l.b
+decreases-loop-b l = l.last - l.b

@@ -4,6 +4,7 @@ use native.Mathlib.Omega.{arith}
 use borrow.Author.Rules.{rules}
 use lib.ListN.{length}
 use Rattle.bundle.specs.Anchored.{SettlesRows}
+use Rattle.bundle.proofs.AnchoredLaws.{rows_none, rows_more}
 use Rattle.bundle.proofs.anchored.settle_rows.Given as goal
 
 abbrev pub invariant-loop-r : goal.invariant-loop-r

@@ -9,10 +9,10 @@ pub returns-then-not-is_among : goal.returns-then-not-is_among
 returns-then-not-is_among c =
     λ v e.
     ap Refuses c.reject.ensures
-    ∙ sym (trusted-not _ _ _ _ _ _ e c.in-Accepted.is (sym c.is_among.ensures ∙ not-true _ c.if-not-is_among.true))
+    ∙ sym (trusted-not _ _ _ _ _ _ e c.in-Accepted.is (sym c.is_among.ensures ∙ c.if-not-is_among.true))
 
 pub returns-in-Refused : goal.returns-in-Refused
 returns-in-Refused c = λ v e. sym (trusted-refused _ _ _ _ _ e c.in-Refused.is)
 
 pub returns-else-not-is_among : goal.returns-else-not-is_among
-returns-else-not-is_among c = λ v e. sym (trusted-listed _ _ _ _ _ _ e c.in-Accepted.is (sym c.is_among.ensures ∙ not-false _ c.if-not-is_among.false))
+returns-else-not-is_among c = λ v e. sym (trusted-listed _ _ _ _ _ _ e c.in-Accepted.is (sym c.is_among.ensures ∙ c.if-not-is_among.false))

@@ -81,7 +81,7 @@ loop-i-preserved c =
           judging_passes _ _ _ _ _ _ (c.loop-i.invariant.2 roots bumps ends) c.requires.n_bound c.loop-i-test.true read
           (head_told _ _ _ _ _ known (c.judge_entry-ruling.ensures roots bumps mined) c.in-Passes.is)
           (sym c.hash_at-id.ensures ∙ known)
-          (c.?Numbers-of.ensures ∙ numbers_with _ _ _ _ c.outputs_total-total.ensures)
+          (c.numbers_of-row.ensures ∙ numbers_with _ _ _ _ c.outputs_total-total.ensures)
           c.put_numbers.ensures),
       onward-one _ _ _ _ _ c.loop-i.invariant.3 read,
     )

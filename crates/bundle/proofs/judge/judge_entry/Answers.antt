@@ -20,7 +20,7 @@ returns-then-not-rests_on c =
     λ roots bumps mined.
     ap Refuses c.reject-then-not-rests_on.ensures
     ∙ sym
-    (stands_orphan _ _ _ _ _ _ (sym c.is_among.ensures ∙ c.if-is_among.false) c.in-Unanchored.is (sym c.rests_on.ensures ∙ not-true _ c.if-not-rests_on.true))
+    (stands_orphan _ _ _ _ _ _ (sym c.is_among.ensures ∙ c.if-is_among.false) c.in-Unanchored.is (sym c.rests_on.ensures ∙ c.if-not-rests_on.true))
 
 pub returns-else-n : goal.returns-else-n
 unfolding mined_by
@@ -32,4 +32,4 @@ pub returns-else-not-rests_on : goal.returns-else-not-rests_on
 returns-else-not-rests_on c =
     λ roots bumps mined.
     sym
-    (stands_child _ _ _ _ _ _ (sym c.is_among.ensures ∙ c.if-is_among.false) c.in-Unanchored.is (sym c.rests_on.ensures ∙ not-false _ c.if-not-rests_on.false))
+    (stands_child _ _ _ _ _ _ (sym c.is_among.ensures ∙ c.if-is_among.false) c.in-Unanchored.is (sym c.rests_on.ensures ∙ c.if-not-rests_on.false))

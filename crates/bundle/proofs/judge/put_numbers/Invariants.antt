@@ -9,7 +9,7 @@ use lib.Seq.{paste, paste-zero, paste-suc}
 use Rattle.bundle.proofs.judge.put_numbers.Given as goal
 
 abbrev pub invariant-loop-k : goal.invariant-loop-k
-invariant-loop-k l = (l.k ≤ 10) × (length l.at ≡ 10) × (length l.numbers ≡ length l.i) × (l.numbers ≡ paste l.i l.initial.numbers l.at l.k)
+invariant-loop-k l = (l.k ≤ 10) × (length l.row ≡ 10) × (length l.numbers ≡ length l.initial.numbers) × (l.numbers ≡ paste l.initial.numbers l.at l.row l.k)
 
 abbrev pub decreases-loop-k : goal.decreases-loop-k
 decreases-loop-k l = 10 - l.k

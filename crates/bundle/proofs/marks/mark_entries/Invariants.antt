@@ -4,10 +4,11 @@ use native.Mathlib.Omega.{arith}
 use borrow.Author.Rules.{rules}
 use lib.ListN.{length}
 use Rattle.spv.specs.Hashes.{hashes_of, Distinct}
+use Rattle.bundle.proofs.FlatLaws.{Passing, passing_start, passing_end, passing_on}
 use Rattle.bundle.proofs.marks.mark_entries.Given as goal
 
 abbrev pub invariant-loop-k : goal.invariant-loop-k
-invariant-loop-k l = (length l.marks ≡ length l.first-2) × (Distinct (hashes_of l.ids) → Passing l.s (hashes_of l.ids) l.numbers l.firsts l.base l.n l.first-2 l.initial.marks l.marks l.first l.k)
+invariant-loop-k l = (length l.marks ≡ length l.initial.marks) × (Distinct (hashes_of l.ids) → Passing l.s (hashes_of l.ids) l.numbers l.firsts l.base l.n l.initial.marks l.first-2 l.marks l.first l.k)
 
 abbrev pub decreases-loop-k : goal.decreases-loop-k
 decreases-loop-k l = l.n - l.k

@@ -14,10 +14,10 @@ pub loop-i-init : goal.loop-i-init
 loop-i-init c = (omega arith, λ d. simp sub-zero)
 
 pub returns-in_default : goal.returns-in_default
-returns-in_default c = sym (sym (c.loop-i.invariant.1 d) ∙ exist-refused _ _ _ _ _ _ c.loop-i-test.true (answered input_answer c.read_input-field.ensures c.in_default.is))
+returns-in_default c d = sym (sym (c.loop-i.invariant.1 d) ∙ exist-refused _ _ _ _ _ _ c.loop-i-test.true (answered input_answer c.read_input-field.ensures c.in_default.is))
 
 pub returns-then-there-v : goal.returns-then-there-v
-returns-then-there-v c =
+returns-then-there-v c d =
     sym (sym (c.loop-i.invariant.1 d) ∙ exist-missing _ _ _ _ _ _ d c.loop-i-test.true (answered input_answer c.read_input-field.ensures c.in-Value.is)
     c.hash_at-x.ensures c.place_among-parent.ensures c.four_at-v.ensures c.outputs_at-there.ensures c.if-there-v.true)
 
@@ -30,4 +30,4 @@ loop-i-preserved c =
 )
 
 pub returns : goal.returns
-returns c = sym (sym (c.loop-i.invariant.1 d) ∙ exist-end _ _ _ _ _ _ c.loop-i-test.false)
+returns c d = sym (sym (c.loop-i.invariant.1 d) ∙ exist-end _ _ _ _ _ _ c.loop-i-test.false)

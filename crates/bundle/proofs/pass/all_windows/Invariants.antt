@@ -8,10 +8,11 @@ use Rattle.bundle.specs.Pictured.{Pictured}
 use Rattle.bundle.specs.Pass.{Firsts, Reached, Blank}
 use native.Mathlib.Omega.{arith}
 use borrow.Author.Rules.{rules}
+use Rattle.bundle.proofs.ReachLaws.{reached-start, reached-end}
 use Rattle.bundle.proofs.pass.all_windows.Given as goal
 
 abbrev pub invariant-loop-base : goal.invariant-loop-base
-invariant-loop-base l = (l.base ≤ l.total) × (length l.sums ≡ length l.initial.sums) × ((l : List Payment) → length l ≡ l.n → Pictured l.s l.ids l.numbers l → Firsts l.firsts l → l.total ≡ output_count l → Blank 256 l.initial.sums → Reached l.s l l.base l.first l.walk l.sums)
+invariant-loop-base r = (r.base ≤ r.total) × (length r.sums ≡ length r.initial.sums) × ((l : List Payment) → length l ≡ r.n → Pictured r.s r.ids r.numbers l → Firsts r.firsts l → r.total ≡ output_count l → Blank 256 r.initial.sums → Reached r.s l r.base r.first r.walk r.sums)
 
 abbrev pub decreases-loop-base : goal.decreases-loop-base
 decreases-loop-base l = l.total - l.base

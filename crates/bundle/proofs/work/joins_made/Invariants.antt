@@ -4,6 +4,7 @@ use borrow.Author.Rules.{rules}
 use native.Mathlib.Omega.{arith}
 use Rattle.bundle.specs.Windows.{sum_to}
 use Rattle.bundle.specs.WorkMade.{kept_joins}
+use Rattle.bundle.proofs.WorkMadeLaws.{sum_one}
 use Rattle.bundle.proofs.work.joins_made.Given as goal
 
 abbrev pub invariant-loop-k : goal.invariant-loop-k

@@ -4,10 +4,15 @@ use Rattle.spv.specs.Values.{worked_out}
 use Rattle.spv.specs.PositionFits.{PositionFits}
 use Rattle.climbs.specs.Row.{Rows, Moved, Reached}
 use Rattle.climbs.specs.Spent.{Spent}
+use Rattle.climbs.proofs.RowLaws.{moved_none, moved_on}
+use Rattle.climbs.proofs.SpentLaws.{spent-none, spent_on}
+use Rattle.climbs.proofs.PassLaws.{reached-none, reached-both, reached-grows}
+use Rattle.climbs.proofs.Visits.{setting_on}
+use Rattle.climbs.proofs.TogetherLaws.{low-above, spot_tree, tree_goes, reached-end}
 use Rattle.climbs.proofs.all.visit_trees.Given as goal
 
 abbrev pub invariant-loop-lo : goal.invariant-loop-lo
-invariant-loop-lo l = (length l.states ≡ length l.t) × (length l.hashes ≡ length l.others) × (l.lo ≤ length l.order) × Moved (worked_out (looked_up l.s l.places l.layers l.initial.states)) l.initial.hashes l.starts l.t l.others l.states l.hashes × Reached l.order l.states l.initial.hashes 0 l.lo × Spent (looked_up l.s l.places l.layers l.initial.states) l.initial.hashes l.starts l.t l.others l.initial.costs l.states l.hashes l.costs
+invariant-loop-lo l = (length l.states ≡ length l.initial.states) × (length l.hashes ≡ length l.initial.hashes) × (l.lo ≤ length l.order) × Moved (worked_out (looked_up l.s l.places l.t l.others)) l.layers l.starts l.initial.states l.initial.hashes l.states l.hashes × Reached l.order l.states l.layers 0 l.lo × Spent (looked_up l.s l.places l.t l.others) l.layers l.starts l.initial.states l.initial.hashes l.initial.costs l.states l.hashes l.costs
 
 abbrev pub decreases-loop-lo : goal.decreases-loop-lo
 decreases-loop-lo l = length l.order - l.lo

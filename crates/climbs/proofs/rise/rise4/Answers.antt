@@ -24,7 +24,7 @@ pub shape_of-costs-then-not-layer_rows : goal.shape_of-costs-then-not-layer_rows
 shape_of-costs-then-not-layer_rows c = c.layer_rows.auto.costs ∙ c.loop-k.invariant.4.kept
 
 pub returns-then-not-layer_rows : goal.returns-then-not-layer_rows
-returns-then-not-layer_rows c = (moved_on _ _ _ _ _ _ _ _ _ c.loop-k.invariant.3 (moved_up _ (c.loop-k.k + 1) c.args.layers _ _ _ _ _ (omega arith) c.layer_rows.ensures.0), spent_on _ _ _ _ _ _ _ _ _ _ _ _ c.loop-k.invariant.4 (spent-up _ (c.loop-k.k + 1) c.args.layers _ _ _ _ _ _ _ (let c.loop-k-test.true = c.loop-k-test.true in omega arith) c.layer_rows.ensures.1))
+returns-then-not-layer_rows c = (moved_on _ _ _ _ _ _ _ _ _ c.loop-k.invariant.3 (moved_up _ (c.loop-k.k + 1) c.args.layers _ _ _ _ _ (omega arith) c.layer_rows.ensures.0), spent_on _ _ _ _ _ _ _ _ _ _ _ _ c.loop-k.invariant.4 (spent-up _ (c.loop-k.k + 1) c.args.layers _ _ _ _ _ _ _ (omega arith) c.layer_rows.ensures.1))
 
 pub overflow_add-k : goal.overflow_add-k
 overflow_add-k c = omega arith
@@ -33,7 +33,7 @@ pub loop-k-smaller : goal.loop-k-smaller
 loop-k-smaller c = omega arith
 
 pub loop-k-preserved : goal.loop-k-preserved
-loop-k-preserved c = (c.layer_rows.auto.states ∙ c.loop-k.invariant.0, c.layer_rows.auto.hashes ∙ c.loop-k.invariant.1, (omega arith), moved_on _ _ _ _ _ _ _ _ _ c.loop-k.invariant.3 (moved_up _ (c.loop-k.k + 1) c.args.layers _ _ _ _ _ (let c.loop-k-test.true = c.loop-k-test.true in omega arith) c.layer_rows.ensures.0), spent_on _ _ _ _ _ _ _ _ _ _ _ _ c.loop-k.invariant.4 (spent-up _ (c.loop-k.k + 1) c.args.layers _ _ _ _ _ _ _ (let c.loop-k-test.true = c.loop-k-test.true in omega arith) c.layer_rows.ensures.1))
+loop-k-preserved c = (c.layer_rows.auto.states ∙ c.loop-k.invariant.0, c.layer_rows.auto.hashes ∙ c.loop-k.invariant.1, (omega arith), moved_on _ _ _ _ _ _ _ _ _ c.loop-k.invariant.3 (moved_up _ (c.loop-k.k + 1) c.args.layers _ _ _ _ _ (omega arith) c.layer_rows.ensures.0), spent_on _ _ _ _ _ _ _ _ _ _ _ _ c.loop-k.invariant.4 (spent-up _ (c.loop-k.k + 1) c.args.layers _ _ _ _ _ _ _ (omega arith) c.layer_rows.ensures.1))
 
 pub shape_of-states : goal.shape_of-states
 shape_of-states c = c.loop-k.invariant.0

@@ -3,10 +3,13 @@ use Rattle.climbs.specs.LookUp.{looked_up}
 use Rattle.spv.specs.Values.{worked_out}
 use Rattle.climbs.specs.Row.{Moved}
 use Rattle.climbs.specs.Spent.{Spent}
+use Rattle.climbs.proofs.RowLaws.{moved_none, moved_on, moved_up}
+use Rattle.climbs.proofs.SpentLaws.{spent-none, spent_on, spent-up}
+use Rattle.climbs.proofs.RiseLaws.{held_on}
 use Rattle.climbs.proofs.rise.rise4.Given as goal
 
 abbrev pub invariant-loop-k : goal.invariant-loop-k
-invariant-loop-k l = (length l.states ≡ length l.t) × (length l.hashes ≡ length l.others) × (l.k ≤ l.initial.hashes) × Moved (worked_out (looked_up l.s l.places l.a l.b)) l.initial.hashes l.starts l.t l.others l.states l.hashes × Spent (looked_up l.s l.places l.a l.b) l.initial.hashes l.starts l.t l.others l.initial.costs l.states l.hashes l.costs
+invariant-loop-k l = (length l.states ≡ length l.initial.states) × (length l.hashes ≡ length l.initial.hashes) × (l.k ≤ l.layers) × Moved (worked_out (looked_up l.s l.places l.t l.others)) l.layers l.starts l.initial.states l.initial.hashes l.states l.hashes × Spent (looked_up l.s l.places l.t l.others) l.layers l.starts l.initial.states l.initial.hashes l.initial.costs l.states l.hashes l.costs
 
 abbrev pub decreases-loop-k : goal.decreases-loop-k
-decreases-loop-k l = l.initial.hashes - l.k
+decreases-loop-k l = l.layers - l.k

@@ -1,14 +1,16 @@
 use Rattle.format.specs.LevelAnswer.{kind_of}
+use Rattle.format.proofs.ParseLaws.{answered}
 use borrow.Author.Rules.{rules}
 use mathlib.Core.Path.{◌≡◌, refl, ◌∙◌}
 use Prim.Native.Nat.{◌-◌, ◌≤◌}
 use lib.ListN.{length}
 use native.Mathlib.Omega.{arith}
 use Rattle.encoding.specs.Buffer.{buffer}
+use Rattle.conversion.proofs.ConvertLaws.{Writing, writing_start, writing-end, writing_short, writing_on, wrote_level}
 use Rattle.conversion.proofs.from_tsc.write_levels.Given as goal
 
 abbrev pub invariant-loop-k : goal.invariant-loop-k
-invariant-loop-k l = Writing l.s l.n l.initial.place.at l.i (buffer l.at l.initial.out) l.k l.place.at l.j (buffer l.out l.next) × (l.k ≤ l.n) × (length l.out ≡ length l.at)
+invariant-loop-k l = Writing l.s l.n l.initial.place.at l.i (buffer l.initial.out l.at) l.k l.place.at l.j (buffer l.out l.next) × (l.k ≤ l.n) × (length l.out ≡ length l.initial.out)
 
 abbrev pub decreases-loop-k : goal.decreases-loop-k
 decreases-loop-k l = l.n - l.k

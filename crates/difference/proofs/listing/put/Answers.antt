@@ -11,8 +11,8 @@ pub returns-then-room-at : goal.returns-then-room-at
 returns-then-room-at c = sym (put_full _ _ _ _ _ _ c.if-room-at.true)
 
 pub returns-then-not-write : goal.returns-then-not-write
-returns-then-not-write c = sym (put-counted _ _ _ _ _ _ c.if-room-at.false (not-true _ c.if-not-write.true))
+returns-then-not-write c = sym (put-counted _ _ _ _ _ _ c.if-room-at.false c.if-not-write.true)
 
 pub returns : goal.returns
 unfolding store
-returns c = sym (put_written _ _ _ _ _ _ c.if-room-at.false (not-false _ c.if-not-write.false))
+returns c = sym (put_written _ _ _ _ _ _ c.if-room-at.false c.if-not-write.false)

@@ -1,4 +1,6 @@
 use borrow.Author.Rules.{rules}
+use Rattle.difference.proofs.MergeLaws.{told-there, merge-stop, merge_on, merge-end}
+use Rattle.levels.proofs.FrontsLaws.{least, front-told, past-told}
 use Rattle.difference.specs.Merge.{merged}
 use Rattle.levels.specs.Places.{entries}
 use Rattle.difference.specs.Filling.{filling, put_all}
@@ -10,9 +12,9 @@ use Rattle.difference.proofs.listing.tell_level.Given as goal
 
 abbrev pub invariant-loop-turn : goal.invariant-loop-turn
 invariant-loop-turn l =
-    (put_all l.level (filling l.at-2 l.initial.at) (merged 2048 l.initial.out (entries l.s l.x) (entries l.t l.y)) ≡ put_all l.level (filling l.out l.at) (merged (2048 - l.turn) l.initial.out (entries l.s (drop l.i l.x)) (entries l.t (drop l.j l.y))))
+    (put_all l.write (filling l.initial.out l.initial.at) (merged 2048 l.level (entries l.s l.x) (entries l.t l.y)) ≡ put_all l.write (filling l.out l.at) (merged (2048 - l.turn) l.level (entries l.s (drop l.i l.x)) (entries l.t (drop l.j l.y))))
     × (l.turn ≤ 2048)
-    × (length l.out ≡ length l.at-2)
+    × (length l.out ≡ length l.initial.out)
 
 abbrev pub decreases-loop-turn : goal.decreases-loop-turn
 decreases-loop-turn l = 2048 - l.turn

@@ -8,7 +8,7 @@ use Rattle.difference.proofs.shorter.weigh.Goals as goal
 
 pub returns-then-not-same_bytes : goal.returns-then-not-same_bytes
 unfolding choice_of
-returns-then-not-same_bytes c = ap refused c.reject.ensures ∙ two_roots _ _ _ c.prove_bump-p.result c.prove_bump-p.ensures _ _ c.in-Accepted.is c.prove_bump-q.result c.prove_bump-q.ensures _ _ c.in-Accepted-y.is (sym c.same_bytes.ensures ∙ not-true _ c.if-not-same_bytes.true)
+returns-then-not-same_bytes c = ap refused c.reject.ensures ∙ two_roots _ _ _ c.prove_bump-p.result c.prove_bump-p.ensures _ _ c.in-Accepted.is c.prove_bump-q.result c.prove_bump-q.ensures _ _ c.in-Accepted-y.is (sym c.same_bytes.ensures ∙ c.if-not-same_bytes.true)
 
 pub returns-in-Refused : goal.returns-in-Refused
 unfolding choice_of
@@ -19,4 +19,4 @@ unfolding choice_of
 returns-in-Refused-y c = second-refused _ _ _ c.prove_bump-p.result c.prove_bump-p.ensures _ _ c.in-Accepted.is c.prove_bump-q.result c.prove_bump-q.ensures _ c.in-Refused-y.is
 
 pub returns-else-not-same_bytes : goal.returns-else-not-same_bytes
-returns-else-not-same_bytes c = c.shorter_of.ensures ∙ one-root _ _ _ c.prove_bump-p.result c.prove_bump-p.ensures _ _ c.in-Accepted.is c.prove_bump-q.result c.prove_bump-q.ensures _ _ c.in-Accepted-y.is (sym c.same_bytes.ensures ∙ not-false _ c.if-not-same_bytes.false)
+returns-else-not-same_bytes c = c.shorter_of.ensures ∙ one-root _ _ _ c.prove_bump-p.result c.prove_bump-p.ensures _ _ c.in-Accepted.is c.prove_bump-q.result c.prove_bump-q.ensures _ _ c.in-Accepted-y.is (sym c.same_bytes.ensures ∙ c.if-not-same_bytes.false)

@@ -4,10 +4,11 @@ use native.Mathlib.Omega.{arith}
 use borrow.Author.Rules.{rules}
 use lib.ListN.{length, drop}
 use Rattle.encoding.specs.Buffer.{buffer, write_on}
+use Rattle.encoding.proofs.BufferLaws.{write_on_lem, write-end}
 use Rattle.encoding.proofs.buffer.write.Given as goal
 
 abbrev pub invariant-loop-i : goal.invariant-loop-i
-invariant-loop-i l = (write_on (buffer l.at l.text) l.initial.out ≡ write_on (buffer l.out l.next) (drop l.i l.initial.out)) × (l.i ≤ length l.initial.out) × (length l.out ≡ length l.at)
+invariant-loop-i l = (write_on (buffer l.initial.out l.at) l.text ≡ write_on (buffer l.out l.next) (drop l.i l.text)) × (l.i ≤ length l.text) × (length l.out ≡ length l.initial.out)
 
 abbrev pub decreases-loop-i : goal.decreases-loop-i
-decreases-loop-i l = length l.initial.out - l.i
+decreases-loop-i l = length l.text - l.i

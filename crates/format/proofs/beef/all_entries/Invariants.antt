@@ -1,6 +1,7 @@
 use borrow.Author.Rules.{rules}
 use native.Mathlib.Omega.{arith}
 use mathlib.Core.Path.{◌≡◌, sym, ◌∙◌}
+use Rattle.format.proofs.ParseLaws.{answered, each-ok, each-fault, count-start, count-step, count-refused, count-done}
 use Rattle.format.specs.Parse.{times, each}
 use Rattle.format.specs.Beef.{entry_field}
 use Rattle.format.specs.BeefAnswer.{entry_head_of, entry_answer}
@@ -9,7 +10,7 @@ use lib.ListN.{length}
 use Rattle.format.proofs.beef.all_entries.Given as goal
 
 abbrev pub invariant-loop-i : goal.invariant-loop-i
-invariant-loop-i l = (l.i ≤ l.count) × (each length (times (entry_field l.bumps) l.count l.s l.initial.next.at) ≡ each (λ l. l.i + length l) (times (entry_field l.bumps) (l.count - l.i) l.s l.next.at))
+invariant-loop-i r = (r.i ≤ r.count) × (each length (times (entry_field r.bumps) r.count r.s r.initial.next.at) ≡ each (λ l. r.i + length l) (times (entry_field r.bumps) (r.count - r.i) r.s r.next.at))
 
 abbrev pub decreases-loop-i : goal.decreases-loop-i
 decreases-loop-i l = l.count - l.i

@@ -1,6 +1,7 @@
 use borrow.Author.Rules.{rules}
 use native.Mathlib.Omega.{arith}
 use mathlib.Core.Path.{◌≡◌, sym, ◌∙◌}
+use Rattle.format.proofs.ParseLaws.{answered, each-ok, each-fault, count-start, count-step, count-refused, count-done}
 use Rattle.format.specs.Parse.{times, each}
 use Rattle.format.specs.Bump.{bump_field, head_of, bump_answer}
 use Prim.Native.Nat.{◌≤◌, ◌-◌, ◌+◌}
@@ -8,7 +9,7 @@ use lib.ListN.{length}
 use Rattle.format.proofs.bumps.all_bumps.Given as goal
 
 abbrev pub invariant-loop-i : goal.invariant-loop-i
-invariant-loop-i l = (l.i ≤ l.count) × (each length (times bump_field l.count l.s l.initial.next.at) ≡ each (λ l. l.i + length l) (times bump_field (l.count - l.i) l.s l.next.at))
+invariant-loop-i r = (r.i ≤ r.count) × (each length (times bump_field r.count r.s r.initial.next.at) ≡ each (λ l. r.i + length l) (times bump_field (r.count - r.i) r.s r.next.at))
 
 abbrev pub decreases-loop-i : goal.decreases-loop-i
 decreases-loop-i l = l.count - l.i

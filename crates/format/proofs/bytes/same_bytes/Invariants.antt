@@ -9,6 +9,7 @@ use borrow.Author.Count.{below_more}
 use lib.ListN.{length, get_or}
 use lib.Seq.{ext_get_or}
 use Rattle.format.specs.Bytes as bytes
+use Rattle.format.proofs.BytesLaws.{eq_same, ne_same}
 use Rattle.format.proofs.bytes.same_bytes.Given as goal
 
 abbrev pub invariant-loop-i : goal.invariant-loop-i

@@ -16,16 +16,15 @@ pub loop-k-init : goal.loop-k-init
 loop-k-init c = (omega arith, search rules, refl, paste-zero c.args.list.now (32 * c.args.i) c.args.hash, omega arith)
 
 pub loop-k-preserved : goal.loop-k-preserved
-loop-k-preserved c =
-    (
-      omega arith,
-      c.loop-k.invariant.1,
-      length-set c.loop-k.list (32 * c.args.i + c.loop-k.k) (get_or c.args.hash c.loop-k.k 0) ∙ c.loop-k.invariant.2,
-      ap (λ (m : List ℕ). set m (32 * c.args.i + c.loop-k.k) (get_or c.args.hash c.loop-k.k 0)) c.loop-k.invariant.3
-          ∙ paste-suc c.args.list.now (32 * c.args.i) c.args.hash c.loop-k.k 0 (omega arith) (omega arith)
-          ∙ ap (paste c.args.list.now (32 * c.args.i) c.args.hash) (sym (add-one c.loop-k.k)),
-      c.loop-k.invariant.4,
-    )
+loop-k-preserved c = (
+  omega arith,
+  c.loop-k.invariant.1,
+  length-set c.loop-k.list (32 * c.args.i + c.loop-k.k) (get_or c.args.hash c.loop-k.k 0) ∙ c.loop-k.invariant.2,
+  ap (λ (m : List ℕ). set m (32 * c.args.i + c.loop-k.k) (get_or c.args.hash c.loop-k.k 0)) c.loop-k.invariant.3
+      ∙ paste-suc c.args.list.now (32 * c.args.i) c.args.hash c.loop-k.k 0 (omega arith) (omega arith)
+      ∙ ap (paste c.args.list.now (32 * c.args.i) c.args.hash) (sym (add-one c.loop-k.k)),
+  c.loop-k.invariant.4,
+)
 
 pub shape_of-list : goal.shape_of-list
 shape_of-list c = c.loop-k.invariant.2

@@ -6,10 +6,11 @@ use Prim.Native.Nat.{ℕ, ◌+◌, ◌*◌, ◌≤◌, ◌-◌}
 use lib.ListN.{length, get_or, set, length-set}
 use lib.Seq.{paste, paste-zero, paste-suc}
 use native.Mathlib.Numerals.{add-one}
+use Rattle.format.proofs.BytesLaws.{set-inside, set_outside}
 use Rattle.format.proofs.bytes.set_hash.Given as goal
 
 abbrev pub invariant-loop-k : goal.invariant-loop-k
-invariant-loop-k l = (l.k ≤ 32) × (length l.at ≡ 32) × (length l.list ≡ length l.i) × (l.list ≡ paste l.i l.initial.list l.at l.k) × (32 * l.hash + 32 ≤ length l.i)
+invariant-loop-k l = (l.k ≤ 32) × (length l.hash ≡ 32) × (length l.list ≡ length l.initial.list) × (l.list ≡ paste l.initial.list l.at l.hash l.k) × (32 * l.i + 32 ≤ length l.initial.list)
 
 abbrev pub decreases-loop-k : goal.decreases-loop-k
 decreases-loop-k l = 32 - l.k

@@ -4,6 +4,7 @@ use mathlib.Core.Bool.{◌||◌}
 use Prim.Native.Nat.{◌≤◌, ◌-◌}
 use lib.ListN.{length, drop}
 use Rattle.format.specs.Level.{holds}
+use Rattle.format.proofs.SeenLaws.{scan_here, scan_on, scan_end}
 use mathlib.Core.Logic.{⊎_elim}
 use Rattle.format.proofs.leaf.contains.Given as goal
 

@@ -17,7 +17,7 @@ unfolding output_field
 returns-then-not-is_taken c =
     simp (
       answered number_of c.read_eight-first.ensures c.in-Value.is,
-      sym c.is_taken.ensures ∙ not-true _ c.if-not-is_taken.true,
+      sym c.is_taken.ensures ∙ c.if-not-is_taken.true,
     )
 
 pub returns-in_default-second : goal.returns-in_default-second
@@ -26,7 +26,7 @@ returns-in_default-second c =
     rw (c.refusal.ensures, c.in_default-second.is)
     (simp (
       answered number_of c.read_eight-first.ensures c.in-Value.is,
-      sym c.is_taken.ensures ∙ not-false _ c.if-not-is_taken.false,
+      sym c.is_taken.ensures ∙ c.if-not-is_taken.false,
       answered run_of c.read_script-second.ensures c.in_default-second.is,
     ))
 
@@ -35,6 +35,6 @@ unfolding output_field
 returns c =
     simp (
       answered number_of c.read_eight-first.ensures c.in-Value.is,
-      sym c.is_taken.ensures ∙ not-false _ c.if-not-is_taken.false,
+      sym c.is_taken.ensures ∙ c.if-not-is_taken.false,
       answered run_of c.read_script-second.ensures c.in-Value-second.is,
     )

@@ -15,17 +15,17 @@ returns-in_default c =
 pub returns-then-not-index_fits : goal.returns-then-not-index_fits
 returns-then-not-index_fits c =
     sym (nodes_outside _ _ _ _ (answered number_of c.read_node_count-first.ensures c.in-Value.is)
-    (sym c.index_fits.ensures ∙ not-true _ c.if-not-index_fits.true))
+    (sym c.index_fits.ensures ∙ c.if-not-index_fits.true))
 
 pub returns-in_default-second : goal.returns-in_default-second
 returns-in_default-second c =
     rw (c.refusal-in_default-second.ensures, c.in_default-second.is)
     (sym (nodes-refused _ _ _ _ (answered number_of c.read_node_count-first.ensures c.in-Value.is)
-    (sym c.index_fits.ensures ∙ not-false _ c.if-not-index_fits.false)
+    (sym c.index_fits.ensures ∙ c.if-not-index_fits.false)
     (each-fault length _ (answered number_of c.read_nodes-second.ensures c.in_default-second.is))))
 
 pub returns : goal.returns
 returns c =
     let l = each-ok length _ (answered number_of c.read_nodes-second.ensures c.in-Value-second.is) in
     sym (nodes-read _ _ _ _ (answered number_of c.read_node_count-first.ensures c.in-Value.is)
-    (sym c.index_fits.ensures ∙ not-false _ c.if-not-index_fits.false) l.1 l.2)
+    (sym c.index_fits.ensures ∙ c.if-not-index_fits.false) l.1 l.2)

@@ -13,20 +13,20 @@ pub returns-in_default : goal.returns-in_default
 unfolding tsc_up_to
 returns-in_default c =
     rw (c.refusal.ensures, c.in_default.is)
-    (sym (stop _ _ (answered number_of c.?read-Flags.ensures c.in_default.is)))
+    (sym (stop _ _ (answered number_of c.read_flags-first.ensures c.in_default.is)))
 
 pub returns-in_default-second : goal.returns-in_default-second
 unfolding tsc_up_to
 returns-in_default-second c =
     rw (c.refusal-in_default-second.ensures, c.in_default-second.is)
-    (sym (go _ _ (answered number_of c.?read-Flags.ensures c.in-Value.is)
+    (sym (go _ _ (answered number_of c.read_flags-first.ensures c.in-Value.is)
     ∙ stop _ _ (answered number_of c.read_varint-second.ensures c.in_default-second.is)))
 
 pub returns-in_default-third : goal.returns-in_default-third
 unfolding tsc_up_to
 returns-in_default-third c =
     rw (c.refusal-in_default-third.ensures, c.in_default-third.is)
-    (sym (go _ _ (answered number_of c.?read-Flags.ensures c.in-Value.is)
+    (sym (go _ _ (answered number_of c.read_flags-first.ensures c.in-Value.is)
     ∙ go _ _ (answered number_of c.read_varint-second.ensures c.in-Value-second.is)
     ∙ stop _ _ (answered subject_answer c.read_subject-third.ensures c.in_default-third.is)))
 
@@ -34,7 +34,7 @@ pub returns-in_default-fourth : goal.returns-in_default-fourth
 unfolding tsc_up_to
 returns-in_default-fourth c =
     rw (c.refusal-in_default-fourth.ensures, c.in_default-fourth.is)
-    (sym (go _ _ (answered number_of c.?read-Flags.ensures c.in-Value.is)
+    (sym (go _ _ (answered number_of c.read_flags-first.ensures c.in-Value.is)
     ∙ go _ _ (answered number_of c.read_varint-second.ensures c.in-Value-second.is)
     ∙ go _ _ (answered subject_answer c.read_subject-third.ensures c.in-Value-third.is)
     ∙ stop _ _ (answered run_of c.read_target-fourth.ensures c.in_default-fourth.is)))
@@ -43,7 +43,7 @@ pub returns-in_default-fifth : goal.returns-in_default-fifth
 unfolding tsc_up_to
 returns-in_default-fifth c =
     rw (c.refusal-in_default-fifth.ensures, c.in_default-fifth.is)
-    (sym (go _ _ (answered number_of c.?read-Flags.ensures c.in-Value.is)
+    (sym (go _ _ (answered number_of c.read_flags-first.ensures c.in-Value.is)
     ∙ go _ _ (answered number_of c.read_varint-second.ensures c.in-Value-second.is)
     ∙ go _ _ (answered subject_answer c.read_subject-third.ensures c.in-Value-third.is)
     ∙ go _ _ (answered run_of c.read_target-fourth.ensures c.in-Value-fourth.is)
@@ -52,7 +52,7 @@ returns-in_default-fifth c =
 pub returns : goal.returns
 unfolding tsc_up_to
 returns c =
-    sym (go _ _ (answered number_of c.?read-Flags.ensures c.in-Value.is)
+    sym (go _ _ (answered number_of c.read_flags-first.ensures c.in-Value.is)
     ∙ go _ _ (answered number_of c.read_varint-second.ensures c.in-Value-second.is)
     ∙ go _ _ (answered subject_answer c.read_subject-third.ensures c.in-Value-third.is)
     ∙ go _ _ (answered run_of c.read_target-fourth.ensures c.in-Value-fourth.is)

@@ -8,7 +8,7 @@ use Rattle.lanes.proofs.compress.compress4.Goals as goal
 
 pub returns : goal.returns
 unfolding K window
-returns c =
+returns c i =
     let lm : length c.args.m ≡ 16 = search rules in
     c.sum.ensures i
     ∙ four_stages (lane i c.args.s) (lane i c.rounds-r0.result) (lane i c.rounds-r1.result) (lane i c.rounds-r2.result) (lane i c.rounds-r3.result) (lanes i c.args.m) (lanes i c.next_sixteen-w1.result) (lanes i c.next_sixteen-w2.result) (lanes i c.next_sixteen-w3.result)

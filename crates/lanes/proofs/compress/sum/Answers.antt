@@ -6,4 +6,4 @@ use Rattle.lanes.proofs.compress.sum.Goals as goal
 
 pub returns : goal.returns
 unfolding lane value plus
-returns c = simp (c.plus-8.ensures, c.plus-7.ensures, c.plus-6.ensures, c.plus-5.ensures, c.plus-4.ensures, c.plus-3.ensures, c.plus-2.ensures, c.plus.ensures, word_in-lanewise2)
+returns c i = simp (c.plus-8.ensures, c.plus-7.ensures, c.plus-6.ensures, c.plus-5.ensures, c.plus-4.ensures, c.plus-3.ensures, c.plus-2.ensures, c.plus.ensures, word_in-lanewise2)

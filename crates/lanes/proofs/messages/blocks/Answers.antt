@@ -14,4 +14,4 @@ returns-then-i-d c =
 pub returns : goal.returns
 returns c =
     λ l. c.columns.ensures l
-    ∙ rw (c.?Block-of.ensures, c.block_of-2.ensures, c.block_of-3.ensures, c.block_of-4.ensures) (lane-map (λ (m : List ℕ). block_of m c.args.i) l c.args.a.now c.args.b.now c.args.c.now c.args.d.now)
+    ∙ rw (c.block_of.ensures, c.block_of-2.ensures, c.block_of-3.ensures, c.block_of-4.ensures) (lane-map (λ (m : List ℕ). block_of m c.args.i) l c.args.a.now c.args.b.now c.args.c.now c.args.d.now)

@@ -1,8 +1,10 @@
 -- After t turns each lane has the first t words of its block.
 use Rattle.std.proofs.Common.{◌≡◌, ℕ, ◌-◌, ◌≤◌, length, take, refl, ◌∙◌, arith, length-set, rules}
 use Rattle.hash.specs.Sha256.{words}
+use Rattle.hash.proofs.Words.{words-done}
 use Rattle.lanes.specs.Lanes.{lanes, in_lane}
+use Rattle.lanes.proofs.SideBySide.{words_on, lanes-length}
 use Rattle.lanes.proofs.messages.blocks_in.Given as goal
 
 abbrev pub invariant-loop-t : goal.invariant-loop-t
-invariant-loop-t l = (l.t ≤ 16) × (length l.w ≡ 16) × ((l : ℕ) → take l.t (lanes l l.w) ≡ words (in_lane l l.a l.b l.c l.d) l.at l.t)
+invariant-loop-t r = (r.t ≤ 16) × (length r.w ≡ 16) × ((l : ℕ) → take r.t (lanes l r.w) ≡ words (in_lane l r.a r.b r.c r.d) r.at r.t)

@@ -2,6 +2,7 @@
 use Rattle.std.proofs.Common.{◌≡◌, ◌-◌, ◌∙◌, arith, rules}
 use Rattle.hash.specs.Parts.{blocks}
 use Rattle.lanes.specs.Lanes.{after}
+use Rattle.lanes.proofs.Turns.{after_more, after-done}
 use Rattle.lanes.proofs.messages.finish.Given as goal
 
 abbrev pub invariant-loop-i : goal.invariant-loop-i

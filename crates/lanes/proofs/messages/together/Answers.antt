@@ -14,13 +14,12 @@ overflow_step-i c =
     omega arith
 
 pub loop-i-preserved : goal.loop-i-preserved
-loop-i-preserved c =
-    (
-      omega arith,
-      λ l. c.kept_where_done-h.ensures l
-          ∙ rw (c.count4-n.ensures l, c.compress4-new.ensures l, c.blocks-in-loop-i.ensures l, c.loop-i.invariant.1 l)
-          (after_on (in_lane l c.args.a.now c.args.b.now c.args.c.now c.args.d.now) c.loop-i.i (lane-all (λ (m : List ℕ). length m ≤ MAX_INPUT) l c.requires.0 c.requires.1 c.requires.2 c.requires.3)),
-    )
+loop-i-preserved c = (
+  omega arith,
+  λ l. c.kept_where_done-h.ensures l
+      ∙ rw (c.count4-n.ensures l, c.compress4-new.ensures l, c.blocks-in-loop-i.ensures l, c.loop-i.invariant.1 l)
+      (after_on (in_lane l c.args.a.now c.args.b.now c.args.c.now c.args.d.now) c.loop-i.i (lane-all (λ (m : List ℕ). length m ≤ MAX_INPUT) l c.requires.0 c.requires.1 c.requires.2 c.requires.3)),
+)
 
 pub returns : goal.returns
 returns c =

@@ -3,13 +3,14 @@ use Prim.Native.Nat.{◌-◌, ◌≤◌}
 use mathlib.Core.List.{map}
 use Rattle.leaflist.specs.Rows.{filling, put_rows}
 use Rattle.leaflist.specs.LeafList.{row_at}
+use Rattle.leaflist.proofs.RowsLaws.{rows_on, rows_end}
 use mathlib.Core.Path.{◌≡◌, refl, sym, ◌∙◌}
 use native.Mathlib.Omega.{arith}
 use borrow.Author.Rules.{rules}
 use Rattle.leaflist.proofs.building.put_rows.Given as goal
 
 abbrev pub invariant-loop-i : goal.invariant-loop-i
-invariant-loop-i l = (put_rows (filling l.at-2 l.initial.at) (map (row_at l.s l.level) l.places) ≡ put_rows (filling l.out l.at) (map (row_at l.s l.level) (drop l.i l.places))) × (l.i ≤ length l.places) × (length l.out ≡ length l.at-2)
+invariant-loop-i l = (put_rows (filling l.initial.out l.initial.at) (map (row_at l.s l.level) l.places) ≡ put_rows (filling l.out l.at) (map (row_at l.s l.level) (drop l.i l.places))) × (l.i ≤ length l.places) × (length l.out ≡ length l.initial.out)
 
 abbrev pub decreases-loop-i : goal.decreases-loop-i
 decreases-loop-i l = length l.places - l.i

@@ -1,3 +1,4 @@
+use Rattle.leaflist.proofs.SearchLaws.{Narrowed, narrow_start, narrow-up, narrow-down, narrow-here, narrow-end}
 use Prim.Native.Nat.{◌-◌, ◌≤◌, ◌/◌}
 use lib.ListN.{length}
 use native.Mathlib.Omega.{arith}

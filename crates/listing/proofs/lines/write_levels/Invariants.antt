@@ -5,10 +5,11 @@ use borrow.Author.Rules.{rules}
 use lib.ListN.{length}
 use Rattle.encoding.specs.Buffer.{buffer}
 use Rattle.listing.specs.Walk.{Walk, walk_levels}
+use Rattle.listing.proofs.WalkLaws.{levels-start, levels-more, levels-done}
 use Rattle.listing.proofs.lines.write_levels.Given as goal
 
 abbrev pub invariant-loop-level : goal.invariant-loop-level
-invariant-loop-level l = (walk_levels l.s l.initial.out 0 l.initial.next.at (buffer l.at-2 l.initial.at) ≡ walk_levels l.s (l.initial.out - l.level) l.level l.next.at (buffer l.out l.at)) × (l.level ≤ l.initial.out) × (length l.out ≡ length l.at-2)
+invariant-loop-level l = (walk_levels l.s l.height 0 l.initial.next.at (buffer l.initial.out l.initial.at) ≡ walk_levels l.s (l.height - l.level) l.level l.next.at (buffer l.out l.at)) × (l.level ≤ l.height) × (length l.out ≡ length l.initial.out)
 
 abbrev pub decreases-loop-level : goal.decreases-loop-level
-decreases-loop-level l = l.initial.out - l.level
+decreases-loop-level l = l.height - l.level

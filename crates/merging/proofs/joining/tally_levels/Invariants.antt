@@ -3,6 +3,8 @@ use lib.ListN.{length}
 use native.Mathlib.Nat.{sub-zero}
 use Prim.Native.Nat.{◌-◌, ◌*◌, ◌≤◌, min}
 use Rattle.merging.specs.Levels.{walk_levels}
+use Rattle.merging.proofs.LevelsLaws.{Summing, sum-start, sum_on, sum-end, levels-end, levels_on}
+use Rattle.levels.proofs.OrderedLaws.{level-told}
 use mathlib.Core.Path.{◌≡◌, sym, ap₂, ◌∙◌}
 use native.Mathlib.Omega.{arith}
 use borrow.Author.Rules.{rules}

@@ -24,10 +24,10 @@ pub returns-then-flags_of-eq1-3 : goal.returns-then-flags_of-eq1-3
 returns-then-flags_of-eq1-3 c = ap (kept_by c.args.s.now c.args.t.now) (c.against_copy-then-flags_of-eq1-3.ensures ∙ ap (λ (v : List ℕ). pick (has_hash v (standing_of c.args.s.now c.args.l) || has_hash v (standing_of c.args.t.now c.args.m)) (First c.args.x) Clash) (c.hash_at-then-flags_of-eq1-3.ensures ∙ ap (hash_at c.args.s.now) c.place_of-then-flags_of-eq1-3.ensures)) ∙ hash-against c.args.s.now c.args.t.now (standing_of c.args.s.now c.args.l) (standing_of c.args.t.now c.args.m) c.args.x c.args.y (λ e. c.if-flags_of-eq1.false (c.flags_of.ensures ∙ e)) (sym c.flags_of-2.ensures ∙ c.if-flags_of-eq1-3.true)
 
 pub returns-then-not-same_bytes : goal.returns-then-not-same_bytes
-returns-then-not-same_bytes c = two-hashes c.args.s.now c.args.t.now (standing_of c.args.s.now c.args.l) (standing_of c.args.t.now c.args.m) c.args.x c.args.y (λ e. c.if-flags_of-eq1.false (c.flags_of.ensures ∙ e)) (λ e. c.if-flags_of-eq1-3.false (c.flags_of-2.ensures ∙ e)) (sym (c.same_bytes.ensures ∙ ap₂ same (c.hash_at-2.ensures ∙ ap (hash_at c.args.s.now) c.place_of-2.ensures) (c.hash_at-3.ensures ∙ ap (hash_at c.args.t.now) c.place_of-3.ensures)) ∙ not-true _ c.if-not-same_bytes.true)
+returns-then-not-same_bytes c = two-hashes c.args.s.now c.args.t.now (standing_of c.args.s.now c.args.l) (standing_of c.args.t.now c.args.m) c.args.x c.args.y (λ e. c.if-flags_of-eq1.false (c.flags_of.ensures ∙ e)) (λ e. c.if-flags_of-eq1-3.false (c.flags_of-2.ensures ∙ e)) (sym (c.same_bytes.ensures ∙ ap₂ same (c.hash_at-2.ensures ∙ ap (hash_at c.args.s.now) c.place_of-2.ensures) (c.hash_at-3.ensures ∙ ap (hash_at c.args.t.now) c.place_of-3.ensures)) ∙ c.if-not-same_bytes.true)
 
 pub returns-then-flags_of : goal.returns-then-flags_of
-returns-then-flags_of c = second_wins c.args.s.now c.args.t.now (standing_of c.args.s.now c.args.l) (standing_of c.args.t.now c.args.m) c.args.x c.args.y (λ e. c.if-flags_of-eq1.false (c.flags_of.ensures ∙ e)) (λ e. c.if-flags_of-eq1-3.false (c.flags_of-2.ensures ∙ e)) (sym (c.same_bytes.ensures ∙ ap₂ same (c.hash_at-2.ensures ∙ ap (hash_at c.args.s.now) c.place_of-2.ensures) (c.hash_at-3.ensures ∙ ap (hash_at c.args.t.now) c.place_of-3.ensures)) ∙ not-false _ c.if-not-same_bytes.false) (omega (arith, c.flags_of-3.ensures, c.flags_of-4.ensures, c.if-flags_of.true))
+returns-then-flags_of c = second_wins c.args.s.now c.args.t.now (standing_of c.args.s.now c.args.l) (standing_of c.args.t.now c.args.m) c.args.x c.args.y (λ e. c.if-flags_of-eq1.false (c.flags_of.ensures ∙ e)) (λ e. c.if-flags_of-eq1-3.false (c.flags_of-2.ensures ∙ e)) (sym (c.same_bytes.ensures ∙ ap₂ same (c.hash_at-2.ensures ∙ ap (hash_at c.args.s.now) c.place_of-2.ensures) (c.hash_at-3.ensures ∙ ap (hash_at c.args.t.now) c.place_of-3.ensures)) ∙ c.if-not-same_bytes.false) (omega (arith, c.flags_of-3.ensures, c.flags_of-4.ensures, c.if-flags_of.true))
 
 pub returns : goal.returns
-returns c = first_stays c.args.s.now c.args.t.now (standing_of c.args.s.now c.args.l) (standing_of c.args.t.now c.args.m) c.args.x c.args.y (λ e. c.if-flags_of-eq1.false (c.flags_of.ensures ∙ e)) (λ e. c.if-flags_of-eq1-3.false (c.flags_of-2.ensures ∙ e)) (sym (c.same_bytes.ensures ∙ ap₂ same (c.hash_at-2.ensures ∙ ap (hash_at c.args.s.now) c.place_of-2.ensures) (c.hash_at-3.ensures ∙ ap (hash_at c.args.t.now) c.place_of-3.ensures)) ∙ not-false _ c.if-not-same_bytes.false) (omega (arith, c.flags_of-3.ensures, c.flags_of-4.ensures, c.if-flags_of.false))
+returns c = first_stays c.args.s.now c.args.t.now (standing_of c.args.s.now c.args.l) (standing_of c.args.t.now c.args.m) c.args.x c.args.y (λ e. c.if-flags_of-eq1.false (c.flags_of.ensures ∙ e)) (λ e. c.if-flags_of-eq1-3.false (c.flags_of-2.ensures ∙ e)) (sym (c.same_bytes.ensures ∙ ap₂ same (c.hash_at-2.ensures ∙ ap (hash_at c.args.s.now) c.place_of-2.ensures) (c.hash_at-3.ensures ∙ ap (hash_at c.args.t.now) c.place_of-3.ensures)) ∙ c.if-not-same_bytes.false) (omega (arith, c.flags_of-3.ensures, c.flags_of-4.ensures, c.if-flags_of.false))

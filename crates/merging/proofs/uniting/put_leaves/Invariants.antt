@@ -3,6 +3,7 @@ use Prim.Native.Nat.{◌-◌, ◌≤◌}
 use mathlib.Core.Path.{ap₂, ◌≡◌, refl, sym, ap, ◌∙◌}
 use mathlib.Core.List.{List}
 use Rattle.merging.specs.Merging as M
+use Rattle.levels.proofs.FrontsLaws.{least, front-told, past-told}
 use Rattle.levels.specs.Fronts.{standing_of}
 use Rattle.levels.specs.Places.{entries}
 use Rattle.levels.specs.Standing.{Standing, nothing}
@@ -10,13 +11,15 @@ use Rattle.encoding.specs.BumpBytes.{entry_bytes}
 use Rattle.encoding.specs.Buffer.{buffer, write_on}
 use Rattle.encoding.specs.Encode.{encode_all}
 use Rattle.merging.specs.Merging.{kept_of}
+use Rattle.merging.proofs.ChoiceLaws.{left-standing}
 use Rattle.merging.specs.Walk.{walk_spots, kept_at}
+use Rattle.merging.proofs.TallyLaws.{spots-end, spots-stop, spots_on, write-spot, write_last}
 use native.Mathlib.Omega.{arith}
 use borrow.Author.Rules.{rules}
 use Rattle.merging.proofs.uniting.put_leaves.Given as goal
 
 abbrev pub invariant-loop-turn : goal.invariant-loop-turn
-invariant-loop-turn l = (write_on (buffer l.at-2 l.initial.at) (encode_all entry_bytes (kept_of (walk_spots 2048 0 nothing nothing (entries l.s l.x) (entries l.t l.y)))) ≡ write_on (buffer l.out l.at) (encode_all entry_bytes (kept_of (walk_spots (2048 - l.turn) l.last (standing_of l.s l.first) (standing_of l.t l.second) (entries l.s (drop l.i l.x)) (entries l.t (drop l.j l.y)))))) × (l.turn ≤ 2048) × (length l.out ≡ length l.at-2)
+invariant-loop-turn l = (write_on (buffer l.initial.out l.initial.at) (encode_all entry_bytes (kept_of (walk_spots 2048 0 nothing nothing (entries l.s l.x) (entries l.t l.y)))) ≡ write_on (buffer l.out l.at) (encode_all entry_bytes (kept_of (walk_spots (2048 - l.turn) l.last (standing_of l.s l.first) (standing_of l.t l.second) (entries l.s (drop l.i l.x)) (entries l.t (drop l.j l.y)))))) × (l.turn ≤ 2048) × (length l.out ≡ length l.initial.out)
 
 abbrev pub decreases-loop-turn : goal.decreases-loop-turn
 decreases-loop-turn l = 2048 - l.turn

@@ -5,6 +5,7 @@ use borrow.Author.Rules.{rules}
 use native.Mathlib.Numerals.{add-one}
 use native.Mathlib.Omega.{arith}
 use Rattle.order.specs.Ids.{key_of, Keys}
+use Rattle.order.proofs.IdsLaws.{keys_start, keys_on}
 use Rattle.order.proofs.ids.keys_of.Given as goal
 
 abbrev pub invariant-loop-k : goal.invariant-loop-k

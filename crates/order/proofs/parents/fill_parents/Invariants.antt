@@ -4,13 +4,15 @@ use lib.ListN.{length}
 use borrow.Author.Rules.{rules}
 use native.Mathlib.Nat.{sub-zero}
 use native.Mathlib.Omega.{arith}
+use Rattle.format.proofs.ParseLaws.{answered}
 use Rattle.format.specs.TransactionAnswer.{tx_answer}
 use Rattle.spv.specs.Hashes.{hashes}
 use Rattle.order.specs.Parents.{filled_from}
+use Rattle.order.proofs.ParentsLaws.{filling-refused, filling_on, filling-end}
 use Rattle.order.proofs.parents.fill_parents.Given as goal
 
 abbrev pub invariant-loop-i : goal.invariant-loop-i
-invariant-loop-i l = (l.i ≤ l.n) × (length l.matrix ≡ length l.keys) × (filled_from l.s (hashes l.n l.ids) (l.n - l.i) l.i l.next.at l.matrix ≡ filled_from l.s (hashes l.n l.ids) l.n 0 0 l.keys)
+invariant-loop-i l = (l.i ≤ l.n) × (length l.matrix ≡ length l.initial.matrix) × (filled_from l.s (hashes l.n l.ids) (l.n - l.i) l.i l.next.at l.matrix ≡ filled_from l.s (hashes l.n l.ids) l.n 0 0 l.initial.matrix)
 
 abbrev pub decreases-loop-i : goal.decreases-loop-i
 decreases-loop-i l = l.n - l.i

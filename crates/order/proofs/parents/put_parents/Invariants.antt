@@ -4,13 +4,15 @@ use lib.ListN.{length}
 use borrow.Author.Rules.{rules}
 use native.Mathlib.Nat.{sub-zero}
 use native.Mathlib.Omega.{arith}
+use Rattle.format.proofs.ParseLaws.{answered}
 use Rattle.format.specs.TransactionAnswer.{input_answer}
 use Rattle.spv.specs.Hashes.{hashes}
 use Rattle.order.specs.Parents.{parents_from, all_named}
+use Rattle.order.proofs.ParentsLaws.{putting_refused, putting_on, putting_end}
 use Rattle.order.proofs.parents.put_parents.Given as goal
 
 abbrev pub invariant-loop-k : goal.invariant-loop-k
-invariant-loop-k l = (l.k ≤ l.initial.matrix) × (length l.matrix ≡ length l.count) × (all_named (hashes l.n l.ids) l.i l.matrix (parents_from l.s (l.initial.matrix - l.k) l.next.at) ≡ all_named (hashes l.n l.ids) l.i l.count (parents_from l.s l.initial.matrix l.initial.next.at))
+invariant-loop-k l = (l.k ≤ l.count) × (length l.matrix ≡ length l.initial.matrix) × (all_named (hashes l.n l.ids) l.i l.matrix (parents_from l.s (l.count - l.k) l.next.at) ≡ all_named (hashes l.n l.ids) l.i l.initial.matrix (parents_from l.s l.count l.initial.next.at))
 
 abbrev pub decreases-loop-k : goal.decreases-loop-k
-decreases-loop-k l = l.initial.matrix - l.k
+decreases-loop-k l = l.count - l.k

@@ -7,6 +7,7 @@ use lib.ListN.{length, take, get_or, length-replicate, length-set}
 use borrow.Author.Rules.{rules}
 use borrow.Author.Tests.{not-true, not-false}
 use Rattle.order.specs.Order.{ready}
+use Rattle.order.proofs.CodeLaws.{marks_start, Checking, checking-start, checking_on, checking-fails, checking_ends, marks_on, ready-low}
 use Rattle.order.proofs.placing.check_order.Given as goal
 
 abbrev pub invariant-loop-k : goal.invariant-loop-k

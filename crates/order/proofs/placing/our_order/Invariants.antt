@@ -4,6 +4,7 @@ use native.Mathlib.Omega.{arith}
 use native.Mathlib.Numerals.{add-one}
 use lib.ListN.{length, take, drop, replicate, length-replicate, length-set}
 use borrow.Author.Rules.{rules}
+use Rattle.order.proofs.CodeLaws.{marks_start, marks_placed, Placing, placing-start, placing_on, placing_stops, answer_none, answer_some, rest_on}
 use Rattle.order.proofs.placing.our_order.Given as goal
 
 abbrev pub invariant-loop-k : goal.invariant-loop-k

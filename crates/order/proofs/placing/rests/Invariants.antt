@@ -7,6 +7,7 @@ use borrow.Author.Rules.{rules}
 use borrow.Author.Tests.{not-true, not-false}
 use native.Mathlib.Numerals.{add-one}
 use native.Mathlib.Omega.{arith}
+use Rattle.order.proofs.CodeLaws.{rests-start, rests-step, rests-not}
 use Rattle.order.proofs.placing.rests.Given as goal
 
 abbrev pub invariant-loop-j : goal.invariant-loop-j

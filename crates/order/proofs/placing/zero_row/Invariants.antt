@@ -3,6 +3,7 @@ use mathlib.Core.Path.{◌≡◌, refl, ◌∙◌}
 use native.Mathlib.Omega.{arith}
 use native.Mathlib.Numerals.{add-one}
 use lib.ListN.{length, take, replicate, length-set}
+use Rattle.order.proofs.CodeLaws.{zero_on, zero-end}
 use Rattle.order.proofs.placing.zero_row.Given as goal
 
 abbrev pub invariant-loop-k : goal.invariant-loop-k

@@ -19,7 +19,7 @@ pub all_new-requires : goal.all_new-requires
 all_new-requires c = record { n_bound = c.if-count-gt-MOST.false; n_in_bounds = omega arith }
 
 pub returns-then-not-all_new : goal.returns-then-not-all_new
-returns-then-not-all_new c = answers-again _ _ c.if-count-gt-MOST.false c.if-s-gt-MAX_INPUT.false _ _ c.read_places-answer.ensures c.write_ids.ensures c.in-Accepted.is (sym c.all_new.ensures ∙ not-true _ c.if-not-all_new.true) c.refuse-then-not-all_new.ensures
+returns-then-not-all_new c = answers-again _ _ c.if-count-gt-MOST.false c.if-s-gt-MAX_INPUT.false _ _ c.read_places-answer.ensures c.write_ids.ensures c.in-Accepted.is (sym c.all_new.ensures ∙ c.if-not-all_new.true) c.refuse-then-not-all_new.ensures
 
 pub returns : goal.returns
-returns c = answers_new _ _ c.if-count-gt-MOST.false c.if-s-gt-MAX_INPUT.false _ _ c.read_places-answer.ensures c.write_ids.ensures c.in-Accepted.is (sym c.all_new.ensures ∙ not-false _ c.if-not-all_new.false)
+returns c = answers_new _ _ c.if-count-gt-MOST.false c.if-s-gt-MAX_INPUT.false _ _ c.read_places-answer.ensures c.write_ids.ensures c.in-Accepted.is (sym c.all_new.ensures ∙ c.if-not-all_new.false)

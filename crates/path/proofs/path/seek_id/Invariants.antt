@@ -5,6 +5,8 @@ use mathlib.Core.Path.{◌≡◌, sym, ◌∙◌}
 use Prim.Native.Nat.{◌≤◌, ◌-◌}
 use Rattle.path.specs.declared.path.Start.{Start}
 use Rattle.path.specs.Search.{seek_id}
+use Rattle.path.proofs.SearchLaws.{least-end, least-stop}
+use Rattle.path.proofs.StepLaws.{tells_as, least-hash, least_other, least-copy}
 use Rattle.path.proofs.path.seek_id.Given as goal
 
 abbrev pub invariant-loop-i : goal.invariant-loop-i

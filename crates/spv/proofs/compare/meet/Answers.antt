@@ -22,15 +22,15 @@ pub layer_of-u-requires : goal.layer_of-u-requires
 layer_of-u-requires c = c.loop-k.invariant.1
 
 pub returns-then-not-joins : goal.returns-then-not-joins
-returns-then-not-joins c = c.no_meeting.ensures ∙ ap meeting_of (pairing_stop _ _ _ _ _ _ _ c.loop-k.k c.loop-k.j c.loop-k.c c.loop-k.d c.loop-k.invariant.0 c.loop-k-test.true c.layer_of-t.result c.layer_of-u.result c.layer_of-t.ensures c.layer_of-u.ensures (sym c.joins.ensures ∙ not-true _ c.if-not-joins.true))
+returns-then-not-joins c = c.no_meeting.ensures ∙ ap meeting_of (pairing_stop _ _ _ _ _ _ _ c.loop-k.k c.loop-k.j c.loop-k.c c.loop-k.d c.loop-k.invariant.0 c.loop-k-test.true c.layer_of-t.result c.layer_of-u.result c.layer_of-t.ensures c.layer_of-u.ensures (sym c.joins.ensures ∙ c.if-not-joins.true))
 
 pub returns-then-not-joins-2 : goal.returns-then-not-joins-2
-returns-then-not-joins-2 c = c.no_meeting-then-not-joins-2.ensures ∙ ap meeting_of (pairing_stop₂ _ _ _ _ _ _ _ c.loop-k.k c.loop-k.j c.loop-k.c c.loop-k.d c.loop-k.invariant.0 c.loop-k-test.true c.layer_of-t.result c.layer_of-u.result c.layer_of-t.ensures c.layer_of-u.ensures (sym c.joins-in-loop-k.ensures ∙ not-true _ c.if-not-joins-2.true))
+returns-then-not-joins-2 c = c.no_meeting-then-not-joins-2.ensures ∙ ap meeting_of (pairing_stop₂ _ _ _ _ _ _ _ c.loop-k.k c.loop-k.j c.loop-k.c c.loop-k.d c.loop-k.invariant.0 c.loop-k-test.true c.layer_of-t.result c.layer_of-u.result c.layer_of-t.ensures c.layer_of-u.ensures (sym c.joins-in-loop-k.ensures ∙ c.if-not-joins-2.true))
 
 pub returns-then-same_bytes : goal.returns-then-same_bytes
 returns-then-same_bytes c =
     c.met.ensures ∙ ap meeting_of (pairing_here _ _ _ _ _ _ _ c.loop-k.k c.loop-k.j c.loop-k.c c.loop-k.d c.loop-k.invariant.0 c.loop-k-test.true c.layer_of-t.result c.layer_of-u.result c.layer_of-t.ensures c.layer_of-u.ensures
-    (sym c.joins.ensures ∙ not-false _ c.if-not-joins.false) (sym c.joins-in-loop-k.ensures ∙ not-false _ c.if-not-joins-2.false)
+    (sym c.joins.ensures ∙ c.if-not-joins.false) (sym c.joins-in-loop-k.ensures ∙ c.if-not-joins-2.false)
     (sym (c.same_bytes.ensures ∙ ap₂ same c.join-c.ensures c.join-d.ensures) ∙ c.if-same_bytes.true))
 
 pub overflow_add-k-in-loop-k : goal.overflow_add-k-in-loop-k
@@ -40,7 +40,7 @@ pub loop-k-preserved : goal.loop-k-preserved
 loop-k-preserved c =
     (
       pairing_up _ _ _ _ _ _ _ c.loop-k.k c.loop-k.j c.loop-k.c c.loop-k.d c.loop-k.invariant.0 c.loop-k-test.true c.layer_of-t.result c.layer_of-u.result c.layer_of-t.ensures c.layer_of-u.ensures
-          (sym c.joins.ensures ∙ not-false _ c.if-not-joins.false) (sym c.joins-in-loop-k.ensures ∙ not-false _ c.if-not-joins-2.false)
+          (sym c.joins.ensures ∙ c.if-not-joins.false) (sym c.joins-in-loop-k.ensures ∙ c.if-not-joins-2.false)
           (sym (c.same_bytes.ensures ∙ ap₂ same c.join-c.ensures c.join-d.ensures) ∙ c.if-same_bytes.false) _ _ c.join-c.ensures c.join-d.ensures,
       low-next _ c.loop-k.k c.loop-k.j c.loop-k.invariant.1,
     )

@@ -4,6 +4,7 @@ use mathlib.Core.Path.{◌≡◌, refl}
 use native.Mathlib.Omega.{arith}
 use borrow.Author.Rules.{rules}
 use lib.ListN.{length, get_or, length-set}
+use Rattle.spv.proofs.Pairs.{pair-more, pair-done}
 use Rattle.spv.proofs.compare.pair_of.Given as goal
 
 abbrev pub invariant-loop-i : goal.invariant-loop-i

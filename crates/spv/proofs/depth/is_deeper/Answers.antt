@@ -8,14 +8,14 @@ use borrow.Author.Rules.{rules}
 use Rattle.spv.proofs.depth.is_deeper.Goals as goal
 
 pub returns-then-not-same_bytes : goal.returns-then-not-same_bytes
-returns-then-not-same_bytes c = sym (ap (λ (b : Bool). b && (ltb c.args.h c.args.g && eqb c.args.i (halved (c.args.g - c.args.h) c.args.j))) (sym c.same_bytes.ensures ∙ not-true _ c.if-not-same_bytes.true))
+returns-then-not-same_bytes c = sym (ap (λ (b : Bool). b && (ltb c.args.h c.args.g && eqb c.args.i (halved (c.args.g - c.args.h) c.args.j))) (sym c.same_bytes.ensures ∙ c.if-not-same_bytes.true))
 
 pub returns-then-g-h : goal.returns-then-g-h
 returns-then-g-h c =
-    let e = sym c.same_bytes.ensures ∙ not-false _ c.if-not-same_bytes.false in
+    let e = sym c.same_bytes.ensures ∙ c.if-not-same_bytes.false in
     rw (e, le-ltb c.args.h c.args.g c.if-g-h.true)
 
 pub returns : goal.returns
 returns c =
-    let e = sym c.same_bytes.ensures ∙ not-false _ c.if-not-same_bytes.false in
+    let e = sym c.same_bytes.ensures ∙ c.if-not-same_bytes.false in
     rw (e, lt-ltb c.args.h c.args.g c.if-g-h.false, c.halve.ensures)

@@ -4,7 +4,9 @@ use mathlib.Core.Path.{◌≡◌, sym, ◌∙◌}
 use Prim.Native.Nat.{◌≤◌, ◌-◌}
 use native.Mathlib.Nat.{sub-zero}
 use Rattle.path.specs.LeafAnswer.{leaf_of}
+use Rattle.format.proofs.ParseLaws.{answered}
 use Rattle.spv.specs.Marks.{after}
+use Rattle.spv.proofs.MarksLaws.{after_stuck, after_next, after_none}
 use Rattle.spv.proofs.marks.place_after.Given as goal
 
 abbrev pub invariant-loop-i : goal.invariant-loop-i

@@ -5,4 +5,4 @@ use borrow.Author.Rules.{rules}
 use Rattle.spv.proofs.spans.fits.Goals as goal
 
 pub returns-then-x : goal.returns-then-x
-returns-then-x c = let z : ◌≡◌ {A = ℕ} 0 1 = cc in absurd (omega arith)
+returns-then-x c e = let z : ◌≡◌ {A = ℕ} 0 1 = cc in absurd (omega arith)

@@ -13,11 +13,15 @@ use Rattle.spv.specs.Shapes.{sibling_of}
 use Rattle.spv.specs.Trace.{as_carried}
 use Rattle.spv.specs.declared.node.Node.{Node}
 use Rattle.spv.specs.PositionFits.{PositionFits}
+use Rattle.spv.proofs.PositionFitsLaws.{low-start, low_half, low-sibling}
 use Rattle.spv.specs.Siblings.{path_siblings}
+use Rattle.spv.proofs.ShapesLaws.{told-joins, told-fails}
+use Rattle.spv.proofs.Turns.{Climbing, climbing_start, climbing_end, climbing_up, climbing_stop}
+use Rattle.spv.proofs.Traces.{Trailing, trailing_start, trailing_end, trailing_up, trailing_stop}
 use Rattle.spv.proofs.trace.climb_writing.Given as goal
 
 abbrev pub invariant-loop-k : goal.invariant-loop-k
-invariant-loop-k l = Climbing (path_siblings l.s l.path) l.initial.out l.i l.initial.c l.k l.j l.c × PositionFits l.k l.j × Trailing (path_siblings l.s l.path) l.initial.out l.i l.initial.c (buffer l.h 0) l.k l.j l.c (buffer l.out l.next) × (length l.out ≡ length l.h)
+invariant-loop-k l = Climbing (path_siblings l.s l.path) l.h l.i l.initial.c l.k l.j l.c × PositionFits l.k l.j × Trailing (path_siblings l.s l.path) l.h l.i l.initial.c (buffer l.initial.out 0) l.k l.j l.c (buffer l.out l.next) × (length l.out ≡ length l.initial.out)
 
 abbrev pub decreases-loop-k : goal.decreases-loop-k
-decreases-loop-k l = l.initial.out - l.k
+decreases-loop-k l = l.h - l.k

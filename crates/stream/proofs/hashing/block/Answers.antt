@@ -5,4 +5,4 @@ use borrow.Author.Rules.{rules}
 use Rattle.stream.proofs.hashing.block.Goals as goal
 
 pub returns : goal.returns
-returns c = let h : length c.args.s.now ≡ 64 = search rules in c.?Block-of.ensures ∙ block-is c.args.s.now h
+returns c = let h : length c.args.s.now ≡ 64 = search rules in c.block_of.ensures ∙ block-is c.args.s.now h

@@ -1,4 +1,5 @@
 use lib.ListN.{length}
+use Rattle.stream.proofs.Blocks.{block-turn, there-length}
 use borrow.Author.Rules.{rules}
 use native.Mathlib.Omega.{arith}
 use mathlib.Core.Path.{◌≡◌, refl, ◌∙◌, ap}

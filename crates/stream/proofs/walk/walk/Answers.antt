@@ -23,8 +23,7 @@ pub returns-in_default : goal.returns-in_default
 returns-in_default c = walk_stops MAX_PARTS c.args.f c.args.part.now _ (walk_turn MAX_PARTS c.args.f c.loop-i.field c.args.part.now c.loop-i.i c.chunk-k.result c.loop-i.invariant.1 c.chunk-k.ensures.3 (omega arith) (omega arith) c.wide.ensures.0 c.taken-fed.ensures) c.in_default.is
 
 pub loop-i-preserved : goal.loop-i-preserved
-loop-i-preserved c =
-    (
+loop-i-preserved c = (
   omega arith,
   walk_turn MAX_PARTS c.args.f c.loop-i.field c.args.part.now c.loop-i.i c.chunk-k.result c.loop-i.invariant.1 c.chunk-k.ensures.3 (omega arith) (omega arith) c.wide.ensures.0 c.taken-fed.ensures
       ∙ ap (λ (m : Fed). run MAX_PARTS m (drop (c.loop-i.i + c.chunk-k.result) c.args.part.now)) c.in-On.is,
