@@ -2,7 +2,6 @@ pub mod OneLeaf
 pub mod StepLaws
 pub mod UncheckedLaws
 pub mod SearchLaws
-pub mod ExcerptLaws
 pub mod PathLaws
 pub mod TscPathLaws
 pub mod SubjectLaws

@@ -1,12 +1,10 @@
 // Searching in what was read: the leaf at a layer and position, the offset of an id.
 #![tactic(auto)]
 
-mod excerpt;
 mod path;
 mod subject;
 mod walk;
 
-pub use excerpt::{EXCERPT, find_near};
 pub use path::{
     Form, Found, LAYERS, Path, Start, bump_path, cmp_path, find, find_id, find_in_level, tsc_path,
 };

@@ -45,7 +45,7 @@ pub enum Start {
     Nowhere,
 }
 
-pub(crate) fn kind_at(s: &[u8], c: Cursor, layout: Layout) -> Found
+fn kind_at(s: &[u8], c: Cursor, layout: Layout) -> Found
     ensures { result ≡ kind_there (unchecked_leaf layout s.now c.at) }
 {
     let field = leaf_at(s, c, layout);

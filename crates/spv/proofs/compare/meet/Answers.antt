@@ -37,13 +37,12 @@ pub overflow_add-k-in-loop-k : goal.overflow_add-k-in-loop-k
 overflow_add-k-in-loop-k c = omega (arith, c.type_inv.1.0)
 
 pub loop-k-preserved : goal.loop-k-preserved
-loop-k-preserved c =
-    (
-      pairing_up _ _ _ _ _ _ _ c.loop-k.k c.loop-k.j c.loop-k.c c.loop-k.d c.loop-k.invariant.0 c.loop-k-test.true c.layer_of-t.result c.layer_of-u.result c.layer_of-t.ensures c.layer_of-u.ensures
-          (sym c.joins.ensures ∙ c.if-not-joins.false) (sym c.joins-in-loop-k.ensures ∙ c.if-not-joins-2.false)
-          (sym (c.same_bytes.ensures ∙ ap₂ same c.join-c.ensures c.join-d.ensures) ∙ c.if-same_bytes.false) _ _ c.join-c.ensures c.join-d.ensures,
-      low-next _ c.loop-k.k c.loop-k.j c.loop-k.invariant.1,
-    )
+loop-k-preserved c = (
+  pairing_up _ _ _ _ _ _ _ c.loop-k.k c.loop-k.j c.loop-k.c c.loop-k.d c.loop-k.invariant.0 c.loop-k-test.true c.layer_of-t.result c.layer_of-u.result c.layer_of-t.ensures c.layer_of-u.ensures
+      (sym c.joins.ensures ∙ c.if-not-joins.false) (sym c.joins-in-loop-k.ensures ∙ c.if-not-joins-2.false)
+      (sym (c.same_bytes.ensures ∙ ap₂ same c.join-c.ensures c.join-d.ensures) ∙ c.if-same_bytes.false) _ _ c.join-c.ensures c.join-d.ensures,
+  low-next _ c.loop-k.k c.loop-k.j c.loop-k.invariant.1,
+)
 
 pub returns : goal.returns
 returns c = c.no_meeting-2.ensures ∙ ap meeting_of (pairing_end _ _ _ _ _ _ _ c.loop-k.k c.loop-k.j c.loop-k.c c.loop-k.d c.loop-k.invariant.0 c.loop-k-test.false)

@@ -23,5 +23,5 @@ returns c =
       c.smaller-2.ensures.2 one (omega arith),
       c.smaller-2.ensures.1,
       omega arith,
-      leap_run MAX_PARTS c.args.f (sym c.is_end.ensures ∙ c.if-is_end.left) (sym c.is_number.ensures ∙ c.if-is_number.left) c.smaller-2.result (c.smaller-2.ensures.2 one (omega arith)) (omega arith) (omega arith),
+      leap_run MAX_PARTS c.args.f (sym c.is_end.ensures ∙ c.if-is_end.false) (sym c.is_number.ensures ∙ c.if-is_number.false) c.smaller-2.result (c.smaller-2.ensures.2 one (omega arith)) (omega arith) (omega arith),
     )

@@ -8,9 +8,9 @@ pub returns-then-not-at_start : goal.returns-then-not-at_start
 returns-then-not-at_start c = (c.requires, λ h. absurd (omega (arith, h)))
 
 pub overflow_sub-f : goal.overflow_sub-f
-overflow_sub-f c = (c.at_start.ensures (not-false _ c.if-not-at_start.left)).1
+overflow_sub-f c = (c.at_start.ensures c.if-not-at_start.false).1
 
 pub returns : goal.returns
 returns c =
-    let a = c.at_start.ensures (not-false _ c.if-not-at_start.left) in
+    let a = c.at_start.ensures c.if-not-at_start.false in
     (omega (arith, c.whole_outputs.ensures.1, c.smaller-room.ensures.0), λ h. outputs_skip _ _ _ _ _ _ _ a.0 (omega (arith, c.smaller-room.ensures.1, a.1)) c.whole_outputs.ensures.1 c.whole_outputs.ensures.2)
