@@ -86,7 +86,7 @@ module _ (hash : List ℕ → List ℕ) where
           second = x.second;
           differ = x.differ;
           equal = x.equal;
-          lowest = λ l. elim l [ zero ↦ λ h e. same_ne (hash t) (hash u) f e | suc m ↦ λ h e. x.lowest m (le_of_suc-le-suc h) e ];
+          lowest = λ l. elim l as (λ k. k < suc x.layer → hash (get_or (t ∷ ts) k []) ≡ hash (get_or (u ∷ us) k []) → ⊥) [ zero ↦ λ h e. same_ne (hash t) (hash u) f e | suc m ↦ λ h e. x.lowest m (le_of_suc-le-suc h) e ];
         },
       )
 

@@ -102,7 +102,7 @@ module _ (hash : List ℕ → List ℕ) where
               second = x.second;
               differ = x.differ;
               equal = x.equal;
-              lowest = λ n. elim n [ zero ↦ λ h e'. same_ne (hash m) (hash u) s e' | suc o ↦ λ h e'. x.lowest o (le_of_suc-le-suc h) e' ];
+              lowest = λ n. elim n as (λ k. k < suc x.layer → hash (get_or (m ∷ ts) k []) ≡ hash (get_or (u ∷ us) k []) → ⊥) [ zero ↦ λ h e'. same_ne (hash m) (hash u) s e' | suc o ↦ λ h e'. x.lowest o (le_of_suc-le-suc h) e' ];
             },
             ap length (sym x.second) ∙ linked_long hash us i (hash u) r above x.layer (subst (λ (n : ℕ). x.layer < n) (suc_inj l) x.below),
             λ t v z. (let y : k.0 ≡ t = cc in ap length (sym y ∙ two) ∙ linked_long hash ts i (hash m) r p x.layer x.below),

@@ -5,4 +5,4 @@ use borrow.Author.Rules.{rules}
 use Rattle.page.proofs.answer_all.Goals as goal
 
 pub answer_ids-requires : goal.answer_ids-requires
-answer_ids-requires c = (c.requires.ids_len_bound, (c.requires.in_bounds.0, (c.requires.in_bounds.1.0, (c.requires.in_bounds.1.1, omega (arith, length-replicate {A = ℕ} 256 0)))))
+answer_ids-requires c = record { ids_len_bound = c.requires.ids_len_bound; in_bounds = c.requires.in_bounds; in_bounds_2 = c.requires.in_bounds_2; levelled = c.requires.levelled; in_bounds_3 = omega (arith, length-replicate {A = ℕ} 256 0) }

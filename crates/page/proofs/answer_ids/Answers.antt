@@ -40,16 +40,16 @@ starts_first : (starts rest : List ℕ) (n : ℕ) → length starts ≡ n → (r
 starts_first starts rest n e r l = get_or-append starts rest 0 r (omega arith)
 
 pub slice_bounds-prove_all-end : goal.slice_bounds-prove_all-end
-slice_bounds-prove_all-end c = omega (arith, c.requires.ids_len_bound, c.requires.in_bounds.0)
+slice_bounds-prove_all-end c = omega (arith, c.requires.ids_len_bound, c.requires.in_bounds)
 
 pub slice_bounds-prove_all-end-2 : goal.slice_bounds-prove_all-end-2
-slice_bounds-prove_all-end-2 c = sym (length-take-le _ _ (omega (arith, c.requires.ids_len_bound, c.requires.in_bounds.0)))
+slice_bounds-prove_all-end-2 c = sym (length-take-le _ _ (omega (arith, c.requires.ids_len_bound, c.requires.in_bounds)))
 
 pub note_rows-requires : goal.note_rows-requires
-note_rows-requires c = (c.requires.ids_len_bound, omega (arith, c.requires.ids_len_bound, c.requires.in_bounds.1.1.1, c.prove_all.auto.states), omega (arith, c.requires.in_bounds.0))
+note_rows-requires c = (c.requires.ids_len_bound, omega (arith, c.requires.ids_len_bound, c.requires.in_bounds_3, c.prove_all.auto.states), omega (arith, c.requires.in_bounds))
 
 pub returns : goal.returns
 returns c =
-    let count = length-take-le (length c.args.ids.now / 32) c.args.numbers.now (omega (arith, c.requires.ids_len_bound, c.requires.in_bounds.0)) in
+    let count = length-take-le (length c.args.ids.now / 32) c.args.numbers.now (omega (arith, c.requires.ids_len_bound, c.requires.in_bounds)) in
     all-proved c.args.s.now c.args.ids.now c.args.path (length c.args.ids.now / 32) c.prove_all.new.starts _ _ _ _ c.requires.ids_len_bound c.note_rows.ensures (starts_first c.prove_all.new.starts _ (length c.args.ids.now / 32) (c.prove_all.auto.starts ∙ count))
-    (ids-proved c.args.s.now c.args.ids.now c.args.path _ _ c.args.states.now c.copy_ids.new.roots c.requires.in_bounds.1.1.0 c.requires.ids_len_bound count c.requires.in_bounds.1.1.1 (omega (arith, c.requires.in_bounds.1.0, c.copy_ids.auto.roots)) c.copy_ids.ensures c.prove_all.ensures.0 c.prove_all.ensures.1 c.prove_all.ensures.2)
+    (ids-proved c.args.s.now c.args.ids.now c.args.path _ _ c.args.states.now c.copy_ids.new.roots c.requires.levelled c.requires.ids_len_bound count c.requires.in_bounds_3 (omega (arith, c.requires.in_bounds_2, c.copy_ids.auto.roots)) c.copy_ids.ensures c.prove_all.ensures.0 c.prove_all.ensures.1 c.prove_all.ensures.2)

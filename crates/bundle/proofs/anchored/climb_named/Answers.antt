@@ -11,7 +11,7 @@ slice_bounds-climb_rows-end-2 c = sym (length-take-le c.gather-count.result c.ar
 pub climb_rows-requires : goal.climb_rows-requires
 climb_rows-requires c =
     let long = length-take-le c.gather-count.result c.args.starts.now (omega arith) in
-    (omega arith, (omega arith, (omega arith, (omega arith, (omega arith, (c.requires.n_in_bounds.1.1.1.1.1.1, rw long c.gather-count.ensures.held))))))
+    (omega arith, (omega arith, (omega arith, (omega arith, (omega arith, (c.requires.in_bounds, rw long c.gather-count.ensures.held))))))
 
 pub returns : goal.returns
 returns c =

@@ -22,7 +22,7 @@ use Rattle.bundle.proofs.BundleTurns.{Judging, judging_start, judging_reads, jud
 use Rattle.bundle.proofs.judge.judge_entries.Goals as goal
 
 pub loop-i-init : goal.loop-i-init
-loop-i-init c = (refl, omega arith, (λ roots bumps ends. judging_start _ _ _ _ _ _ c.requires.in_bounds.0 c.requires.in_bounds.1.0), onward-start _ _ _)
+loop-i-init c = (refl, omega arith, (λ roots bumps ends. judging_start _ _ _ _ _ _ c.requires.in_bounds c.requires.in_bounds_2), onward-start _ _ _)
 
 pub shape_of-numbers-in_default : goal.shape_of-numbers-in_default
 shape_of-numbers-in_default c = c.loop-i.invariant.0
@@ -30,13 +30,13 @@ shape_of-numbers-in_default c = c.loop-i.invariant.0
 pub returns-in_default : goal.returns-in_default
 returns-in_default c =
     λ roots bumps ends.
-    absurd (judging_reads _ _ _ _ _ _ (c.loop-i.invariant.2 roots bumps ends) c.requires.n_bound c.loop-i-test.true c.requires.in_bounds.1.1.1.1 (answered entry_answer c.read_entry-field.ensures c.in_default.is))
+    absurd (judging_reads _ _ _ _ _ _ (c.loop-i.invariant.2 roots bumps ends) c.requires.n_bound c.loop-i-test.true c.requires.at_len (answered entry_answer c.read_entry-field.ensures c.in_default.is))
 
 pub overflow_mul-i : goal.overflow_mul-i
 overflow_mul-i c = record { fits = omega arith }
 
 pub end_at-mined-requires : goal.end_at-mined-requires
-end_at-mined-requires c = record { i_bound = omega arith; in_bounds = c.requires.in_bounds.1.1.0 }
+end_at-mined-requires c = record { i_bound = omega arith; in_bounds = c.requires.in_bounds_3 }
 
 pub overflow_mul-i-in-loop-i : goal.overflow_mul-i-in-loop-i
 overflow_mul-i-in-loop-i c = record { fits = omega arith }
@@ -53,7 +53,7 @@ returns-in-Refuses c =
     let j = c.loop-i.invariant.2 roots bumps ends in
     let read = answered entry_answer c.read_entry-field.ensures c.in-Value.is in
     let room : c.loop-i.i < length c.args.ids.now / 32 = omega arith in
-    let known = c.hash_at-id.ensures ∙ id-here _ _ _ _ _ c.loop-i.invariant.3 read _ _ c.requires.in_bounds.1.1.1.0 c.loop-i-test.true room in
+    let known = c.hash_at-id.ensures ∙ id-here _ _ _ _ _ c.loop-i.invariant.3 read _ _ c.requires.ids_from c.loop-i-test.true room in
     let mined = mined_here _ _ _ _ _ c.loop-i.invariant.3 read roots bumps _ _ _ _ _ ends c.loop-i-test.true known c.anchor_number.ensures c.end_at-mined.ensures in (
       ap (λ (x : Rejection). judgement_of (Refused x) c.args.ids.now c.loop-i.numbers) c.blame-in-Refuses.ensures
           ∙ judging_refused _ _ _ _ _ _ j c.requires.n_bound c.loop-i-test.true read (head_told _ _ _ _ _ known (c.judge_entry-ruling.ensures roots bumps mined) c.in-Refuses.is),
@@ -73,7 +73,7 @@ pub loop-i-preserved : goal.loop-i-preserved
 loop-i-preserved c =
     let read = answered entry_answer c.read_entry-field.ensures c.in-Value.is in
     let room : c.loop-i.i < length c.args.ids.now / 32 = omega arith in
-    let known = c.hash_at-id.ensures ∙ id-here _ _ _ _ _ c.loop-i.invariant.3 read _ _ c.requires.in_bounds.1.1.1.0 c.loop-i-test.true room in (
+    let known = c.hash_at-id.ensures ∙ id-here _ _ _ _ _ c.loop-i.invariant.3 read _ _ c.requires.ids_from c.loop-i-test.true room in (
       c.put_numbers.auto.numbers ∙ c.loop-i.invariant.0,
       omega arith,
       (λ roots bumps ends.

@@ -27,7 +27,7 @@ pub returns-then-count-lt1 : goal.returns-then-count-lt1
 returns-then-count-lt1 c = λ l e p f t b. absurd (let g = c.window_count-count.ensures.2 (omega arith) in omega arith)
 
 pub one_window-reach-requires : goal.one_window-reach-requires
-one_window-reach-requires c = (c.requires.n_bound.0, (c.requires.n_bound.1, c.window_count-count.ensures.1))
+one_window-reach-requires c = record { n_bound = c.requires.n_bound; n_in_bounds = c.requires.n_in_bounds; count_bound = c.window_count-count.ensures.1 }
 
 pub overflow_add-base : goal.overflow_add-base
 overflow_add-base c = record { fits = omega arith }

@@ -4,7 +4,7 @@ use Rattle.bundle.proofs.WorkMadeLaws.{total-is}
 use Rattle.bundle.proofs.work.work_made.Goals as goal
 
 pub joins_made-joins-requires : goal.joins_made-joins-requires
-joins_made-joins-requires c = (omega arith, (omega arith, c.requires.n_bound.1.1))
+joins_made-joins-requires c = record { n_bound = omega arith; n_in_bounds = omega arith; in_bounds = c.requires.in_bounds }
 
 pub overflow_mul-result : goal.overflow_mul-result
 overflow_mul-result c = record { fits = omega arith }

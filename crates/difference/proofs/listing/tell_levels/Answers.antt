@@ -27,7 +27,7 @@ pub slice_bounds-tell_level-end-in-loop-level-3 : goal.slice_bounds-tell_level-e
 slice_bounds-tell_level-end-in-loop-level-3 c = sym (length-take-le _ _ (omega (arith, c.gather_level-b.ensures.1, c.gather_level-b.auto.places)))
 
 pub overflow_add-level : goal.overflow_add-level
-overflow_add-level c = omega (arith, c.loop-level-test.true, c.higher-height.type-inv)
+overflow_add-level c = omega (arith, c.loop-level-test.true, c.higher-height.type_inv)
 
 pub loop-level-smaller : goal.loop-level-smaller
 loop-level-smaller c = omega (arith, c.loop-level-test.true)

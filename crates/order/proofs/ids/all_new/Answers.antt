@@ -14,7 +14,7 @@ pub loop-i-init : goal.loop-i-init
 loop-i-init c = (omega arith, newly_start (hashes c.args.n c.args.ids.now))
 
 pub find-requires : goal.find-requires
-find-requires c = (omega arith, (omega arith, keys_fewer c.args.ids.now c.keys_of-keys.result c.loop-i.i c.args.n (omega arith) c.keys_of-keys.ensures))
+find-requires c = record { n_bound = omega arith; n_in_bounds = omega arith; keys = keys_fewer c.args.ids.now c.keys_of-keys.result c.loop-i.i c.args.n (omega arith) c.keys_of-keys.ensures }
 
 pub returns-then-find-i : goal.returns-then-find-i
 returns-then-find-i c =

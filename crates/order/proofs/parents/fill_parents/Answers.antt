@@ -23,7 +23,7 @@ returns-in_default c =
     ∙ c.loop-i.invariant.2
 
 pub put_parents-requires : goal.put_parents-requires
-put_parents-requires c = (c.requires.n_bound, (omega arith, (c.requires.n_in_bounds.0, (c.keys_of-keys.ensures, c.loop-i.invariant.1 ∙ c.requires.n_in_bounds.1))))
+put_parents-requires c = record { n_bound = c.requires.n_bound; i_bound = omega arith; n_in_bounds = c.requires.n_in_bounds; keys = c.keys_of-keys.ensures; matrix_len = c.loop-i.invariant.1 ∙ c.requires.matrix_len }
 
 pub loop-i-preserved : goal.loop-i-preserved
 loop-i-preserved c =

@@ -23,10 +23,10 @@ returns-in_default c =
     ∙ c.loop-k.invariant.2
 
 pub find-j-requires : goal.find-j-requires
-find-j-requires c = (c.requires.n_bound, (c.requires.i_bound.1.0, c.requires.i_bound.1.1.0))
+find-j-requires c = record { n_bound = c.requires.n_bound; n_in_bounds = c.requires.n_in_bounds; keys = c.requires.keys }
 
 pub put_parent-requires : goal.put_parent-requires
-put_parent-requires c = (c.requires.n_bound, c.requires.i_bound.0, c.loop-k.invariant.1 ∙ c.requires.i_bound.1.1.1)
+put_parent-requires c = (c.requires.n_bound, c.requires.i_bound, c.loop-k.invariant.1 ∙ c.requires.matrix_len)
 
 pub loop-k-preserved : goal.loop-k-preserved
 loop-k-preserved c =

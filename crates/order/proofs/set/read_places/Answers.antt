@@ -10,7 +10,7 @@ use Rattle.order.proofs.SetTurns.{Reading, reading-start, reading-refused, readi
 use Rattle.order.proofs.set.read_places.Goals as goal
 
 pub loop-i-init : goal.loop-i-init
-loop-i-init c = (refl, reading-start _ _ c.requires.s_len_bound.1)
+loop-i-init c = (refl, reading-start _ _ c.requires.places_value)
 
 pub shape_of-places-in_default : goal.shape_of-places-in_default
 shape_of-places-in_default c = c.loop-i.invariant.0
@@ -27,7 +27,7 @@ pub loop-i-preserved : goal.loop-i-preserved
 loop-i-preserved c =
     (
       search rules,
-      reading_on _ _ c.loop-i.invariant.1 c.requires.count_bound c.requires.s_len_bound.0 c.loop-i-test.true (answered tx_answer c.tx_at-field.ensures c.in-Value.is) refl,
+      reading_on _ _ c.loop-i.invariant.1 c.requires.count_bound c.requires.s_len_bound c.loop-i-test.true (answered tx_answer c.tx_at-field.ensures c.in-Value.is) refl,
     )
 
 pub shape_of-places-then-at-s : goal.shape_of-places-then-at-s

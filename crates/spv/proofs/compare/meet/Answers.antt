@@ -34,7 +34,7 @@ returns-then-same_bytes c =
     (sym (c.same_bytes.ensures ∙ ap₂ same c.join-c.ensures c.join-d.ensures) ∙ c.if-same_bytes.true))
 
 pub overflow_add-k-in-loop-k : goal.overflow_add-k-in-loop-k
-overflow_add-k-in-loop-k c = omega (arith, c.type_inv.1.0)
+overflow_add-k-in-loop-k c = omega arith
 
 pub loop-k-preserved : goal.loop-k-preserved
 loop-k-preserved c = (

@@ -24,4 +24,4 @@ pub returns : goal.returns
 returns c =
     let e = each-ok tx_head_of (tx_whole c.args.m.now) (answered tx_answer c.read_transaction-answer.ensures c.in-Value.is) in
     let id = ap (λ (h : Hashed). h.digest) (c.sha256d-hashed.ensures ∙ hashed-accepted c.args.m.now (whole-size tx_field c.args.m.now e.1)) in
-    c.settle_uneven.ensures ∙ ap (λ (i : List ℕ). depth_of (uneven i (claim_proof c.args.a.now c.args.x c.args.a-root) (claim_proof c.args.b.now c.args.y c.args.b-root))) id ∙ sym (ap depth_of (reading-ok c.args.m.now _ _ _ e.1))
+    c.settle_uneven.ensures ∙ ap (λ (i : List ℕ). depth_of (uneven i (claim_proof c.args.a.now c.args.x c.args.a_root) (claim_proof c.args.b.now c.args.y c.args.b_root))) id ∙ sym (ap depth_of (reading-ok c.args.m.now _ _ _ e.1))

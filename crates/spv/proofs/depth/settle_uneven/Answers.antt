@@ -5,7 +5,7 @@ use borrow.Author.Rules.{rules}
 use Rattle.spv.proofs.depth.settle_uneven.Goals as goal
 
 pub returns-then-q-p : goal.returns-then-q-p
-returns-then-q-p c = c.settle_deeper.ensures ∙ sym (ap depth_of (claims_turned c.args.a.now c.args.b.now c.args.x c.args.y c.args.a-root c.args.b-root c.args.id c.if-q-p.true))
+returns-then-q-p c = c.settle_deeper.ensures ∙ sym (ap depth_of (claims_turned c.args.a.now c.args.b.now c.args.x c.args.y c.args.a_root c.args.b_root c.args.id c.if-q-p.true))
 
 pub returns : goal.returns
-returns c = c.settle_deeper-2.ensures ∙ sym (ap depth_of (claims_given c.args.a.now c.args.b.now c.args.x c.args.y c.args.a-root c.args.b-root c.args.id c.if-q-p.false))
+returns c = c.settle_deeper-2.ensures ∙ sym (ap depth_of (claims_given c.args.a.now c.args.b.now c.args.x c.args.y c.args.a_root c.args.b_root c.args.id c.if-q-p.false))
