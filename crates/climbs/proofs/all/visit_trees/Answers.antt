@@ -32,7 +32,7 @@ pub split-hi-requires : goal.split-hi-requires
 split-hi-requires c = (c.requires.0, c.loop-lo.invariant.2, omega arith, c.requires.1.rows)
 
 pub visit-requires : goal.visit-requires
-visit-requires c = let x = get_or c.args.starts.now (get_or c.args.order.now c.loop-lo.lo 0) 0 in let f : x < 2 ^ 64 = omega (arith, c.shared_slice_known-in-loop-lo-2-1.given (get_or c.args.order.now c.loop-lo.lo 0)) in (setting_on c.args.places.now c.args.starts.now c.args.order.now c.args.states.now c.args.hashes.now c.loop-lo.states c.loop-lo.hashes c.loop-lo.invariant.0 c.loop-lo.invariant.1 c.requires.1, spot_tree c.args.starts.now c.args.order.now c.args.layers _ c.loop-lo.lo _ c.requires.0 (subst (PositionFits c.args.layers) (sym c.above-position.ensures) (low-above x c.args.layers c.requires.0 f)) c.split-hi.ensures.0 c.split-hi.ensures.1 c.split-hi.ensures.2)
+visit-requires c = let x = get_or c.args.starts.now (get_or c.args.order.now c.loop-lo.lo 0) 0 in let f : x < 2 ^ 64 = omega (arith, c.shared_slice_known-in-loop-lo-2-1.given (get_or c.args.order.now c.loop-lo.lo 0)) in record { setting = setting_on c.args.places.now c.args.starts.now c.args.order.now c.args.states.now c.args.hashes.now c.loop-lo.states c.loop-lo.hashes c.loop-lo.invariant.0 c.loop-lo.invariant.1 c.requires.1; spot = spot_tree c.args.starts.now c.args.order.now c.args.layers _ c.loop-lo.lo _ c.requires.0 (subst (PositionFits c.args.layers) (sym c.above-position.ensures) (low-above x c.args.layers c.requires.0 f)) c.split-hi.ensures.0 c.split-hi.ensures.1 c.split-hi.ensures.2 }
 
 pub loop-lo-smaller : goal.loop-lo-smaller
 loop-lo-smaller c = let z = tree_goes c.args.starts.now c.args.order.now c.args.layers _ _ _ _ c.split-hi.ensures.0 c.loop-lo-test.true c.split-hi.ensures.3 (sym c.above-position.ensures) in omega (arith, z, c.split-hi.ensures.1)

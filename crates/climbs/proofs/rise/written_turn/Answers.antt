@@ -14,4 +14,4 @@ pub returns-then-not-x : goal.returns-then-not-x
 returns-then-not-x c = stays_right _ _ _ _ _ _ _ c.stay-then-not-x.ensures
 
 pub returns : goal.returns
-returns c = moves_right (looked_up c.args.s.now c.args.places.now c.args.t.now c.args.others.now) c.args.starts.now c.args.states.now c.args.hashes.now c.args.row c.args.layer _ _ _ _ c.above-j.ensures c.sibling_position-q.ensures c.written_at-x.ensures c.if-not-x.false c.turn.ensures
+returns c = moves_right (looked_up c.args.s.now c.args.places.now c.args.t.now c.args.others.now) c.args.starts.now c.args.states.now c.args.hashes.now c.args.row c.args.layer _ _ _ _ c.above-j.ensures c.sibling_position-q.ensures c.written_at-x.ensures (not-false _ c.if-not-x.false) c.turn.ensures
