@@ -15,14 +15,13 @@ pub loop-b-init : goal.loop-b-init
 loop-b-init c = (search rules, refl, omega arith, omega arith, λ i low named. absurd (omega arith))
 
 pub loop-b-preserved : goal.loop-b-preserved
-loop-b-preserved c =
-    (
-      c.loop-b.invariant.0,
-      c.climb_bump.auto.ends ∙ c.loop-b.invariant.1,
-      search rules,
-      c.loop-b.invariant.3,
-      risen_on _ _ _ _ _ _ _ _ _ c.climb_bump.ensures c.loop-b.invariant.4,
-    )
+loop-b-preserved c = (
+  c.loop-b.invariant.0,
+  c.climb_bump.auto.ends ∙ c.loop-b.invariant.1,
+  search rules,
+  c.loop-b.invariant.3,
+  risen_on _ _ _ _ _ _ _ _ _ c.climb_bump.ensures c.loop-b.invariant.4,
+)
 
 pub shape_of-ends : goal.shape_of-ends
 shape_of-ends c = c.climb_bump-2.auto.ends ∙ c.loop-b.invariant.1

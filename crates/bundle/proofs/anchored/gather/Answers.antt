@@ -15,14 +15,13 @@ pub loop-i-preserved-then-anchors-i : goal.loop-i-preserved-then-anchors-i
 loop-i-preserved-then-anchors-i c = (search rules, search rules, c.loop-i.invariant.2, c.loop-i.invariant.3, gathered_past _ _ _ c.loop-i.invariant.4 c.if-anchors-i.true)
 
 pub loop-i-preserved : goal.loop-i-preserved
-loop-i-preserved c =
-    (
-      search rules,
-      search rules,
-      simp length-set c.loop-i.invariant.2,
-      c.set_hash.auto.list ∙ c.loop-i.invariant.3,
-      gathered_one _ _ _ c.loop-i.invariant.4 c.if-anchors-i.false (omega arith) (omega arith) c.hash_at-id.ensures (ap length c.hash_at-id.ensures ∙ hash-at-length _ _) c.set_hash.ensures,
-    )
+loop-i-preserved c = (
+  search rules,
+  search rules,
+  simp length-set c.loop-i.invariant.2,
+  c.set_hash.auto.list ∙ c.loop-i.invariant.3,
+  gathered_one _ _ _ c.loop-i.invariant.4 c.if-anchors-i.false (omega arith) (omega arith) c.hash_at-id.ensures (ap length c.hash_at-id.ensures ∙ hash-at-length _ _) c.set_hash.ensures,
+)
 
 pub shape_of-slots : goal.shape_of-slots
 shape_of-slots c = c.loop-i.invariant.2

@@ -24,8 +24,7 @@ overflow_add-r c = record { fits = omega arith }
 
 pub loop-r-preserved : goal.loop-r-preserved
 loop-r-preserved c =
-    let low = c.shared_slice_known-in-loop-r-1.given c.loop-r.r in
-    (
+    let low = c.shared_slice_known-in-loop-r-1.given c.loop-r.r in (
       search rules,
       c.put_end.auto.ends ∙ c.loop-r.invariant.1,
       rw c.put_end.ensures (rows_more _ _ _ _ _ _ _ _ _ _ _ _ _ _ _ c.loop-r.invariant.2 c.hash_at-id.ensures c.proved_at-proved.ensures c.trust-ruling.ensures (omega arith)),

@@ -5,8 +5,7 @@ use Rattle.bundle.proofs.AheadLaws.{spans_made}
 use Rattle.bundle.proofs.ids.spans_from.Goals as goal
 
 pub returns : goal.returns
-returns c =
-    (
-      spans_made _ _ _ _ _ _ _ _ c.span_at-first.ensures.0 (c.span_at-second.ensures.0 ∙ c.span_at-first.ensures.1 0) (c.span_at-third.ensures.0 ∙ c.span_at-second.ensures.1 0 ∙ c.span_at-first.ensures.1 1) (c.span_at-fourth.ensures.0 ∙ c.span_at-third.ensures.1 0 ∙ c.span_at-second.ensures.1 1 ∙ c.span_at-first.ensures.1 2),
-      λ m. c.span_at-fourth.ensures.1 m ∙ c.span_at-third.ensures.1 (suc m) ∙ c.span_at-second.ensures.1 (suc (suc m)) ∙ c.span_at-first.ensures.1 (suc (suc (suc m))),
-    )
+returns c = (
+  spans_made _ _ _ _ _ _ _ _ c.span_at-first.ensures.0 (c.span_at-second.ensures.0 ∙ c.span_at-first.ensures.1 0) (c.span_at-third.ensures.0 ∙ c.span_at-second.ensures.1 0 ∙ c.span_at-first.ensures.1 1) (c.span_at-fourth.ensures.0 ∙ c.span_at-third.ensures.1 0 ∙ c.span_at-second.ensures.1 1 ∙ c.span_at-first.ensures.1 2),
+  λ m. c.span_at-fourth.ensures.1 m ∙ c.span_at-third.ensures.1 (suc m) ∙ c.span_at-second.ensures.1 (suc (suc m)) ∙ c.span_at-first.ensures.1 (suc (suc (suc m))),
+)

@@ -18,16 +18,15 @@ pub overflow_add-work : goal.overflow_add-work
 overflow_add-work c = record { fits = omega arith }
 
 pub loop-i-preserved : goal.loop-i-preserved
-loop-i-preserved c =
-    (
-      c.set_four.auto.list ∙ c.loop-i.invariant.0,
-      c.set_anchors.auto.anchors ∙ c.loop-i.invariant.1,
-      onward-four _ _ _ _ _ _ _ _ _ c.loop-i.invariant.2 c.spans_from-group.ensures,
-      rw c.set_four.ensures (ids_four _ _ _ _ _ _ _ _ _ _ _ c.loop-i.invariant.3 c.loop-i.invariant.2 c.spans_from-group.ensures c.ids_of-four.ensures),
-      rw c.set_anchors.ensures (anchors_four _ _ _ _ _ _ _ _ _ _ c.loop-i.invariant.4 c.loop-i.invariant.2 c.spans_from-group.ensures),
-      made_four _ _ _ _ _ _ _ _ _ _ c.loop-i.invariant.5 c.group_work-work.ensures.0 c.loop-i.invariant.2 c.spans_from-group.ensures,
-      omega arith,
-    )
+loop-i-preserved c = (
+  c.set_four.auto.list ∙ c.loop-i.invariant.0,
+  c.set_anchors.auto.anchors ∙ c.loop-i.invariant.1,
+  onward-four _ _ _ _ _ _ _ _ _ c.loop-i.invariant.2 c.spans_from-group.ensures,
+  rw c.set_four.ensures (ids_four _ _ _ _ _ _ _ _ _ _ _ c.loop-i.invariant.3 c.loop-i.invariant.2 c.spans_from-group.ensures c.ids_of-four.ensures),
+  rw c.set_anchors.ensures (anchors_four _ _ _ _ _ _ _ _ _ _ c.loop-i.invariant.4 c.loop-i.invariant.2 c.spans_from-group.ensures),
+  made_four _ _ _ _ _ _ _ _ _ _ c.loop-i.invariant.5 c.group_work-work.ensures.0 c.loop-i.invariant.2 c.spans_from-group.ensures,
+  omega arith,
+)
 
 pub shape_of-ids : goal.shape_of-ids
 shape_of-ids c = c.loop-i.invariant.0

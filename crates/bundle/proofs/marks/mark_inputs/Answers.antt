@@ -22,8 +22,7 @@ pub loop-i-smaller : goal.loop-i-smaller
 loop-i-smaller c = omega arith
 
 pub loop-i-preserved : goal.loop-i-preserved
-loop-i-preserved c =
-    (
+loop-i-preserved c = (
   c.mark_one-marked.auto.marks ∙ c.loop-i.invariant.0,
   λ d. marking_on _ _ _ _ _ _ _ _ (c.loop-i.invariant.1 d) d c.loop-i-test.true
       (answered input_answer c.read_input-field.ensures c.in-Value.is)

@@ -22,8 +22,7 @@ returns-then-there-v c d =
     c.hash_at-x.ensures c.place_among-parent.ensures c.four_at-v.ensures c.outputs_at-there.ensures c.if-there-v.true)
 
 pub loop-i-preserved : goal.loop-i-preserved
-loop-i-preserved c =
-    (
+loop-i-preserved c = (
   omega arith,
   λ d. sym (exist_on _ _ _ _ _ _ d c.loop-i-test.true (answered input_answer c.read_input-field.ensures c.in-Value.is)
       c.hash_at-x.ensures c.place_among-parent.ensures c.four_at-v.ensures c.outputs_at-there.ensures c.if-there-v.false) ∙ c.loop-i.invariant.1 d,

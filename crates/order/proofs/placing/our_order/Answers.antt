@@ -20,15 +20,14 @@ returns-then-i-n c =
     (c.zero_row.ensures ∙ ap (λ (m : ℕ). replicate m 0) c.loop-k.invariant.1)
 
 pub loop-k-preserved : goal.loop-k-preserved
-loop-k-preserved c =
-    (
-      omega arith,
-      length-set c.loop-k.row c.loop-k.k c.first_ready-i.result ∙ c.loop-k.invariant.1,
-      length-set c.loop-k.marks c.first_ready-i.result 1 ∙ c.loop-k.invariant.2,
-      rw add-one (marks_placed c.loop-k.marks c.loop-k.row c.loop-k.k c.first_ready-i.result (omega arith) c.loop-k.invariant.2 (omega arith) c.loop-k.invariant.3),
-      rw add-one (placing_on c.args.matrix.now c.args.n c.loop-k.marks c.loop-k.row c.loop-k.k c.first_ready-i.result (omega arith) (omega arith) (omega arith) c.first_ready-i.ensures.1 c.loop-k.invariant.3 c.loop-k.invariant.4),
-      rw add-one (rest_on c.loop-k.row c.args.row.now c.loop-k.k c.first_ready-i.result c.loop-k.invariant.5),
-    )
+loop-k-preserved c = (
+  omega arith,
+  length-set c.loop-k.row c.loop-k.k c.first_ready-i.result ∙ c.loop-k.invariant.1,
+  length-set c.loop-k.marks c.first_ready-i.result 1 ∙ c.loop-k.invariant.2,
+  rw add-one (marks_placed c.loop-k.marks c.loop-k.row c.loop-k.k c.first_ready-i.result (omega arith) c.loop-k.invariant.2 (omega arith) c.loop-k.invariant.3),
+  rw add-one (placing_on c.args.matrix.now c.args.n c.loop-k.marks c.loop-k.row c.loop-k.k c.first_ready-i.result (omega arith) (omega arith) (omega arith) c.first_ready-i.ensures.1 c.loop-k.invariant.3 c.loop-k.invariant.4),
+  rw add-one (rest_on c.loop-k.row c.args.row.now c.loop-k.k c.first_ready-i.result c.loop-k.invariant.5),
+)
 
 pub shape_of-row : goal.shape_of-row
 shape_of-row c = c.loop-k.invariant.1

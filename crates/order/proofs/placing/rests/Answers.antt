@@ -22,12 +22,11 @@ returns-then-not-held c =
     (sym (not-true c.held.result (ap not c.if-not-held.true)) ∙ c.held.ensures ∙ ap (λ (t : Bool). not t || eqb (get_or c.args.marks.now c.loop-j.j 0) 1) c.is_parent.ensures))
 
 pub loop-j-preserved : goal.loop-j-preserved
-loop-j-preserved c =
-    (
-      omega arith,
-      rw add-one (rests-step c.args.matrix.now c.args.marks.now c.args.i c.loop-j.j (omega arith) c.loop-j.invariant.1 true
-          (sym (not-false c.held.result (ap not c.if-not-held.false)) ∙ c.held.ensures ∙ ap (λ (t : Bool). not t || eqb (get_or c.args.marks.now c.loop-j.j 0) 1) c.is_parent.ensures)),
-    )
+loop-j-preserved c = (
+  omega arith,
+  rw add-one (rests-step c.args.matrix.now c.args.marks.now c.args.i c.loop-j.j (omega arith) c.loop-j.invariant.1 true
+      (sym (not-false c.held.result (ap not c.if-not-held.false)) ∙ c.held.ensures ∙ ap (λ (t : Bool). not t || eqb (get_or c.args.marks.now c.loop-j.j 0) 1) c.is_parent.ensures)),
+)
 
 pub returns : goal.returns
 returns c =

@@ -24,11 +24,10 @@ pub bounds-places-i : goal.bounds-places-i
 bounds-places-i c = omega arith
 
 pub loop-i-preserved : goal.loop-i-preserved
-loop-i-preserved c =
-    (
-      search rules,
-      reading_on _ _ c.loop-i.invariant.1 c.requires.count_bound c.requires.s_len_bound c.loop-i-test.true (answered tx_answer c.tx_at-field.ensures c.in-Value.is) refl,
-    )
+loop-i-preserved c = (
+  search rules,
+  reading_on _ _ c.loop-i.invariant.1 c.requires.count_bound c.requires.s_len_bound c.loop-i-test.true (answered tx_answer c.tx_at-field.ensures c.in-Value.is) refl,
+)
 
 pub shape_of-places-then-at-s : goal.shape_of-places-then-at-s
 shape_of-places-then-at-s c = c.loop-i.invariant.0

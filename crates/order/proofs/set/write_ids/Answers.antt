@@ -16,11 +16,10 @@ pub overflow_add-i-in-loop-i-3 : goal.overflow_add-i-in-loop-i-3
 overflow_add-i-in-loop-i-3 c = omega arith
 
 pub loop-i-preserved : goal.loop-i-preserved
-loop-i-preserved c =
-    (
-      c.set_four.auto.list ∙ c.loop-i.invariant.0,
-      rw c.set_four.ensures (hashed-four _ _ _ _ _ _ _ _ _ c.loop-i.invariant.1 c.between-a.ensures c.between-b.ensures c.between-c.ensures c.between-d.ensures c.span_hashes-four.ensures),
-    )
+loop-i-preserved c = (
+  c.set_four.auto.list ∙ c.loop-i.invariant.0,
+  rw c.set_four.ensures (hashed-four _ _ _ _ _ _ _ _ _ c.loop-i.invariant.1 c.between-a.ensures c.between-b.ensures c.between-c.ensures c.between-d.ensures c.span_hashes-four.ensures),
+)
 
 pub shape_of-ids : goal.shape_of-ids
 shape_of-ids c = c.loop-i.invariant.0
