@@ -26,7 +26,7 @@ use Rattle.block.specs.Tree.{node, height, root}
 use Rattle.block.specs.BlockBump.{writing, Meets}
 use Rattle.block.specs.Output.{written_of, output_after}
 use Rattle.block.proofs.OutputLaws.{bytes-told}
-use Rattle.block.proofs.Written.{written-meets, written-only, written_proves}
+use Rattle.block.proofs.WrittenLaws.{written-meets, written-only, written_proves}
 use Rattle.block.proofs.LeftOut.{OverChosen, Needed, left_out_exactly}
 
 -- a call of `write_bump(block, ids, chosen, out)`: what it returned and left in `out`, by its contract; `ids` is a slice of u8

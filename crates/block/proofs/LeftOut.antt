@@ -29,7 +29,7 @@ use Rattle.block.proofs.TreeLaws.{height-holds, height-least}
 use Rattle.block.proofs.BlockFit.{under-told, under-chosen}
 use Rattle.block.proofs.BlockMeets.{read_back}
 use Rattle.block.proofs.BlockValues.{sibling-twice, sibling_in, asked-client, asked_over, asked-sibling}
-use Rattle.block.proofs.Written.{written_sizes, written-meets}
+use Rattle.block.proofs.WrittenLaws.{written_sizes, written-meets}
 
 -- position i lies under node q of layer k: it is that node, or lies under one of its two children
 pub data LiesUnder (i : ℕ) : ℕ → ℕ → Type 0 where

@@ -8,7 +8,7 @@ pub mod BlockMeets
 pub mod BlockValues
 pub mod BlockProved
 pub mod IdsLaws
-pub mod Written
+pub mod WrittenLaws
 pub mod LeftOut
 pub mod Answered
 pub mod HeapLaws

@@ -1,7 +1,6 @@
 use Rattle.format.proofs.ParseLaws.{answered}
 use Rattle.format.specs.Bump.{bump_answer}
 use Rattle.listing.proofs.ListingLaws.{report-refused, report-read}
-use borrow.Author.Rules.{rules}
 use Rattle.listing.proofs.list_whole.Goals as goal
 
 pub returns-in_default : goal.returns-in_default

@@ -1,8 +1,6 @@
 use mathlib.Core.Path.{sym, ◌∙◌}
-use borrow.Author.Tests.{not-true, not-false}
 use Rattle.block.proofs.CallLaws.{refuses-size, refuses-none, refuses_outside, refuses-equal}
 use Rattle.block.proofs.OutputLaws.{refused_so}
-use borrow.Author.Rules.{rules}
 use Rattle.block.proofs.block.write_bump.Goals as goal
 
 pub returns-then-not-within_sizes : goal.returns-then-not-within_sizes

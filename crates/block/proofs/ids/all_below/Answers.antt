@@ -1,9 +1,5 @@
-use borrow.Author.Rules.{rules}
 use native.Mathlib.Omega.{arith}
-use mathlib.Core.Path.{◌≡◌, refl, sym, ◌∙◌}
-use Prim.Native.Nat.{◌-◌, ◌≤◌}
-use lib.ListN.{length, drop}
-use Rattle.block.specs.BlockBump.{all_below}
+use mathlib.Core.Path.{sym, ◌∙◌}
 use Rattle.block.proofs.IdsLaws.{below_over, below_on, below_end}
 use Rattle.block.proofs.ids.all_below.Goals as goal
 

@@ -1,10 +1,7 @@
-use borrow.Author.Rules.{rules}
-use native.Mathlib.Omega.{arith}
-use mathlib.Core.Path.{◌≡◌, refl, sym, ◌∙◌}
+use mathlib.Core.Path.{◌≡◌}
 use Prim.Native.Nat.{◌-◌, ◌≤◌}
 use lib.ListN.{length, drop}
 use Rattle.block.specs.BlockBump.{all_below}
-use Rattle.block.proofs.IdsLaws.{below_over, below_on, below_end}
 use Rattle.block.proofs.ids.all_below.Given as goal
 
 abbrev pub invariant-loop-i : goal.invariant-loop-i

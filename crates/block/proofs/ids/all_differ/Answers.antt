@@ -1,7 +1,6 @@
 use borrow.Author.Rules.{rules}
 use native.Mathlib.Omega.{arith}
-use Prim.Native.Nat.{◌-◌}
-use Rattle.block.proofs.IdsLaws.{Differing, differing-start, differing-stop, differing_on, differing-end}
+use Rattle.block.proofs.IdsLaws.{differing-start, differing-stop, differing_on, differing-end}
 use Rattle.block.proofs.ids.all_differ.Goals as goal
 
 pub loop-i-init : goal.loop-i-init

@@ -1,7 +1,4 @@
-use borrow.Author.Rules.{rules}
-use native.Mathlib.Omega.{arith}
-use Prim.Native.Nat.{◌-◌}
-use Rattle.block.proofs.IdsLaws.{Differing, differing-start, differing-stop, differing_on, differing-end}
+use Rattle.block.proofs.IdsLaws.{Differing}
 use Rattle.block.proofs.ids.all_differ.Given as goal
 
 abbrev pub invariant-loop-i : goal.invariant-loop-i

@@ -1,10 +1,6 @@
-use borrow.Author.Rules.{rules}
-use mathlib.Core.Path.{◌≡◌, refl, sym, ◌∙◌}
-use Prim.Native.Nat.{◌-◌, ◌/◌}
-use lib.ListN.{length}
+use mathlib.Core.Path.{sym, ◌∙◌}
 use Rattle.spv.proofs.HashesLaws.{search-end}
 use Rattle.block.proofs.IdsLaws.{found_here, not-here}
-use Rattle.spv.specs.Hashes.{searching}
 use Rattle.block.proofs.ids.among_from.Goals as goal
 
 pub returns-then-same_bytes : goal.returns-then-same_bytes

@@ -1,6 +1,5 @@
 use mathlib.Core.Path.{sym}
 use Rattle.block.proofs.IdsLaws.{looked_for}
-use borrow.Author.Rules.{rules}
 use Rattle.block.proofs.ids.repeated.Goals as goal
 
 pub returns-then-taken-eq0 : goal.returns-then-taken-eq0

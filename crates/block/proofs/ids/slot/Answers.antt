@@ -1,6 +1,5 @@
 use native.Mathlib.Omega.{arith}
 use Rattle.block.specs.Ids.{slot_at}
-use borrow.Author.Rules.{rules}
 use Rattle.block.proofs.ids.slot.Goals as goal
 
 pub returns : goal.returns

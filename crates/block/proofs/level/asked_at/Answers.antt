@@ -1,7 +1,5 @@
-use borrow.Author.Tests.{not-true, not-false}
 use mathlib.Core.Path.{◌∙◌, sym}
 use Rattle.block.proofs.LeavesLaws.{form_passed, form_nothing, form_plain, form_copy, sibling-told, sibling_in}
-use borrow.Author.Rules.{rules}
 use native.Mathlib.Omega.{arith}
 use Rattle.block.proofs.level.asked_at.Goals as goal
 

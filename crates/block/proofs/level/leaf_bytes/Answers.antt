@@ -3,7 +3,6 @@ use Prim.Native.Nat.{ℕ, ◌+◌}
 use native.Mathlib.Omega.{arith}
 use Rattle.block.specs.Leaves.{leaf_bytes}
 use Rattle.encoding.proofs.VarintEncoding.{varint-length}
-use borrow.Author.Rules.{rules}
 use Rattle.block.proofs.level.leaf_bytes.Goals as goal
 
 pub overflow_add-result : goal.overflow_add-result

@@ -1,5 +1,4 @@
 use Rattle.block.specs.Leaves.{leaf_count}
-use borrow.Author.Rules.{rules}
 use Rattle.block.proofs.level.leaf_count.Goals as goal
 
 pub returns-in-Nothing : goal.returns-in-Nothing

@@ -1,9 +1,6 @@
-use borrow.Author.Rules.{rules}
-use native.Mathlib.Omega.{arith}
-use mathlib.Core.Path.{◌≡◌, ◌∙◌, ap}
+use mathlib.Core.Path.{◌≡◌}
 use Prim.Native.Nat.{◌≤◌, ◌-◌, ◌+◌, ◌*◌}
-use Rattle.block.specs.Leaves.{level_leaves, level_size, form_at, leaf_count, leaf_bytes, sum_from}
-use Rattle.block.proofs.LeavesLaws.{sum-start, sum_on, sum-end, count-one, bytes-few}
+use Rattle.block.specs.Leaves.{form_at, leaf_count, leaf_bytes, sum_from}
 use Rattle.block.proofs.level.level_tally.Given as goal
 
 abbrev pub invariant-loop-o : goal.invariant-loop-o

@@ -1,17 +1,11 @@
-use borrow.Author.Rules.{rules}
 use native.Mathlib.Omega.{arith}
-use mathlib.Core.Path.{◌≡◌, ap, ◌∙◌}
-use Prim.Native.Nat.{ℕ, ◌+◌, ◌-◌, ◌*◌, ◌≤◌}
-use mathlib.Core.List.{List}
+use mathlib.Core.Path.{ap, ◌∙◌}
+use Prim.Native.Nat.{ℕ}
 use lib.ListN.{length}
-use Rattle.spv.specs.Hashes.{hashes_of}
 use Rattle.encoding.specs.Digits.{varint_bytes}
 use Rattle.encoding.proofs.VarintEncoding.{varint-length}
-use Rattle.block.specs.Tree.{size as layer_size}
-use Rattle.block.specs.Heap.{Level}
 use Rattle.block.proofs.HeapLaws.{level-start, level-small, level_on}
-use Rattle.block.specs.Leaves.{Ready}
-use Rattle.block.proofs.LevelLaws.{rest, count-start, count_on, sized_on, sized-end}
+use Rattle.block.proofs.LevelLaws.{count-start, count_on, sized_on, sized-end}
 use Rattle.block.proofs.level.levels_size.Goals as goal
 
 pub loop-k-init : goal.loop-k-init

@@ -1,5 +1,4 @@
 use Rattle.block.proofs.LeavesLaws.{wrote_hashed}
-use borrow.Author.Rules.{rules}
 use Rattle.block.proofs.level.write_hashed.Goals as goal
 
 pub returns : goal.returns

@@ -1,5 +1,4 @@
 use Rattle.block.proofs.LeavesLaws.{text-nothing, text-plain, text-copy, text-client}
-use borrow.Author.Rules.{rules}
 use Rattle.block.proofs.level.write_leaf.Goals as goal
 
 pub returns-in-Nothing : goal.returns-in-Nothing

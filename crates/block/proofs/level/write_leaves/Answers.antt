@@ -1,9 +1,6 @@
 use native.Mathlib.Omega.{arith}
-use mathlib.Core.Path.{◌≡◌, ◌∙◌, sym, refl}
-use Prim.Native.Nat.{◌≤◌, ◌-◌}
-use lib.ListN.{length}
-use Rattle.encoding.specs.Buffer.{buffer, write_on}
-use Rattle.block.specs.Leaves.{leaves_text, form_at, leaf_text, text_from}
+use mathlib.Core.Path.{◌∙◌, sym, refl}
+use Rattle.block.specs.Leaves.{leaves_text}
 use Rattle.block.proofs.LeavesLaws.{text-start, text_on, text-end, asked-text}
 use Rattle.block.proofs.level.write_leaves.Goals as goal
 

@@ -1,10 +1,8 @@
-use native.Mathlib.Omega.{arith}
-use mathlib.Core.Path.{◌≡◌, ◌∙◌, sym, refl}
+use mathlib.Core.Path.{◌≡◌}
 use Prim.Native.Nat.{◌≤◌, ◌-◌}
 use lib.ListN.{length}
 use Rattle.encoding.specs.Buffer.{buffer, write_on}
-use Rattle.block.specs.Leaves.{leaves_text, form_at, leaf_text, text_from}
-use Rattle.block.proofs.LeavesLaws.{text-start, text_on, text-end, asked-text}
+use Rattle.block.specs.Leaves.{form_at, leaf_text, text_from}
 use Rattle.block.proofs.level.write_leaves.Given as goal
 
 abbrev pub invariant-loop-o : goal.invariant-loop-o

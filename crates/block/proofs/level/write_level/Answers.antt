@@ -1,5 +1,4 @@
 use Rattle.block.proofs.LeavesLaws.{wrote_level}
-use borrow.Author.Rules.{rules}
 use Rattle.block.proofs.level.write_level.Goals as goal
 
 pub returns : goal.returns

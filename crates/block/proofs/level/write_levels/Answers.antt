@@ -1,16 +1,7 @@
-use borrow.Author.Rules.{rules}
 use native.Mathlib.Omega.{arith}
-use mathlib.Core.Path.{◌≡◌, refl, ◌∙◌}
-use Prim.Native.Nat.{ℕ, ◌-◌, ◌≤◌}
-use mathlib.Core.List.{List}
-use lib.ListN.{length}
-use Rattle.spv.specs.Hashes.{hashes_of}
-use Rattle.encoding.specs.Buffer.{buffer, write_on}
-use Rattle.block.specs.Tree.{size as layer_size}
-use Rattle.block.specs.Heap.{Level}
+use mathlib.Core.Path.{refl, ◌∙◌}
 use Rattle.block.proofs.HeapLaws.{level-start, level-small, level_on}
-use Rattle.block.specs.Leaves.{Ready}
-use Rattle.block.proofs.LevelLaws.{rest, count-start, count_on, written_on, written-end}
+use Rattle.block.proofs.LevelLaws.{count-start, count_on, written_on, written-end}
 use Rattle.block.proofs.level.write_levels.Goals as goal
 
 pub loop-k-init : goal.loop-k-init

@@ -1,6 +1,4 @@
-use borrow.Author.Rules.{rules}
-use native.Mathlib.Omega.{arith}
-use mathlib.Core.Path.{◌≡◌, refl, ◌∙◌}
+use mathlib.Core.Path.{◌≡◌}
 use Prim.Native.Nat.{ℕ, ◌-◌, ◌≤◌}
 use mathlib.Core.List.{List}
 use lib.ListN.{length}
@@ -8,9 +6,8 @@ use Rattle.spv.specs.Hashes.{hashes_of}
 use Rattle.encoding.specs.Buffer.{buffer, write_on}
 use Rattle.block.specs.Tree.{size as layer_size}
 use Rattle.block.specs.Heap.{Level}
-use Rattle.block.proofs.HeapLaws.{level-start, level-small, level_on}
 use Rattle.block.specs.Leaves.{Ready}
-use Rattle.block.proofs.LevelLaws.{rest, count-start, count_on, written_on, written-end}
+use Rattle.block.proofs.LevelLaws.{rest}
 use Rattle.block.proofs.level.write_levels.Given as goal
 
 abbrev pub invariant-loop-k : goal.invariant-loop-k

@@ -1,5 +1,4 @@
 use mathlib.Core.Path.{refl}
-use borrow.Author.Rules.{rules}
 use Rattle.block.specs.Marks.{marked}
 use Rattle.block.proofs.marks.is_marked.Goals as goal
 

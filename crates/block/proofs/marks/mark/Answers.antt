@@ -1,7 +1,5 @@
-use borrow.Author.Rules.{rules}
 use native.Mathlib.Omega.{arith}
-use Prim.Native.Nat.{◌-◌}
-use Rattle.block.proofs.MarksLaws.{Marking, marking_start, marking_in, marking_on, marking_end}
+use Rattle.block.proofs.MarksLaws.{marking_start, marking_in, marking_on, marking_end}
 use Rattle.block.proofs.marks.mark.Goals as goal
 
 pub loop-k-init : goal.loop-k-init

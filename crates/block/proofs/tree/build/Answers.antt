@@ -1,8 +1,6 @@
 use native.Mathlib.Omega.{arith}
-use mathlib.Core.Path.{◌≡◌, refl, ◌∙◌}
-use Prim.Native.Nat.{◌-◌}
-use lib.ListN.{length}
-use Rattle.block.proofs.HeapLaws.{Building, building-start, building-wide, building_on}
+use mathlib.Core.Path.{refl, ◌∙◌}
+use Rattle.block.proofs.HeapLaws.{building-start, building-wide, building_on}
 use Rattle.block.proofs.tree.build.Goals as goal
 
 pub loop-k-init : goal.loop-k-init

@@ -1,8 +1,7 @@
-use native.Mathlib.Omega.{arith}
-use mathlib.Core.Path.{◌≡◌, refl, ◌∙◌}
+use mathlib.Core.Path.{◌≡◌}
 use Prim.Native.Nat.{◌-◌}
 use lib.ListN.{length}
-use Rattle.block.proofs.HeapLaws.{Building, building-start, building-wide, building_on}
+use Rattle.block.proofs.HeapLaws.{Building}
 use Rattle.block.proofs.tree.build.Given as goal
 
 abbrev pub invariant-loop-k : goal.invariant-loop-k

@@ -1,12 +1,6 @@
-use borrow.Author.Rules.{rules}
 use native.Mathlib.Omega.{arith}
-use mathlib.Core.Path.{◌≡◌, sym, ap, ◌∙◌}
-use mathlib.Core.List.{List}
-use Prim.Native.Nat.{ℕ, ◌-◌, ◌≤◌}
-use Rattle.spv.specs.Hashes.{hashes_of}
-use Rattle.block.specs.BlockBump.{climbs_from}
-use Rattle.block.specs.Heap.{Grown, climb_of}
-use Rattle.block.specs.Marks.{Marked}
+use mathlib.Core.Path.{sym, ap, ◌∙◌}
+use Rattle.block.specs.Heap.{climb_of}
 use Rattle.block.proofs.ClimbsLaws.{climbs-start, climbs-stop, climbs_on, climbs-end}
 use Rattle.block.proofs.tree.climb_chosen.Goals as goal
 

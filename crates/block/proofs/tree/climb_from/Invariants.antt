@@ -1,10 +1,7 @@
-use borrow.Author.Rules.{rules}
-use native.Mathlib.Omega.{arith}
-use mathlib.Core.Path.{sym, ◌∙◌}
 use Prim.Native.Nat.{◌-◌, ◌/◌, ◌<◌, ◌≤◌}
 use lib.ListN.{length}
 use Rattle.block.specs.Heap.{Level, Grown}
-use Rattle.block.proofs.HeapLaws.{level-start, level-small, level_on, Climbing, climb_start, climb_twin, climb_on, climb_end}
+use Rattle.block.proofs.HeapLaws.{Climbing}
 use Rattle.block.proofs.tree.climb_from.Given as goal
 
 abbrev pub invariant-loop-k : goal.invariant-loop-k

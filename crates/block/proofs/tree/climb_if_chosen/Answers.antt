@@ -1,6 +1,5 @@
 use native.Mathlib.Omega.{arith}
 use mathlib.Core.Path.{sym, ◌∙◌}
-use borrow.Author.Tests.{not-true, not-false}
 use Rattle.block.proofs.HeapLaws.{level-start, level-small}
 use Rattle.block.proofs.ClimbsLaws.{mark-chosen, one-passed, one-chosen}
 use Rattle.block.proofs.tree.climb_if_chosen.Goals as goal

@@ -1,5 +1,4 @@
 use Rattle.block.proofs.HeapLaws.{twin_even, twin_odd}
-use borrow.Author.Rules.{rules}
 use Rattle.block.proofs.tree.has_twin.Goals as goal
 
 pub returns-then-j-eq0 : goal.returns-then-j-eq0

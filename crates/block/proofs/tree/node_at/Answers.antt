@@ -1,6 +1,5 @@
 use mathlib.Core.Path.{◌∙◌}
 use Rattle.block.proofs.HeapLaws.{node_base, node_heap}
-use borrow.Author.Rules.{rules}
 use Rattle.block.proofs.tree.node_at.Goals as goal
 
 pub returns-then-base : goal.returns-then-base

@@ -1,4 +1,3 @@
-use borrow.Author.Rules.{rules}
 use Rattle.block.proofs.HeapLaws.{four_pairs}
 use Rattle.block.proofs.tree.parents.Goals as goal
 

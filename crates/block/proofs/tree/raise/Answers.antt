@@ -1,8 +1,5 @@
-use borrow.Author.Rules.{rules}
 use native.Mathlib.Omega.{arith}
-use mathlib.Core.List.{List}
-use Prim.Native.Nat.{ℕ, ◌+◌, ◌/◌, ◌-◌}
-use Rattle.block.proofs.HeapLaws.{Raising, raising_start, raising_on, raising_four, raising_end}
+use Rattle.block.proofs.HeapLaws.{raising_start, raising_on, raising_four, raising_end}
 use Rattle.block.proofs.tree.raise.Goals as goal
 
 pub loop-j-init : goal.loop-j-init
@@ -28,4 +25,4 @@ shape_of-heap c = (c.loop-j-2.invariant _ c.loop-j.invariant).long
 pub returns : goal.returns
 returns c =
     let r = c.loop-j-2.invariant _ c.loop-j.invariant in
-    (raising_end _ _ _ _ _ _ _ r (omega arith), r.kept)
+    record { rises = raising_end _ _ _ _ _ _ _ r (omega arith); keeps = r.kept }

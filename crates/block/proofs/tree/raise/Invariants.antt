@@ -1,8 +1,6 @@
-use borrow.Author.Rules.{rules}
-use native.Mathlib.Omega.{arith}
 use mathlib.Core.List.{List}
 use Prim.Native.Nat.{ℕ, ◌+◌, ◌/◌, ◌-◌}
-use Rattle.block.proofs.HeapLaws.{Raising, raising_start, raising_on, raising_four, raising_end}
+use Rattle.block.proofs.HeapLaws.{Raising}
 use Rattle.block.proofs.tree.raise.Given as goal
 
 abbrev pub invariant-loop-j : goal.invariant-loop-j

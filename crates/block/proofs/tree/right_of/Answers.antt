@@ -1,6 +1,5 @@
 use mathlib.Core.Path.{◌∙◌}
 use Rattle.block.proofs.HeapLaws.{right_next, right_copy}
-use borrow.Author.Rules.{rules}
 use Rattle.block.proofs.tree.right_of.Goals as goal
 
 pub returns-then-j-count : goal.returns-then-j-count

@@ -1,5 +1,4 @@
 use Prim.Native.Nat.{ℕ, ◌*◌}
-use borrow.Author.Rules.{rules}
 use Rattle.block.specs.Heap.{right_in}
 use Rattle.block.proofs.HeapLaws.{four_in}
 use Rattle.block.proofs.tree.rights.Goals as goal

@@ -1,4 +1,3 @@
-use borrow.Author.Rules.{rules}
 use Rattle.block.specs.Heap.{set_four}
 use Rattle.block.proofs.tree.set_four.Goals as goal
 

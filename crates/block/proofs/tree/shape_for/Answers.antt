@@ -1,6 +1,5 @@
 use native.Mathlib.Omega.{arith}
-use mathlib.Core.Path.{◌≡◌, refl}
-use Prim.Native.Nat.{ℕ, ◌<◌, ◌-◌, ◌^◌}
+use mathlib.Core.Path.{refl}
 use Rattle.block.proofs.HeapLaws.{shape_on, shape_end}
 use Rattle.block.proofs.tree.shape_for.Goals as goal
 

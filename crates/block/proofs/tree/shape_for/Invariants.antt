@@ -1,7 +1,5 @@
-use native.Mathlib.Omega.{arith}
-use mathlib.Core.Path.{◌≡◌, refl}
+use mathlib.Core.Path.{◌≡◌}
 use Prim.Native.Nat.{ℕ, ◌<◌, ◌-◌, ◌^◌}
-use Rattle.block.proofs.HeapLaws.{shape_on, shape_end}
 use Rattle.block.proofs.tree.shape_for.Given as goal
 
 abbrev pub invariant-loop-width : goal.invariant-loop-width

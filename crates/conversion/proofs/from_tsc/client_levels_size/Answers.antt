@@ -3,7 +3,6 @@ use Rattle.format.proofs.ParseLaws.{answered}
 use native.Mathlib.Omega.{arith}
 use Rattle.encoding.proofs.VarintEncoding.{varint-length}
 use Rattle.conversion.proofs.ConvertLaws.{client_short_counted, client-counted}
-use borrow.Author.Rules.{rules}
 use Rattle.conversion.proofs.from_tsc.client_levels_size.Goals as goal
 
 pub returns-in_default : goal.returns-in_default

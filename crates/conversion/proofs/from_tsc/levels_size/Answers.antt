@@ -1,10 +1,8 @@
 use Rattle.format.specs.LevelAnswer.{kind_of}
 use Rattle.format.proofs.ParseLaws.{answered}
 use Rattle.encoding.proofs.VarintEncoding.{varint-length}
-use borrow.Author.Rules.{rules}
-use Prim.Native.Nat.{◌-◌}
 use native.Mathlib.Omega.{arith}
-use Rattle.conversion.proofs.ConvertLaws.{Counting, counting-start, counting-end, counting_short, counting_on}
+use Rattle.conversion.proofs.ConvertLaws.{counting-start, counting-end, counting_short, counting_on}
 use Rattle.conversion.proofs.from_tsc.levels_size.Goals as goal
 
 pub loop-k-init : goal.loop-k-init

@@ -1,5 +1,4 @@
 use Rattle.conversion.proofs.ConvertLaws.{count_header, count-other}
-use borrow.Author.Rules.{rules}
 use Rattle.conversion.proofs.from_tsc.node_count_at.Goals as goal
 
 pub returns-then-head-eq2 : goal.returns-then-head-eq2

@@ -1,6 +1,5 @@
 use native.Mathlib.Omega.{arith}
 use Rattle.conversion.proofs.ConvertLaws.{size-plain, size-client, size-copy}
-use borrow.Author.Rules.{rules}
 use Rattle.conversion.proofs.from_tsc.node_size.Goals as goal
 
 pub returns-in-Plain : goal.returns-in-Plain

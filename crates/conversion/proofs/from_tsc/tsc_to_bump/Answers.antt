@@ -6,7 +6,6 @@ use Rattle.spv.specs.Result.{refused_reading}
 use Rattle.spv.proofs.ShapesLaws.{told-accepted, told_unproved}
 use Rattle.block.proofs.OutputLaws.{refused_so}
 use Rattle.conversion.proofs.ConvertLaws.{from_unread, from_refused}
-use borrow.Author.Rules.{rules}
 use Rattle.conversion.proofs.from_tsc.tsc_to_bump.Goals as goal
 
 pub returns-in_default : goal.returns-in_default

@@ -1,5 +1,4 @@
 use Rattle.conversion.proofs.ConvertLaws.{wrote_odd, wrote_even}
-use borrow.Author.Rules.{rules}
 use Rattle.conversion.proofs.from_tsc.write_client_level.Goals as goal
 
 pub returns-then-i-eq1 : goal.returns-then-i-eq1

@@ -1,7 +1,6 @@
 use Rattle.format.specs.LevelAnswer.{kind_of}
 use Rattle.format.proofs.ParseLaws.{answered}
 use Rattle.conversion.proofs.ConvertLaws.{client_short_wrote, client_wrote}
-use borrow.Author.Rules.{rules}
 use Rattle.conversion.proofs.from_tsc.write_client_levels.Goals as goal
 
 pub returns-in_default : goal.returns-in_default

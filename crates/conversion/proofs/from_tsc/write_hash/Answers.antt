@@ -1,7 +1,6 @@
 use mathlib.Core.Path.{ap, ◌∙◌}
 use Rattle.encoding.specs.Buffer.{write_on}
 use Rattle.encoding.proofs.BufferLaws.{write_cons}
-use borrow.Author.Rules.{rules}
 use Rattle.conversion.proofs.from_tsc.write_hash.Goals as goal
 
 pub returns : goal.returns

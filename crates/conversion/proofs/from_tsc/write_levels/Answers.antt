@@ -1,12 +1,8 @@
 use Rattle.format.specs.LevelAnswer.{kind_of}
 use Rattle.format.proofs.ParseLaws.{answered}
-use borrow.Author.Rules.{rules}
-use mathlib.Core.Path.{◌≡◌, refl, ◌∙◌}
-use Prim.Native.Nat.{◌-◌, ◌≤◌}
-use lib.ListN.{length}
+use mathlib.Core.Path.{refl, ◌∙◌}
 use native.Mathlib.Omega.{arith}
-use Rattle.encoding.specs.Buffer.{buffer}
-use Rattle.conversion.proofs.ConvertLaws.{Writing, writing_start, writing-end, writing_short, writing_on, wrote_level}
+use Rattle.conversion.proofs.ConvertLaws.{writing_start, writing-end, writing_short, writing_on, wrote_level}
 use Rattle.conversion.proofs.from_tsc.write_levels.Goals as goal
 
 pub loop-k-init : goal.loop-k-init

@@ -1,12 +1,8 @@
-use Rattle.format.specs.LevelAnswer.{kind_of}
-use Rattle.format.proofs.ParseLaws.{answered}
-use borrow.Author.Rules.{rules}
-use mathlib.Core.Path.{◌≡◌, refl, ◌∙◌}
+use mathlib.Core.Path.{◌≡◌}
 use Prim.Native.Nat.{◌-◌, ◌≤◌}
 use lib.ListN.{length}
-use native.Mathlib.Omega.{arith}
 use Rattle.encoding.specs.Buffer.{buffer}
-use Rattle.conversion.proofs.ConvertLaws.{Writing, writing_start, writing-end, writing_short, writing_on, wrote_level}
+use Rattle.conversion.proofs.ConvertLaws.{Writing}
 use Rattle.conversion.proofs.from_tsc.write_levels.Given as goal
 
 abbrev pub invariant-loop-k : goal.invariant-loop-k

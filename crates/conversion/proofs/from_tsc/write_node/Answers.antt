@@ -1,5 +1,4 @@
 use Rattle.conversion.proofs.ConvertLaws.{wrote_plain, wrote_client, wrote_copy}
-use borrow.Author.Rules.{rules}
 use Rattle.conversion.proofs.from_tsc.write_node.Goals as goal
 
 pub returns-in-Plain : goal.returns-in-Plain

@@ -1,5 +1,4 @@
 use Rattle.conversion.proofs.ConvertLaws.{wrote_sibling}
-use borrow.Author.Rules.{rules}
 use Rattle.conversion.proofs.from_tsc.write_sibling.Goals as goal
 
 pub returns : goal.returns

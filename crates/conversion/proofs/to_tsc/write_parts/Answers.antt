@@ -1,7 +1,6 @@
 use mathlib.Core.Path.{sym}
 use lib.Seq.{length-take-le}
 use Rattle.conversion.proofs.ConvertLaws.{wrote_tsc}
-use borrow.Author.Rules.{rules}
 use Rattle.conversion.proofs.to_tsc.write_parts.Goals as goal
 
 pub slice_bounds-write-end-3 : goal.slice_bounds-write-end-3

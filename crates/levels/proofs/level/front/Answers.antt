@@ -2,7 +2,6 @@ use Rattle.levels.proofs.FrontsLaws.{spot-end, spot-other, spot_stuck, spot-here
 use Rattle.path.specs.LeafAnswer.{leaf_of}
 use Rattle.format.proofs.ParseLaws.{answered}
 use mathlib.Core.Path.{sym}
-use borrow.Author.Rules.{rules}
 use Rattle.levels.proofs.level.front.Goals as goal
 
 pub returns-then-places-i : goal.returns-then-places-i

@@ -1,7 +1,6 @@
 use Rattle.levels.specs.Fronts.{lesser}
 use borrow.Author.Tests.{lt-ltb, le-ltb}
 use mathlib.Core.Path.{refl}
-use borrow.Author.Rules.{rules}
 use Rattle.levels.proofs.level.lesser.Goals as goal
 
 pub returns-then-y-x : goal.returns-then-y-x

@@ -1,6 +1,5 @@
 use Rattle.levels.proofs.FrontsLaws.{next-end, next_here}
 use mathlib.Core.Path.{sym}
-use borrow.Author.Rules.{rules}
 use Rattle.levels.proofs.level.next_offset.Goals as goal
 
 pub returns-then-places-i : goal.returns-then-places-i

@@ -1,6 +1,5 @@
 use Rattle.levels.proofs.FrontsLaws.{index-end, index-other, index-here}
 use mathlib.Core.Path.{sym}
-use borrow.Author.Rules.{rules}
 use Rattle.levels.proofs.level.past.Goals as goal
 
 pub returns-then-places-i : goal.returns-then-places-i

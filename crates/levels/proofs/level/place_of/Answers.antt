@@ -1,6 +1,5 @@
 use Rattle.levels.specs.Fronts.{place_of}
 use mathlib.Core.Path.{refl}
-use borrow.Author.Rules.{rules}
 use Rattle.levels.proofs.level.place_of.Goals as goal
 
 pub returns-in-Plain : goal.returns-in-Plain

@@ -1,5 +1,4 @@
 use Rattle.encoding.proofs.BufferLaws.{wrote_then}
-use borrow.Author.Rules.{rules}
 use Rattle.listing.proofs.lines.number_line.Goals as goal
 
 pub returns : goal.returns

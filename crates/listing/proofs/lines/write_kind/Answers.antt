@@ -1,6 +1,5 @@
 use Rattle.encoding.proofs.BufferLaws.{wrote_then}
 use Rattle.listing.specs.Listing.{kind_text}
-use borrow.Author.Rules.{rules}
 use Rattle.listing.proofs.lines.write_kind.Goals as goal
 
 pub returns-in-Plain : goal.returns-in-Plain

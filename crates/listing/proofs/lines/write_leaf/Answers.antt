@@ -1,6 +1,5 @@
 use Rattle.encoding.proofs.BufferLaws.{wrote_then}
 use Rattle.listing.specs.Listing.{leaf_line}
-use borrow.Author.Rules.{rules}
 use Rattle.listing.proofs.lines.write_leaf.Goals as goal
 
 pub returns : goal.returns

@@ -1,12 +1,7 @@
-use mathlib.Core.Path.{◌≡◌, refl, sym, ◌∙◌}
-use Prim.Native.Nat.{◌-◌, ◌≤◌}
+use mathlib.Core.Path.{refl, sym, ◌∙◌}
 use native.Mathlib.Omega.{arith}
-use borrow.Author.Rules.{rules}
-use lib.ListN.{length}
 use Rattle.format.proofs.ParseLaws.{answered}
 use Rattle.path.specs.LeafAnswer.{leaf_of}
-use Rattle.encoding.specs.Buffer.{buffer}
-use Rattle.listing.specs.Walk.{walk_leaves}
 use Rattle.listing.proofs.WalkLaws.{leaves-start, leaves-more, leaves-refused, leaves-done}
 use Rattle.listing.proofs.lines.write_leaves.Goals as goal
 
@@ -20,8 +15,7 @@ pub returns-in_default : goal.returns-in_default
 returns-in_default c = sym (c.loop-i.invariant.0 ∙ leaves-refused _ _ _ _ _ c.loop-i-test.true (answered leaf_of c.leaf_at-field.ensures c.in_default.is))
 
 pub loop-i-preserved : goal.loop-i-preserved
-loop-i-preserved c =
-    (
+loop-i-preserved c = (
   c.loop-i.invariant.0 ∙ leaves-more _ _ _ _ _ c.loop-i-test.true (answered leaf_of c.leaf_at-field.ensures c.in-Value.is) c.write_leaf-at.ensures,
   omega arith,
   c.write_leaf-at.auto.out ∙ c.loop-i.invariant.2,

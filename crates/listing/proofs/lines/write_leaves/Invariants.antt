@@ -1,13 +1,8 @@
-use mathlib.Core.Path.{◌≡◌, refl, sym, ◌∙◌}
+use mathlib.Core.Path.{◌≡◌}
 use Prim.Native.Nat.{◌-◌, ◌≤◌}
-use native.Mathlib.Omega.{arith}
-use borrow.Author.Rules.{rules}
 use lib.ListN.{length}
-use Rattle.format.proofs.ParseLaws.{answered}
-use Rattle.path.specs.LeafAnswer.{leaf_of}
 use Rattle.encoding.specs.Buffer.{buffer}
 use Rattle.listing.specs.Walk.{walk_leaves}
-use Rattle.listing.proofs.WalkLaws.{leaves-start, leaves-more, leaves-refused, leaves-done}
 use Rattle.listing.proofs.lines.write_leaves.Given as goal
 
 abbrev pub invariant-loop-i : goal.invariant-loop-i

@@ -3,7 +3,6 @@ use Rattle.format.proofs.ParseLaws.{answered}
 use Rattle.format.specs.FieldAnswer.{number_of}
 use Rattle.listing.specs.Listing.{level_line}
 use Rattle.listing.proofs.WalkLaws.{level-refused, level-counted}
-use borrow.Author.Rules.{rules}
 use Rattle.listing.proofs.lines.write_level.Goals as goal
 
 pub returns-in_default : goal.returns-in_default

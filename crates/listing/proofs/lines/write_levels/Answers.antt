@@ -1,10 +1,6 @@
-use mathlib.Core.Path.{◌≡◌, refl, sym, ap, ◌∙◌}
-use Prim.Native.Nat.{◌-◌, ◌≤◌}
+use mathlib.Core.Path.{refl, sym, ap, ◌∙◌}
 use native.Mathlib.Omega.{arith}
-use borrow.Author.Rules.{rules}
-use lib.ListN.{length}
-use Rattle.encoding.specs.Buffer.{buffer}
-use Rattle.listing.specs.Walk.{Walk, walk_levels}
+use Rattle.listing.specs.Walk.{Walk}
 use Rattle.listing.proofs.WalkLaws.{levels-start, levels-more, levels-done}
 use Rattle.listing.proofs.lines.write_levels.Goals as goal
 
@@ -12,8 +8,7 @@ pub loop-level-init : goal.loop-level-init
 loop-level-init c = (levels-start _ _ _ _, omega arith, refl)
 
 pub loop-level-preserved : goal.loop-level-preserved
-loop-level-preserved c =
-    (
+loop-level-preserved c = (
   c.loop-level.invariant.0 ∙ levels-more _ _ _ _ _ c.loop-level-test.true c.write_level-step.ensures,
   omega arith,
   c.write_level-step.auto.out ∙ c.loop-level.invariant.2,

@@ -1,11 +1,8 @@
-use mathlib.Core.Path.{◌≡◌, refl, sym, ap, ◌∙◌}
+use mathlib.Core.Path.{◌≡◌}
 use Prim.Native.Nat.{◌-◌, ◌≤◌}
-use native.Mathlib.Omega.{arith}
-use borrow.Author.Rules.{rules}
 use lib.ListN.{length}
 use Rattle.encoding.specs.Buffer.{buffer}
-use Rattle.listing.specs.Walk.{Walk, walk_levels}
-use Rattle.listing.proofs.WalkLaws.{levels-start, levels-more, levels-done}
+use Rattle.listing.specs.Walk.{walk_levels}
 use Rattle.listing.proofs.lines.write_levels.Given as goal
 
 abbrev pub invariant-loop-level : goal.invariant-loop-level

@@ -1,5 +1,4 @@
 use Rattle.listing.specs.Listing.{refused_line}
-use borrow.Author.Rules.{rules}
 use Rattle.listing.proofs.lines.write_refusal.Goals as goal
 
 pub returns : goal.returns

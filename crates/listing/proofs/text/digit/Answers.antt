@@ -1,6 +1,5 @@
 use mathlib.Core.Path.{sym}
 use Rattle.listing.proofs.TextLaws.{digit_low, digit-high}
-use borrow.Author.Rules.{rules}
 use Rattle.listing.proofs.text.digit.Goals as goal
 
 pub returns-then-d-lt10 : goal.returns-then-d-lt10

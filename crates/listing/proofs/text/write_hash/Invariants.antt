@@ -1,10 +1,7 @@
-use mathlib.Core.Path.{◌≡◌, refl, sym, ◌∙◌}
-use Prim.Native.Nat.{◌-◌, ◌≤◌}
-use native.Mathlib.Omega.{arith}
-use borrow.Author.Rules.{rules}
+use mathlib.Core.Path.{◌≡◌}
+use Prim.Native.Nat.{◌≤◌}
 use lib.ListN.{length, take}
 use Rattle.listing.specs.Text.{printed}
-use Rattle.listing.proofs.TextLaws.{printed-start, printed_on, printed-end}
 use Rattle.encoding.specs.Buffer.{buffer, write_on}
 use Rattle.listing.proofs.text.write_hash.Given as goal
 

@@ -14,7 +14,7 @@ use Rattle.format.specs.Level.{holds}
 use Rattle.format.specs.Refusals.{NOT_LISTED, MAX_BLOCK}
 use Rattle.spv.specs.declared.rejection.Rejection.{Rejection}
 use Rattle.spv.specs.Result.{Result, accepted, refused, carrying, follow}
-use Rattle.spv.specs.Hashes.{hashes, hashes_of}
+use Rattle.spv.specs.Hashes.{hashes_of}
 use Rattle.spv.specs.Prove.{proof_of, prove}
 use Rattle.spv.specs.Readings.{bump_reading}
 use Rattle.encoding.specs.Encode.{AllBytes}
