@@ -1,4 +1,6 @@
 -- Laws of what the code adds up of hash work.
+use mathlib.Core.Path.{sym}
+use mathlib.Core.Path.{subst}
 use Prim.Native.Nat.{ℕ, zero, suc, ◌+◌, ◌-◌, ◌*◌, ◌%◌, ◌≤◌, ◌<◌}
 use mathlib.Core.Path.{◌≡◌, refl, ap, ◌∙◌}
 use mathlib.Core.Bool.{Bool, true, false}
@@ -92,7 +94,7 @@ below_all f (suc n) zero h = absurd (omega arith)
 below_all f n (suc i) h = go (leb n i) refl (below_all f n i)
   where
     at : n ≡ suc i → sum_to (λ k. pick (ltb k n) (f k) 0) (suc i) ≡ sum_to f n
-    at e = rw e (sum_below (λ k. pick (ltb k (suc i)) (f k) 0) f (suc i) (λ k l. rw (lt-ltb k (suc i) l)))
+    at e = subst (λ (m : ℕ). sum_to (λ k. pick (ltb k m) (f k) 0) (suc i) ≡ sum_to f m) (sym e) (sum_below (λ k. pick (ltb k (suc i)) (f k) 0) f (suc i) (λ k l. rw (lt-ltb k (suc i) l)))
 
     go : (t : Bool) → leb n i ≡ t → (n ≤ i → sum_to (λ k. pick (ltb k n) (f k) 0) i ≡ sum_to f n) → sum_to (λ k. pick (ltb k n) (f k) 0) i + pick (ltb i n) (f i) 0 ≡ sum_to f n
     go true q rest = let low = leb-true n i q in rw (le-ltb i n low) (let r = rest low in omega arith)

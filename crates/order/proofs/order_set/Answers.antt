@@ -23,7 +23,11 @@ fill_parents-requires c =
     let o = opened-told _ _ _ c.open_set-answer.ensures c.in-Accepted.is in
     let z = ap length c.no_bytes-ids.ensures ∙ length-replicate {A = ℕ} 8192 0 in
     let few = o.few in
-    (few, (omega arith, ap length c.no_bytes-matrix.ensures ∙ length-replicate {A = ℕ} 8192 0))
+    record {
+      n_bound = few;
+      n_in_bounds = omega arith;
+      matrix_len = ap length c.no_bytes-matrix.ensures ∙ length-replicate {A = ℕ} 8192 0;
+    }
 
 pub our_order-requires : goal.our_order-requires
 our_order-requires c =

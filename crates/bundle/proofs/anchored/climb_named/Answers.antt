@@ -11,7 +11,15 @@ slice_bounds-climb_rows-end-2 c = sym (length-take-le c.gather-count.result c.ar
 pub climb_rows-requires : goal.climb_rows-requires
 climb_rows-requires c =
     let long = length-take-le c.gather-count.result c.args.starts.now (omega arith) in
-    (omega arith, (omega arith, (omega arith, (omega arith, (omega arith, (c.requires.in_bounds, rw long c.gather-count.ensures.held))))))
+    record {
+      starts_len_bound = omega arith;
+      starts_in_bounds = omega arith;
+      starts_in_bounds_2 = omega arith;
+      starts_in_bounds_3 = omega arith;
+      starts_in_bounds_4 = omega arith;
+      in_bounds = c.requires.in_bounds;
+      hold_ids = rw long c.gather-count.ensures.held;
+    }
 
 pub returns : goal.returns
 returns c =

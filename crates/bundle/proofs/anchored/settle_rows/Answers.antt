@@ -17,7 +17,10 @@ pub overflow_mul-i : goal.overflow_mul-i
 overflow_mul-i c = omega (arith, c.shared_slice_known-in-loop-r-1.given c.loop-r.r)
 
 pub put_end-requires : goal.put_end-requires
-put_end-requires c = let low = c.shared_slice_known-in-loop-r-1.given c.loop-r.r in (omega arith, omega arith)
+put_end-requires c = let low = c.shared_slice_known-in-loop-r-1.given c.loop-r.r in record {
+  i_bound = omega arith;
+  in_bounds = omega arith;
+}
 
 pub overflow_add-r : goal.overflow_add-r
 overflow_add-r c = record { fits = omega arith }

@@ -35,17 +35,34 @@ pub climb_bumps-requires : goal.climb_bumps-requires
 climb_bumps-requires c =
     let read = answered beef_answer c.read_bundle-bundle.ensures.0 c.in-Value.is in
     let few = read-few _ _ _ _ read in
-    (read_low _ _ _ _ read, (few, (omega arith, search rules)))
+    record {
+      count_bound = read_low _ _ _ _ read;
+      n_bound = few;
+      n_in_bounds = omega arith;
+      in_bounds = search rules;
+    }
 
 pub judge_entries-verdict-requires : goal.judge_entries-verdict-requires
 judge_entries-verdict-requires c =
     let read = answered beef_answer c.read_bundle-bundle.ensures.0 c.in-Value.is in
-    (read-few _ _ _ _ read, (omega arith, (c.if-numbers-lt-NUMBERS_ROOM.false, (omega arith, (c.write_ids-made.ensures.0, read-every _ _ _ _ read)))))
+    record {
+      n_bound = read-few _ _ _ _ read;
+      in_bounds = omega arith;
+      in_bounds_2 = c.if-numbers-lt-NUMBERS_ROOM.false;
+      in_bounds_3 = omega arith;
+      ids_from = c.write_ids-made.ensures.0;
+      at_len = read-every _ _ _ _ read;
+    }
 
 pub work_made-work-requires : goal.work_made-work-requires
 work_made-work-requires c =
     let few = read-few _ _ _ _ (answered beef_answer c.read_bundle-bundle.ensures.0 c.in-Value.is) in
-    (made_low _ _ _ _ c.write_ids-made.ensures.2 few, (few, (omega arith, omega arith)))
+    record {
+      ids_bound = made_low _ _ _ _ c.write_ids-made.ensures.2 few;
+      n_bound = few;
+      n_in_bounds = omega arith;
+      in_bounds = omega arith;
+    }
 
 pub returns-in-Refused : goal.returns-in-Refused
 unfolding judgement_of

@@ -1,4 +1,5 @@
 use Prim.Native.Nat.{ℕ, ◌≤◌, ◌-◌}
+use Rattle.order.specs.Code.{Marks}
 use mathlib.Core.Path.{◌≡◌, refl, ap, ◌∙◌}
 use native.Mathlib.Omega.{arith}
 use native.Mathlib.Numerals.{add-one}

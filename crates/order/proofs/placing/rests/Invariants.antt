@@ -1,4 +1,5 @@
 use Prim.Native.Nat.{◌≤◌, ◌-◌}
+use Rattle.order.specs.Code.{TellsRests}
 use mathlib.Core.Bool.{Bool, true, false, not, ◌||◌}
 use mathlib.Core.Path.{◌≡◌, sym, ap, ◌∙◌}
 use lib.Dec.{eqb}
