@@ -9,7 +9,7 @@ use native.Mathlib.Omega.{arith}
 use borrow.Author.Tests.{le-leb, leb-true}
 use Rattle.format.specs.declared.level.Layout.{Layout}
 use Rattle.format.proofs.Basics.{and-true}
-use Rattle.format.specs.Parse.{Reader, pick, pure, here, ◌>>=◌, ◌>>◌, ◌passing◌else◌, require, times, ended, whole, ok, fault}
+use Rattle.format.specs.Parse.{Reader, pick, pure, here, ◌>>=◌, ◌passing◌else◌, require, times, ended, whole, ok, fault}
 use Rattle.format.proofs.ParseLaws.{passing_told, onward-told, many_unchecked}
 use Rattle.format.specs.Field.{byte, varint}
 use Rattle.format.specs.Level.{level_fields}

@@ -1,5 +1,5 @@
 -- Laws of double SHA-256 for callers: the length and the bytes of a digest, and what the hash call answers.
-use Rattle.std.proofs.Common.{◌≡◌, ℕ, zero, suc, ◌+◌, ◌-◌, ◌*◌, ◌/◌, ◌%◌, ◌^◌, ◌<◌, ◌≤◌, List, [], ◌∷◌, ◌++◌, length, get_or, replicate, refl, arith, le-leb}
+use Rattle.std.proofs.Common.{◌≡◌, ℕ, zero, suc, ◌*◌, ◌/◌, ◌%◌, ◌^◌, ◌<◌, ◌≤◌, List, [], ◌∷◌, ◌++◌, length, get_or, replicate, refl, arith, le-leb}
 use borrow.Author.Tests.{lt-leb}
 use Rattle.hash.specs.declared.compress.State.{State}
 use Rattle.hash.specs.Sha256.{big_endian, hash_value, digest, sha256, sha256d, MAX_INPUT, hashed}

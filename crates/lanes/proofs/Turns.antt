@@ -10,7 +10,6 @@ use Rattle.hash.proofs.Padding.{pad-front, H-step, H-done, block_within}
 use Rattle.hash.proofs.Digests.{digest-hashed}
 use Rattle.lanes.specs.declared.compress.Four.{Four}
 use Rattle.lanes.specs.declared.compress.State4.{State4}
-use Rattle.lanes.specs.declared.Nodes.{Nodes}
 use Rattle.lanes.specs.declared.messages.Counts.{Counts}
 use Rattle.lanes.specs.Lanes.{in_lane, word_in, node, nodes, lane, lanes, value, digest_words, four, count, before_end, larger, after}
 use Rattle.lanes.proofs.SideBySide.{lane-all, lane-map, lanes-length, lanes-set, compress-block}

@@ -1,5 +1,5 @@
 -- A block that lies within the message has the padded message's bytes.
-use Rattle.std.proofs.Common.{◌*◌, arith, rules}
+use Rattle.std.proofs.Common.{◌*◌, arith}
 use Rattle.hash.proofs.Padding.{block-whole}
 use Rattle.hash.proofs.block.Goals as goal
 

@@ -1,4 +1,4 @@
-use Rattle.std.proofs.Common.{◌/◌, ◌^◌, rules}
+use Rattle.std.proofs.Common.{◌/◌, ◌^◌}
 use lib.Bits.{and_mask, mask_lt}
 use Rattle.hash.proofs.byte.Goals as goal
 

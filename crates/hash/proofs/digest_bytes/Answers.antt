@@ -1,4 +1,4 @@
-use Rattle.std.proofs.Common.{div-one, rules}
+use Rattle.std.proofs.Common.{div-one}
 use Rattle.hash.specs.Sha256.{digest, big_endian}
 use Rattle.hash.proofs.digest_bytes.Goals as goal
 

@@ -1,4 +1,4 @@
-use Rattle.std.proofs.Common.{◌≡◌, ◌-◌, ◌≤◌, length, take, refl, arith, length-set, rules}
+use Rattle.std.proofs.Common.{refl, arith, length-set}
 use Rattle.hash.specs.Sha256.{words, word}
 use Rattle.hash.proofs.Words.{words_step, words-done}
 use Rattle.hash.proofs.eight_words.Goals as goal

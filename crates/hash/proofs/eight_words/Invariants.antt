@@ -1,6 +1,6 @@
 -- After t turns the first t words are right.
-use Rattle.std.proofs.Common.{◌≡◌, ◌-◌, ◌≤◌, length, take, refl, arith, length-set, rules}
-use Rattle.hash.specs.Sha256.{words, word}
+use Rattle.std.proofs.Common.{◌≡◌, ◌≤◌, length, take}
+use Rattle.hash.specs.Sha256.{words}
 use Rattle.hash.proofs.eight_words.Given as goal
 
 abbrev pub invariant-loop-t : goal.invariant-loop-t

@@ -1,5 +1,4 @@
 -- A padded digest is one block.
-use Rattle.std.proofs.Common.{rules}
 use Rattle.hash.proofs.Digests.{digest-hashed}
 use Rattle.hash.proofs.hash_digest.Goals as goal
 

@@ -1,4 +1,4 @@
-use Rattle.std.proofs.Common.{◌≡◌, ◌-◌, ◌≤◌, ◌∙◌, arith, rules}
+use Rattle.std.proofs.Common.{◌∙◌, arith}
 use Rattle.hash.specs.Sha256.{H, pad}
 use Rattle.hash.proofs.Padding.{H-step, H-done}
 use Rattle.hash.proofs.hash_value.Goals as goal

@@ -1,5 +1,5 @@
 -- After i turns the hash value is that of i blocks.
-use Rattle.std.proofs.Common.{◌≡◌, ◌-◌, ◌≤◌, ◌∙◌, arith, rules}
+use Rattle.std.proofs.Common.{◌≡◌, ◌≤◌}
 use Rattle.hash.specs.Sha256.{H, pad}
 use Rattle.hash.proofs.hash_value.Given as goal
 

@@ -1,5 +1,5 @@
 -- After t turns the first t words are right.
-use Rattle.std.proofs.Common.{◌≡◌, ◌-◌, ◌*◌, ◌≤◌, length, take, refl, arith, length-set}
+use Rattle.std.proofs.Common.{◌≡◌, ◌*◌, ◌≤◌, length, take}
 use Rattle.hash.specs.Sha256.{pad, words}
 use Rattle.hash.proofs.padded_block.Given as goal
 

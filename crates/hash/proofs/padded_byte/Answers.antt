@@ -1,5 +1,5 @@
 -- Each return is a part of the padded message: the message, the bit 1, the zeros, the length.
-use Rattle.std.proofs.Common.{sym, ◌∙◌, arith, rules}
+use Rattle.std.proofs.Common.{sym, ◌∙◌, arith}
 use Rattle.hash.proofs.Padding.{pad-front, pad-one, pad-zero, pad-length}
 use Rattle.hash.proofs.padded_byte.Goals as goal
 

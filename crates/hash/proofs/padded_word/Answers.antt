@@ -1,5 +1,5 @@
 -- Each return is a word of the padded message: in the message, among the zeros, or of four bytes.
-use Rattle.std.proofs.Common.{◌∙◌, arith, rules}
+use Rattle.std.proofs.Common.{◌∙◌, arith}
 use Rattle.hash.specs.Sha256.{word}
 use Rattle.hash.proofs.Padding.{word-front, word-zero}
 use Rattle.hash.proofs.padded_word.Goals as goal

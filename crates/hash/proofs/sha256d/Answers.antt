@@ -1,4 +1,4 @@
-use Rattle.std.proofs.Common.{sym, arith, rules}
+use Rattle.std.proofs.Common.{sym, arith}
 use Rattle.hash.specs.Sha256.{sha256d, sha256}
 use Rattle.hash.proofs.Sha256Laws.{hashed-accepted, hashed-refused}
 use Rattle.hash.proofs.sha256d.Goals as goal

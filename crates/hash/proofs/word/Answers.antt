@@ -1,4 +1,4 @@
-use Rattle.std.proofs.Common.{refl, rules}
+use Rattle.std.proofs.Common.{refl}
 use Rattle.hash.specs.Sha256.{word4}
 use Rattle.hash.proofs.word.Goals as goal
 

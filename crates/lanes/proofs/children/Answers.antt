@@ -1,4 +1,4 @@
-use Rattle.std.proofs.Common.{◌≡◌, ℕ, ◌-◌, ◌≤◌, ◌++◌, length, take, sym, refl, append-nil, arith, length-set, rules}
+use Rattle.std.proofs.Common.{◌≡◌, take, sym, refl, append-nil, arith, length-set}
 use Rattle.hash.specs.Sha256.{words}
 use Rattle.lanes.specs.Lanes.{lanes, node}
 use Rattle.lanes.proofs.SideBySide.{left_on, right_on, both}

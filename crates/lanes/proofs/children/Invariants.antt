@@ -1,8 +1,7 @@
 -- The left nodes' words, then the right ones'.
-use Rattle.std.proofs.Common.{◌≡◌, ℕ, ◌-◌, ◌≤◌, ◌++◌, length, take, sym, refl, append-nil, arith, length-set, rules}
+use Rattle.std.proofs.Common.{◌≡◌, ℕ, ◌-◌, ◌≤◌, ◌++◌, length, take}
 use Rattle.hash.specs.Sha256.{words}
 use Rattle.lanes.specs.Lanes.{lanes, node}
-use Rattle.lanes.proofs.SideBySide.{left_on, right_on, both}
 use Rattle.lanes.proofs.children.Given as goal
 
 abbrev pub invariant-loop-t : goal.invariant-loop-t

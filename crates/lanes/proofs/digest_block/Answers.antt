@@ -1,5 +1,4 @@
 use Rattle.lanes.proofs.SideBySide.{lanes-digest}
-use Rattle.std.proofs.Common.{rules}
 use Rattle.lanes.proofs.digest_block.Goals as goal
 
 pub returns : goal.returns

@@ -1,4 +1,3 @@
-use Rattle.std.proofs.Common.{rules}
 use Rattle.lanes.specs.Lanes.{lane, word_in, in_lane}
 use Rattle.lanes.proofs.SideBySide.{lanes-digests}
 use Rattle.lanes.proofs.digests.Goals as goal

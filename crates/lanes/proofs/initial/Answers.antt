@@ -1,7 +1,6 @@
 use Rattle.lanes.specs.Lanes.{lane, value}
 use Rattle.hash.specs.Sha256.{H0}
 use Rattle.lanes.proofs.SideBySide.{word_in-all}
-use Rattle.std.proofs.Common.{rules}
 use Rattle.lanes.proofs.initial.Goals as goal
 
 pub returns : goal.returns

@@ -1,5 +1,4 @@
 use Rattle.hash.specs.Sha256.{word}
-use Rattle.std.proofs.Common.{rules}
 use Rattle.lanes.proofs.word_at.Goals as goal
 
 pub returns : goal.returns

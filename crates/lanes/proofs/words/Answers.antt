@@ -1,4 +1,3 @@
-use Rattle.std.proofs.Common.{rules}
 use Rattle.lanes.proofs.SideBySide.{word_in-words}
 use Rattle.lanes.proofs.words.Goals as goal
 

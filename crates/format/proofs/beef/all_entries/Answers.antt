@@ -1,12 +1,7 @@
-use borrow.Author.Rules.{rules}
 use native.Mathlib.Omega.{arith}
-use mathlib.Core.Path.{◌≡◌, sym, ◌∙◌}
+use mathlib.Core.Path.{sym, ◌∙◌}
 use Rattle.format.proofs.ParseLaws.{answered, each-ok, each-fault, count-start, count-step, count-refused, count-done}
-use Rattle.format.specs.Parse.{times, each}
-use Rattle.format.specs.Beef.{entry_field}
 use Rattle.format.specs.BeefAnswer.{entry_head_of, entry_answer}
-use Prim.Native.Nat.{◌≤◌, ◌-◌, ◌+◌}
-use lib.ListN.{length}
 use Rattle.format.proofs.beef.all_entries.Goals as goal
 
 pub loop-i-init : goal.loop-i-init

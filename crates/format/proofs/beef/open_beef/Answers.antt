@@ -1,4 +1,3 @@
-use borrow.Author.Rules.{rules}
 use mathlib.Core.Path.{sym, ◌∙◌}
 use Rattle.format.proofs.BeefLaws.{open_long, open_fits}
 use Rattle.format.proofs.beef.open_beef.Goals as goal

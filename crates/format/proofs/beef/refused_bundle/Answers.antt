@@ -1,4 +1,3 @@
-use borrow.Author.Rules.{rules}
 use Rattle.format.proofs.beef.refused_bundle.Goals as goal
 
 pub returns : goal.returns

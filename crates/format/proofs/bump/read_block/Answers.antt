@@ -1,4 +1,3 @@
-use borrow.Author.Rules.{rules}
 use borrow.Author.Tests.{le-leb, lt-leb}
 use Rattle.format.specs.Bump.{block_field}
 use Rattle.format.specs.FieldAnswer.{number_of}

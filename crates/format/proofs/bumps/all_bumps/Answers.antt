@@ -1,11 +1,7 @@
-use borrow.Author.Rules.{rules}
 use native.Mathlib.Omega.{arith}
-use mathlib.Core.Path.{◌≡◌, sym, ◌∙◌}
+use mathlib.Core.Path.{sym, ◌∙◌}
 use Rattle.format.proofs.ParseLaws.{answered, each-ok, each-fault, count-start, count-step, count-refused, count-done}
-use Rattle.format.specs.Parse.{times, each}
-use Rattle.format.specs.Bump.{bump_field, head_of, bump_answer}
-use Prim.Native.Nat.{◌≤◌, ◌-◌, ◌+◌}
-use lib.ListN.{length}
+use Rattle.format.specs.Bump.{head_of, bump_answer}
 use Rattle.format.proofs.bumps.all_bumps.Goals as goal
 
 pub loop-i-init : goal.loop-i-init

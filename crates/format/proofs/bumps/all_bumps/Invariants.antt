@@ -1,9 +1,6 @@
-use borrow.Author.Rules.{rules}
-use native.Mathlib.Omega.{arith}
-use mathlib.Core.Path.{◌≡◌, sym, ◌∙◌}
-use Rattle.format.proofs.ParseLaws.{answered, each-ok, each-fault, count-start, count-step, count-refused, count-done}
+use mathlib.Core.Path.{◌≡◌}
 use Rattle.format.specs.Parse.{times, each}
-use Rattle.format.specs.Bump.{bump_field, head_of, bump_answer}
+use Rattle.format.specs.Bump.{bump_field}
 use Prim.Native.Nat.{◌≤◌, ◌-◌, ◌+◌}
 use lib.ListN.{length}
 use Rattle.format.proofs.bumps.all_bumps.Given as goal

@@ -1,10 +1,6 @@
-use borrow.Author.Rules.{rules}
-use Prim.Native.Nat.{◌-◌}
 use Rattle.format.proofs.ParseLaws.{answered}
-use Rattle.format.specs.Refusals.{MAX_BUMPS}
-use Rattle.format.proofs.Gather.{Gathering, gather-start, gather-step, gather-refused, gather-done}
-use Rattle.format.specs.Bump.{bump_field, head_of, bump_answer}
-use Rattle.format.specs.BeefAnswer.{no_bump}
+use Rattle.format.proofs.Gather.{gather-start, gather-step, gather-refused, gather-done}
+use Rattle.format.specs.Bump.{bump_answer}
 use Rattle.format.proofs.BeefLaws.{heads_none, heads_kept_lem}
 use Rattle.format.proofs.bumps.gather_bumps.Goals as goal
 

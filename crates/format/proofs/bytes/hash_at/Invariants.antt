@@ -1,10 +1,6 @@
-use borrow.Author.Rules.{rules}
-use native.Mathlib.Omega.{arith}
-use mathlib.Core.Path.{◌≡◌, refl, sym, ◌∙◌}
+use mathlib.Core.Path.{◌≡◌}
 use Prim.Native.Nat.{ℕ, ◌≤◌, ◌<◌, ◌-◌, ◌+◌}
 use lib.ListN.{length, get_or}
-use Rattle.format.proofs.CopyLaws.{copy_more, copy_done}
-use Rattle.format.proofs.BytesLaws.{hash-there, hash-none}
 use Rattle.format.proofs.bytes.hash_at.Given as goal
 
 abbrev pub invariant-loop-i : goal.invariant-loop-i

@@ -1,4 +1,3 @@
-use borrow.Author.Rules.{rules}
 use mathlib.Core.Path.{sym}
 use Rattle.format.specs.Cmp.{cmp_answer}
 use Rattle.format.proofs.ParseLaws.{answered, whole_too_long, whole-refused, whole_extra, whole-read}

@@ -1,4 +1,3 @@
-use borrow.Author.Rules.{rules}
 use borrow.Author.Tests.{le-ltb, lt-ltb}
 use Rattle.format.specs.Field.{byte}
 use Rattle.format.proofs.field.one_byte.Goals as goal

@@ -1,4 +1,3 @@
-use borrow.Author.Rules.{rules}
 use native.Mathlib.Omega.{arith}
 use Rattle.format.specs.FieldAnswer.{run_of}
 use Rattle.format.proofs.ParseLaws.{answered}

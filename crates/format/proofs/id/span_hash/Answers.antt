@@ -1,5 +1,4 @@
 use mathlib.Core.Path.{sym, ap, ◌∙◌}
-use borrow.Author.Rules.{rules}
 use Rattle.hash.specs.declared.Hashed.{Hashed}
 use Rattle.format.proofs.IdLaws.{span_backward, span_outside, span-inside}
 use Rattle.format.proofs.id.span_hash.Goals as goal

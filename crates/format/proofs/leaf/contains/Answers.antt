@@ -1,11 +1,6 @@
 use borrow.Author.Rules.{rules}
-use mathlib.Core.Path.{◌≡◌, refl, sym, ◌∙◌}
-use mathlib.Core.Bool.{◌||◌}
-use Prim.Native.Nat.{◌≤◌, ◌-◌}
-use lib.ListN.{length, drop}
-use Rattle.format.specs.Level.{holds}
+use mathlib.Core.Path.{sym, ◌∙◌}
 use Rattle.format.proofs.SeenLaws.{scan_here, scan_on, scan_end}
-use mathlib.Core.Logic.{⊎_elim}
 use Rattle.format.proofs.leaf.contains.Goals as goal
 use Rattle.format.proofs.leaf.contains.Goals.{else-x-l, then-x-l}
 

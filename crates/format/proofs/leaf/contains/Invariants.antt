@@ -1,11 +1,8 @@
-use borrow.Author.Rules.{rules}
-use mathlib.Core.Path.{◌≡◌, refl, sym, ◌∙◌}
+use mathlib.Core.Path.{◌≡◌}
 use mathlib.Core.Bool.{◌||◌}
 use Prim.Native.Nat.{◌≤◌, ◌-◌}
 use lib.ListN.{length, drop}
 use Rattle.format.specs.Level.{holds}
-use Rattle.format.proofs.SeenLaws.{scan_here, scan_on, scan_end}
-use mathlib.Core.Logic.{⊎_elim}
 use Rattle.format.proofs.leaf.contains.Given as goal
 
 abbrev pub invariant-loop-i : goal.invariant-loop-i

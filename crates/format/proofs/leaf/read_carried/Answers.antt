@@ -1,4 +1,3 @@
-use borrow.Author.Rules.{rules}
 use Rattle.format.specs.Level.{kind_field, carried_field}
 use Rattle.format.proofs.leaf.read_carried.Goals as goal
 

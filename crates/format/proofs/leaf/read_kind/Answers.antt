@@ -1,4 +1,3 @@
-use borrow.Author.Rules.{rules}
 use Rattle.format.specs.Parse.{each}
 use Rattle.format.specs.Level.{kind_field}
 use Rattle.format.proofs.LevelLaws.{kind_refused}

@@ -1,4 +1,3 @@
-use borrow.Author.Rules.{rules}
 use native.Mathlib.Omega.{arith}
 use Rattle.format.specs.Level.{level_of_turn}
 use Rattle.format.proofs.level.level_in_turn.Goals as goal

@@ -1,4 +1,3 @@
-use borrow.Author.Rules.{rules}
 use Rattle.format.proofs.LevelLaws.{powered}
 use Rattle.format.proofs.level.power.Goals as goal
 

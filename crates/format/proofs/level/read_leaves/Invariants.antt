@@ -1,17 +1,9 @@
-use borrow.Author.Rules.{rules}
-use native.Mathlib.Omega.{arith}
-use native.Mathlib.Numerals.{add-one}
-use mathlib.Core.Path.{◌≡◌, refl, sym, ◌∙◌}
-use mathlib.Core.List.{[], ◌∷◌, ◌++◌}
+use mathlib.Core.Path.{◌≡◌}
 use Prim.Native.Nat.{◌≤◌, ◌-◌, ◌+◌}
-use lib.ListN.{length, take, set, length-set}
-use lib.Seq.{length-take-le, take-suc-set}
-use Rattle.format.specs.FieldAnswer.{number_of}
+use lib.ListN.{length, take}
 use Rattle.format.specs.Parse.{each, many}
-use Rattle.format.proofs.ParseLaws.{answered, count-start, count-done}
-use Rattle.format.specs.Level.{holds, leaf_field, leaf_fields, and_offset}
+use Rattle.format.specs.Level.{leaf_field, leaf_fields, and_offset}
 use Rattle.format.specs.Seen.{Slotted}
-use Rattle.format.proofs.SeenLaws.{slotted_more, leaves-step, leaves-refused}
 use Rattle.format.proofs.level.read_leaves.Given as goal
 
 abbrev pub invariant-loop-i : goal.invariant-loop-i

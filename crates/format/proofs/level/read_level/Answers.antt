@@ -1,4 +1,3 @@
-use borrow.Author.Rules.{rules}
 use Rattle.format.specs.Parse.{each}
 use Rattle.format.specs.Level.{level_field}
 use Rattle.format.specs.FieldAnswer.{number_of}

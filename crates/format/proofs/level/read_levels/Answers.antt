@@ -1,14 +1,9 @@
-use borrow.Author.Rules.{rules}
 use native.Mathlib.Omega.{arith}
-use mathlib.Core.Path.{◌≡◌, sym, ◌∙◌}
-use Prim.Native.Nat.{◌≤◌, ◌-◌, ◌*◌}
+use mathlib.Core.Path.{sym, ◌∙◌}
 use lib.ListN.{length}
 use Rattle.format.specs.FieldAnswer.{number_of}
-use Rattle.format.specs.Level.{level_fields, total}
-use Rattle.format.proofs.LevelLaws.{level-few, summing, sum-start, sum_step, sum-refused, sum_done}
-use Rattle.format.specs.Parse.{each}
+use Rattle.format.proofs.LevelLaws.{level-few, sum-start, sum_step, sum-refused, sum_done}
 use Rattle.format.proofs.ParseLaws.{answered, each-fault}
-use Rattle.format.specs.Refusals.{MAX_LEAVES}
 use Rattle.format.proofs.level.read_levels.Goals as goal
 
 pub loop-i-init : goal.loop-i-init

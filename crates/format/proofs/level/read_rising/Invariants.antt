@@ -1,11 +1,8 @@
-use borrow.Author.Rules.{rules}
-use native.Mathlib.Omega.{arith}
-use mathlib.Core.Path.{sym}
 use Prim.Native.Nat.{◌≤◌, ◌-◌, ◌+◌}
 use lib.ListN.{length}
 use Rattle.format.specs.Parse.{each}
 use Rattle.format.specs.Level.{leaf_fields}
-use Rattle.format.proofs.SeenLaws.{above-told, Risen, risen_start, risen_step, risen_done}
+use Rattle.format.proofs.SeenLaws.{Risen}
 use Rattle.format.proofs.level.read_rising.Given as goal
 
 abbrev pub invariant-loop-i : goal.invariant-loop-i

@@ -1,7 +1,4 @@
-use borrow.Author.Rules.{rules}
-use mathlib.Core.Path.{refl}
 use native.Mathlib.Omega.{arith}
-use borrow.Author.Tests.{not-true}
 use Rattle.format.proofs.TransactionLaws.{taken-total, unlimited}
 use mathlib.Core.Path.{ap}
 use mathlib.Core.Bool.{not}

@@ -1,5 +1,3 @@
-use borrow.Author.Rules.{rules}
-use native.Mathlib.Omega.{arith}
 use Rattle.format.proofs.TransactionLaws.{taken-any, taken_over, taken_by}
 use mathlib.Core.Path.{ap}
 use mathlib.Core.Bool.{not}

@@ -1,12 +1,7 @@
-use borrow.Author.Rules.{rules}
 use native.Mathlib.Omega.{arith}
-use mathlib.Core.Path.{◌≡◌, sym, ◌∙◌}
+use mathlib.Core.Path.{sym, ◌∙◌}
 use Rattle.format.specs.TransactionAnswer.{input_answer}
 use Rattle.format.proofs.ParseLaws.{answered, count-start, count-step, count-refused, count-done}
-use Rattle.format.specs.Parse.{times, each}
-use Rattle.format.specs.Transaction.{input_field}
-use Prim.Native.Nat.{◌≤◌, ◌-◌, ◌+◌}
-use lib.ListN.{length}
 use Rattle.format.proofs.transaction.read_inputs.Goals as goal
 
 pub loop-i-init : goal.loop-i-init

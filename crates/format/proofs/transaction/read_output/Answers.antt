@@ -1,6 +1,4 @@
-use borrow.Author.Rules.{rules}
 use mathlib.Core.Path.{sym, ◌∙◌}
-use borrow.Author.Tests.{not-true, not-false}
 use Rattle.format.specs.FieldAnswer.{number_of, run_of}
 use Rattle.format.proofs.ParseLaws.{answered}
 use Rattle.format.specs.Transaction.{output_field}

@@ -1,11 +1,6 @@
-use borrow.Author.Rules.{rules}
-use native.Mathlib.Omega.{arith}
-use mathlib.Core.Path.{◌≡◌, sym, ◌∙◌}
-use Rattle.format.specs.FieldAnswer.{number_of}
-use Rattle.format.proofs.ParseLaws.{answered}
+use mathlib.Core.Path.{◌≡◌}
 use Rattle.format.specs.Parse.{each, many}
 use Rattle.format.specs.Transaction.{takes, output_field, outputs_field}
-use Rattle.format.proofs.TransactionLaws.{output-told, outputs-start, outputs-step, outputs-refused, outputs-done}
 use Prim.Native.Nat.{◌≤◌, ◌-◌, ◌+◌}
 use lib.ListN.{length}
 use Rattle.format.proofs.transaction.read_outputs.Given as goal

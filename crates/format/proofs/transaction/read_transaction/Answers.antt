@@ -1,4 +1,3 @@
-use borrow.Author.Rules.{rules}
 use Rattle.format.proofs.ParseLaws.{whole_too_long, whole-refused, whole_extra, whole-read, answered}
 use Rattle.format.specs.TransactionAnswer.{tx_answer}
 use mathlib.Core.Path.{sym}

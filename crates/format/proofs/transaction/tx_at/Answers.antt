@@ -1,4 +1,3 @@
-use borrow.Author.Rules.{rules}
 use Rattle.format.proofs.transaction.tx_at.Goals as goal
 
 pub returns : goal.returns

@@ -1,7 +1,5 @@
-use borrow.Author.Rules.{rules}
 use mathlib.Core.Path.{sym, ◌∙◌}
 use lib.ListN.{length}
-use borrow.Author.Tests.{not-true, not-false}
 use Rattle.format.specs.FieldAnswer.{number_of}
 use Rattle.format.proofs.ParseLaws.{answered, each-ok, each-fault}
 use Rattle.format.proofs.TscLaws.{nodes_no_count, nodes_outside, nodes-refused, nodes-read}

@@ -1,4 +1,3 @@
-use borrow.Author.Rules.{rules}
 use mathlib.Core.Path.{sym}
 use Rattle.format.specs.FieldAnswer.{run_of}
 use Rattle.format.specs.TransactionAnswer.{tx_answer}

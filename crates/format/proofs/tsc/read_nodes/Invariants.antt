@@ -1,8 +1,4 @@
-use borrow.Author.Rules.{rules}
-use native.Mathlib.Omega.{arith}
-use mathlib.Core.Path.{◌≡◌, sym, ◌∙◌}
-use Rattle.format.specs.LevelAnswer.{kind_of}
-use Rattle.format.proofs.ParseLaws.{answered, count-start, count-step, count-refused, count-done}
+use mathlib.Core.Path.{◌≡◌}
 use Rattle.format.specs.Parse.{times, each}
 use Rattle.format.specs.Node.{node_field}
 use Prim.Native.Nat.{◌≤◌, ◌-◌, ◌+◌}

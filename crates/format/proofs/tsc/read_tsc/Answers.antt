@@ -1,4 +1,3 @@
-use borrow.Author.Rules.{rules}
 use mathlib.Core.Path.{sym}
 use Rattle.format.proofs.ParseLaws.{whole_too_long, whole-refused, whole_extra, whole-read, answered}
 use Rattle.format.specs.TscAnswer.{tsc_answer}

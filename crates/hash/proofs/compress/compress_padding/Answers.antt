@@ -1,5 +1,5 @@
 -- Four times sixteen rounds, by known sums.
-use Rattle.std.proofs.Common.{◌∙◌, rules}
+use Rattle.std.proofs.Common.{◌∙◌}
 use Rattle.hash.proofs.Known.{known, padding-rounds}
 use Rattle.hash.proofs.Stages.{window}
 use Rattle.hash.proofs.compress.compress_padding.Goals as goal

@@ -1,5 +1,4 @@
 use Rattle.hash.specs.Sha256.{◌⊞◌}
-use Rattle.std.proofs.Common.{rules}
 use Rattle.hash.proofs.compress.next_word.Goals as goal
 
 pub returns : goal.returns

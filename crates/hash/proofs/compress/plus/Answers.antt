@@ -1,5 +1,4 @@
 use Rattle.hash.specs.Sha256.{plus, ◌⊞◌}
-use Rattle.std.proofs.Common.{rules}
 use Rattle.hash.proofs.compress.plus.Goals as goal
 
 pub returns : goal.returns

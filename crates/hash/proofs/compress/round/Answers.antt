@@ -1,5 +1,4 @@
 use Rattle.hash.specs.Sha256.{round, T1, T2, ◌⊞◌}
-use Rattle.std.proofs.Common.{rules}
 use Rattle.hash.proofs.compress.round.Goals as goal
 
 pub returns : goal.returns

@@ -1,5 +1,4 @@
-use Rattle.std.proofs.Common.{◌≡◌, ◌-◌, ◌≤◌, refl, ◌∙◌, add-one, arith, rules}
-use Rattle.hash.specs.Parts.{rounds_by}
+use Rattle.std.proofs.Common.{◌≡◌, add-one, arith}
 use Rattle.hash.proofs.Stages.{no_round, one-round}
 use Rattle.hash.proofs.compress.rounds.Goals as goal
 

@@ -1,5 +1,5 @@
 -- After t turns the working variables are those of t rounds.
-use Rattle.std.proofs.Common.{◌≡◌, ◌-◌, ◌≤◌, refl, ◌∙◌, add-one, arith, rules}
+use Rattle.std.proofs.Common.{◌≡◌, ◌≤◌}
 use Rattle.hash.specs.Parts.{rounds_by}
 use Rattle.hash.proofs.compress.rounds.Given as goal
 

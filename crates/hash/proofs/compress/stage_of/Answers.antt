@@ -1,4 +1,3 @@
-use Rattle.std.proofs.Common.{rules}
 use Rattle.hash.specs.Parts.{stage}
 use Rattle.hash.proofs.compress.stage_of.Goals as goal
 

@@ -1,6 +1,5 @@
-use Rattle.std.proofs.Common.{◌≡◌, ◌-◌, ◌≤◌, length, take, refl, arith, length-set, rules}
+use Rattle.std.proofs.Common.{arith, length-set}
 use Rattle.hash.specs.Sha256.{◌⊞◌}
-use Rattle.hash.specs.Parts.{sums}
 use Rattle.hash.proofs.Stages.{sums-step, sums-done}
 use Rattle.hash.proofs.compress.sums.Goals as goal
 

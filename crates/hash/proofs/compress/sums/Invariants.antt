@@ -1,6 +1,5 @@
 -- The first t sums are right.
-use Rattle.std.proofs.Common.{◌≡◌, ◌-◌, ◌≤◌, length, take, refl, arith, length-set, rules}
-use Rattle.hash.specs.Sha256.{◌⊞◌}
+use Rattle.std.proofs.Common.{◌≡◌, ◌≤◌, length, take}
 use Rattle.hash.specs.Parts.{sums}
 use Rattle.hash.proofs.compress.sums.Given as goal
 

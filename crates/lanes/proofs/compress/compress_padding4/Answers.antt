@@ -1,5 +1,5 @@
 -- Four times sixteen rounds, by known sums.
-use Rattle.std.proofs.Common.{replicate, ◌∙◌, rules}
+use Rattle.std.proofs.Common.{replicate, ◌∙◌}
 use Rattle.hash.proofs.Known.{known}
 use Rattle.hash.proofs.Stages.{window}
 use Rattle.lanes.specs.Lanes.{lane, lanes}

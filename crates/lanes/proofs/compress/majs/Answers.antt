@@ -1,5 +1,4 @@
 use Rattle.lanes.specs.Lanes.{lanewise3}
-use Rattle.std.proofs.Common.{rules}
 use Rattle.lanes.proofs.compress.majs.Goals as goal
 
 pub returns : goal.returns

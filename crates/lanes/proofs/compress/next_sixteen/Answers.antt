@@ -1,6 +1,6 @@
-use Rattle.std.proofs.Common.{◌≡◌, ◌+◌, ◌-◌, ◌≤◌, length, arith, length-set, rules}
+use Rattle.std.proofs.Common.{◌≡◌, ◌+◌, ◌-◌, length, arith, length-set, rules}
 use Rattle.lanes.specs.Lanes.{all}
-use Rattle.lanes.proofs.SideBySide.{Going, going_on, going_all}
+use Rattle.lanes.proofs.SideBySide.{going_on, going_all}
 use Rattle.lanes.proofs.compress.next_sixteen.Goals as goal
 
 pub loop-t-init : goal.loop-t-init

@@ -1,7 +1,6 @@
 -- Each word in turn takes the place of the one sixteen before it.
-use Rattle.std.proofs.Common.{◌≡◌, ◌+◌, ◌-◌, ◌≤◌, length, arith, length-set, rules}
-use Rattle.lanes.specs.Lanes.{all}
-use Rattle.lanes.proofs.SideBySide.{Going, going_on, going_all}
+use Rattle.std.proofs.Common.{◌≡◌, ◌-◌, ◌≤◌, length}
+use Rattle.lanes.proofs.SideBySide.{Going}
 use Rattle.lanes.proofs.compress.next_sixteen.Given as goal
 
 abbrev pub invariant-loop-t : goal.invariant-loop-t

@@ -1,5 +1,4 @@
 use Rattle.lanes.proofs.SideBySide.{word_in-lanewise, word_in-lanewise2}
-use Rattle.std.proofs.Common.{rules}
 use Rattle.lanes.proofs.compress.next_words.Goals as goal
 
 pub returns : goal.returns

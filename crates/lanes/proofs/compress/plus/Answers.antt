@@ -1,6 +1,5 @@
 use Rattle.hash.specs.Sha256.{◌⊞◌}
 use Rattle.lanes.specs.Lanes.{lanewise2}
-use Rattle.std.proofs.Common.{rules}
 use Rattle.lanes.proofs.compress.plus.Goals as goal
 
 pub returns : goal.returns

@@ -1,7 +1,6 @@
 use Rattle.hash.specs.Sha256.{round, T1, T2}
 use Rattle.lanes.specs.Lanes.{lane, value}
 use Rattle.lanes.proofs.SideBySide.{word_in-lanewise, word_in-lanewise2, word_in-lanewise3, plus_none}
-use Rattle.std.proofs.Common.{rules}
 use Rattle.lanes.proofs.compress.round.Goals as goal
 
 pub returns : goal.returns

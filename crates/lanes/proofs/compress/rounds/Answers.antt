@@ -1,6 +1,6 @@
-use Rattle.std.proofs.Common.{◌≡◌, ℕ, ◌-◌, ◌≤◌, length, refl, arith, rules}
-use Rattle.hash.specs.Parts.{rounds_by, sums}
-use Rattle.lanes.specs.Lanes.{lane, lanes, all, word_in}
+use Rattle.std.proofs.Common.{◌≡◌, length, refl, arith, rules}
+use Rattle.hash.specs.Parts.{rounds_by}
+use Rattle.lanes.specs.Lanes.{lane, all, word_in}
 use Rattle.lanes.proofs.SideBySide.{word_in-sum, round_on}
 use Rattle.lanes.proofs.compress.rounds.Goals as goal
 

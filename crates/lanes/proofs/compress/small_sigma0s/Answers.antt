@@ -1,5 +1,4 @@
 use Rattle.lanes.specs.Lanes.{lanewise}
-use Rattle.std.proofs.Common.{rules}
 use Rattle.lanes.proofs.compress.small_sigma0s.Goals as goal
 
 pub returns : goal.returns

@@ -1,7 +1,6 @@
 use Rattle.hash.specs.Sha256.{plus}
 use Rattle.lanes.specs.Lanes.{lane, value}
 use Rattle.lanes.proofs.SideBySide.{word_in-lanewise2}
-use Rattle.std.proofs.Common.{rules}
 use Rattle.lanes.proofs.compress.sum.Goals as goal
 
 pub returns : goal.returns

@@ -1,5 +1,4 @@
 use Rattle.lanes.proofs.Turns.{lane-before-end}
-use Rattle.std.proofs.Common.{rules}
 use Rattle.lanes.proofs.messages.before_end.Goals as goal
 
 pub returns : goal.returns

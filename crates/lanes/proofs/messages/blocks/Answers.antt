@@ -1,5 +1,5 @@
 -- Blocks that lie within all messages, or blocks of any kind.
-use Rattle.std.proofs.Common.{◌≡◌, ℕ, ◌*◌, List, ◌∙◌, arith, rules}
+use Rattle.std.proofs.Common.{◌≡◌, ℕ, ◌*◌, List, ◌∙◌, arith}
 use Rattle.hash.specs.Sha256.{words}
 use Rattle.hash.specs.Parts.{block_of}
 use Rattle.lanes.proofs.SideBySide.{lane-all, lane-map}

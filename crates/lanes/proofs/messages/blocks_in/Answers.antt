@@ -1,4 +1,4 @@
-use Rattle.std.proofs.Common.{◌≡◌, ℕ, ◌-◌, ◌≤◌, length, take, refl, ◌∙◌, arith, length-set, rules}
+use Rattle.std.proofs.Common.{refl, ◌∙◌, arith, length-set}
 use Rattle.hash.specs.Sha256.{words}
 use Rattle.hash.proofs.Words.{words-done}
 use Rattle.lanes.specs.Lanes.{lanes, in_lane}

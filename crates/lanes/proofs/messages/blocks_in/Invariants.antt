@@ -1,9 +1,7 @@
 -- After t turns each lane has the first t words of its block.
-use Rattle.std.proofs.Common.{◌≡◌, ℕ, ◌-◌, ◌≤◌, length, take, refl, ◌∙◌, arith, length-set, rules}
+use Rattle.std.proofs.Common.{◌≡◌, ℕ, ◌≤◌, length, take}
 use Rattle.hash.specs.Sha256.{words}
-use Rattle.hash.proofs.Words.{words-done}
 use Rattle.lanes.specs.Lanes.{lanes, in_lane}
-use Rattle.lanes.proofs.SideBySide.{words_on, lanes-length}
 use Rattle.lanes.proofs.messages.blocks_in.Given as goal
 
 abbrev pub invariant-loop-t : goal.invariant-loop-t

@@ -1,5 +1,4 @@
 use Rattle.lanes.proofs.Turns.{word_in-before-end}
-use Rattle.std.proofs.Common.{rules}
 use Rattle.lanes.proofs.messages.chosen4.Goals as goal
 
 pub returns : goal.returns

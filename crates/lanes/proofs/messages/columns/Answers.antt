@@ -1,4 +1,4 @@
-use Rattle.std.proofs.Common.{◌≡◌, ℕ, ◌-◌, ◌≤◌, length, take, refl, arith, length-set, rules}
+use Rattle.std.proofs.Common.{◌≡◌, length, refl, arith, length-set, rules}
 use Rattle.lanes.specs.Lanes.{lanes, in_lane}
 use Rattle.lanes.proofs.Turns.{column_on, columns-done}
 use Rattle.lanes.proofs.messages.columns.Goals as goal

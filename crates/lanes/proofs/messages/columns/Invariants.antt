@@ -1,7 +1,6 @@
 -- After t turns each lane has the first t words of its block.
-use Rattle.std.proofs.Common.{◌≡◌, ℕ, ◌-◌, ◌≤◌, length, take, refl, arith, length-set, rules}
+use Rattle.std.proofs.Common.{◌≡◌, ℕ, ◌≤◌, length, take}
 use Rattle.lanes.specs.Lanes.{lanes, in_lane}
-use Rattle.lanes.proofs.Turns.{column_on, columns-done}
 use Rattle.lanes.proofs.messages.columns.Given as goal
 
 abbrev pub invariant-loop-t : goal.invariant-loop-t

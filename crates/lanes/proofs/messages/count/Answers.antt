@@ -1,4 +1,4 @@
-use Rattle.std.proofs.Common.{refl, rules}
+use Rattle.std.proofs.Common.{refl}
 use Rattle.hash.specs.Parts.{blocks}
 use Rattle.lanes.proofs.messages.count.Goals as goal
 

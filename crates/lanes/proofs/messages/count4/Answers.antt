@@ -1,7 +1,6 @@
 use Rattle.hash.specs.Parts.{blocks}
 use Rattle.lanes.specs.Lanes.{count}
 use Rattle.lanes.proofs.SideBySide.{lane-map}
-use Rattle.std.proofs.Common.{rules}
 use Rattle.lanes.proofs.messages.count4.Goals as goal
 
 pub returns : goal.returns

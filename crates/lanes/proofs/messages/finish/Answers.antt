@@ -1,6 +1,4 @@
-use Rattle.std.proofs.Common.{◌≡◌, ◌-◌, ◌∙◌, arith, rules}
-use Rattle.hash.specs.Parts.{blocks}
-use Rattle.lanes.specs.Lanes.{after}
+use Rattle.std.proofs.Common.{◌∙◌, arith}
 use Rattle.lanes.proofs.Turns.{after_more, after-done}
 use Rattle.lanes.proofs.messages.finish.Goals as goal
 

@@ -1,8 +1,6 @@
 -- After each turn the hash value is that of i blocks, or of all.
-use Rattle.std.proofs.Common.{◌≡◌, ◌-◌, ◌∙◌, arith, rules}
-use Rattle.hash.specs.Parts.{blocks}
+use Rattle.std.proofs.Common.{◌≡◌}
 use Rattle.lanes.specs.Lanes.{after}
-use Rattle.lanes.proofs.Turns.{after_more, after-done}
 use Rattle.lanes.proofs.messages.finish.Given as goal
 
 abbrev pub invariant-loop-i : goal.invariant-loop-i

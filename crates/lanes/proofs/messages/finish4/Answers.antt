@@ -1,4 +1,4 @@
-use Rattle.std.proofs.Common.{◌∙◌, rules}
+use Rattle.std.proofs.Common.{◌∙◌}
 use Rattle.hash.specs.Sha256.{hash_value}
 use Rattle.lanes.specs.Lanes.{lane, word_in, in_lane}
 use Rattle.lanes.proofs.SideBySide.{lane-map}

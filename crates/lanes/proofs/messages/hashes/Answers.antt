@@ -1,5 +1,5 @@
 -- A lane's message, and then its digest.
-use Rattle.std.proofs.Common.{◌∙◌, rules}
+use Rattle.std.proofs.Common.{◌∙◌}
 use Rattle.lanes.specs.Lanes.{in_lane, lane}
 use Rattle.lanes.proofs.Turns.{hashed-twice}
 use Rattle.lanes.proofs.messages.hashes.Goals as goal

@@ -1,4 +1,4 @@
-use Rattle.std.proofs.Common.{arith, rules}
+use Rattle.std.proofs.Common.{arith}
 use Rattle.lanes.proofs.Turns.{all-before-end}
 use Rattle.lanes.specs.Lanes.{lane}
 use Rattle.lanes.proofs.messages.kept_where_done.Goals as goal

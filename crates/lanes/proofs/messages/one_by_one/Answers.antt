@@ -1,5 +1,4 @@
 use Rattle.lanes.proofs.Turns.{one_by_one}
-use Rattle.std.proofs.Common.{rules}
 use Rattle.lanes.proofs.messages.one_by_one.Goals as goal
 
 pub returns : goal.returns

@@ -1,4 +1,4 @@
-use Rattle.std.proofs.Common.{length, ◌∙◌, rules}
+use Rattle.std.proofs.Common.{length, ◌∙◌}
 use Rattle.hash.specs.Sha256.{MAX_INPUT}
 use Rattle.lanes.proofs.Turns.{four_fit, lane-accepted}
 use Rattle.lanes.proofs.messages.sha256d4.Goals as goal

@@ -1,6 +1,6 @@
-use Rattle.std.proofs.Common.{◌≡◌, ℕ, ◌-◌, ◌^◌, ◌<◌, ◌≤◌, List, length, ◌∙◌, arith, rules}
+use Rattle.std.proofs.Common.{◌≡◌, ℕ, ◌^◌, ◌<◌, ◌≤◌, List, length, ◌∙◌, arith, rules}
 use Rattle.hash.specs.Sha256.{MAX_INPUT}
-use Rattle.lanes.specs.Lanes.{lane, in_lane, after}
+use Rattle.lanes.specs.Lanes.{in_lane}
 use Rattle.lanes.proofs.SideBySide.{lane-all}
 use Rattle.lanes.proofs.Turns.{after_none, after_on}
 use Rattle.lanes.proofs.messages.together.Goals as goal

@@ -1,5 +1,4 @@
 use Rattle.lanes.proofs.Turns.{lane-values}
-use Rattle.std.proofs.Common.{rules}
 use Rattle.lanes.proofs.messages.values.Goals as goal
 
 pub returns : goal.returns

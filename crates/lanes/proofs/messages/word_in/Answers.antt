@@ -1,5 +1,4 @@
 use Rattle.hash.specs.Sha256.{word}
-use Rattle.std.proofs.Common.{rules}
 use Rattle.lanes.proofs.messages.word_in.Goals as goal
 
 pub returns : goal.returns

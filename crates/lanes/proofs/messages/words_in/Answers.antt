@@ -1,4 +1,4 @@
-use Rattle.std.proofs.Common.{ℕ, List, rules}
+use Rattle.std.proofs.Common.{ℕ, List}
 use Rattle.hash.specs.Sha256.{word}
 use Rattle.lanes.specs.Lanes.{word_in}
 use Rattle.lanes.proofs.SideBySide.{lane-map}

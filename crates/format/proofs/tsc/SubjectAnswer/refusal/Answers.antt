@@ -1,4 +1,3 @@
-use borrow.Author.Rules.{rules}
 use Rattle.format.proofs.tsc.SubjectAnswer.refusal.Goals as goal
 
 pub returns-in-Value : goal.returns-in-Value
