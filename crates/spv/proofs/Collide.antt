@@ -1,5 +1,5 @@
 -- Demand 3 for any two readings whose hashes have 32 bytes, and any hash of 32 bytes: accepted climbs of different ids to one root collide.
-use Prim.Native.Nat.{ℕ, zero, suc, ◌+◌, ◌/◌, ◌<◌, suc-le-suc}
+use Prim.Native.Nat.{ℕ, zero, suc, ◌/◌, ◌<◌, suc-le-suc}
 use native.Mathlib.Nat.{suc_inj, suc-ne-zero, not-suc-le-zero, zero-lt-suc, le_of_suc-le-suc}
 use mathlib.Core.Path.{◌≡◌, refl, sym, ap, ◌∙◌, subst}
 use mathlib.Core.Bool.{Bool, true, false}

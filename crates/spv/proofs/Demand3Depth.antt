@@ -20,7 +20,7 @@ use Rattle.format.specs.Refusals.{UNLIKE}
 use Rattle.format.specs.Transaction.{Transaction, tx_whole}
 use Rattle.format.proofs.TransactionLaws.{tx_whole-size}
 use Rattle.spv.specs.Result.{Result, accepted, refused, carrying, after_reading}
-use Rattle.spv.specs.Compare.{meets, CollisionBy}
+use Rattle.spv.specs.Compare.{CollisionBy}
 use Rattle.spv.proofs.Collide.{Linked, WholeReading, collide, linked_long, prove_sound}
 use Rattle.spv.specs.Readings.{reading}
 use Rattle.spv.proofs.Demand3.{reading-whole}

@@ -25,7 +25,7 @@ use Rattle.spv.proofs.PositionFitsLaws.{low-start, low_half}
 use Rattle.spv.specs.Siblings.{path_siblings}
 use Rattle.spv.specs.Shapes.{proved_of, joined_of, is_joins, meeting_of, claimed, claim_proof}
 use Rattle.spv.proofs.ShapesLaws.{is-joins, told-joins, told-met, told-never, told-accepted, claimed-proved}
-use Rattle.spv.specs.Depth.{halved, deeper, Pair, transaction, strings, pair_of, lowest_by, lowest, matched, against_deeper_by, against_deeper, uneven_by, uneven, depth_by, depth, depth_of}
+use Rattle.spv.specs.Depth.{halved, deeper, Pair, pair_of, lowest_by, lowest, matched, against_deeper_by, against_deeper, uneven_by, uneven, depth_by, depth, depth_of}
 use Rattle.spv.proofs.Demand3Depth.{halved_last}
 use Rattle.spv.specs.declared.prove.Claim.{Claim}
 use Rattle.spv.specs.declared.prove.Outcome.TheVariants.{Accepted}

@@ -1,6 +1,6 @@
 -- Demand 3 is not idle. Nobody knows two strings of one double SHA-256, so no example of its pair can be written down for it; the climb and the comparing
 -- take any hash of 32 bytes, and by one that keeps only the first half of what it is given, two proofs of different ids do come to one root.
-use Prim.Native.Nat.{ℕ, ◌+◌}
+use Prim.Native.Nat.{ℕ}
 use mathlib.Core.Path.{◌≡◌, refl, ap, ap₂}
 use mathlib.Core.List.{List, [], ◌∷◌, ◌++◌}
 use native.Mathlib.Omega.{arith}

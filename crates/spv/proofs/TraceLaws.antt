@@ -1,7 +1,7 @@
 -- Laws of a proof with the siblings of its climb.
 use Prim.Native.Nat.{ℕ, ◌≤◌, min}
 use mathlib.Core.Path.{◌≡◌, refl, ap, ap₂, ◌∙◌}
-use mathlib.Core.List.{List, [], ◌∷◌, ◌++◌, map}
+use mathlib.Core.List.{List, [], ◌∷◌, ◌++◌}
 use lib.ListN.{length, replicate, take, drop, length-replicate}
 use lib.Seq.{take_all, take_at}
 use native.Mathlib.Omega.{arith}

@@ -1,10 +1,10 @@
 -- What the loop that climbs and writes has shown at its head: what is left to write from here comes to what was asked for at the start. Assumes nothing.
 use Prim.Native.Nat.{ℕ, ◌+◌, ◌-◌, ◌/◌, ◌≤◌, ◌<◌}
 use native.Mathlib.Nat.{sub-zero}
-use mathlib.Core.Path.{◌≡◌, refl, ap, ◌∙◌, sym}
-use mathlib.Core.List.{List, [], ◌∷◌, ◌++◌}
+use mathlib.Core.Path.{◌≡◌, ap, ◌∙◌, sym}
+use mathlib.Core.List.{List, ◌++◌}
 use Rattle.hash.specs.Sha256.{sha256d}
-use Rattle.encoding.specs.Buffer.{Buffer, buffer, write_on}
+use Rattle.encoding.specs.Buffer.{Buffer, write_on}
 use Rattle.encoding.proofs.BufferLaws.{write-none, write_then}
 use Rattle.encoding.specs.BumpBytes.{carried_bytes}
 use Rattle.spv.specs.Climb.{Siblings, Ascent, joins, fails, step, odd, sibling_position, ascend, siblings_of}

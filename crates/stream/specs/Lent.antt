@@ -1,5 +1,5 @@
 -- The state that the caller lends, and what the calls answer.
-use Rattle.std.specs.Prelude.{◌≡◌, length, replicate}
+use Rattle.std.specs.Prelude.{◌≡◌, replicate}
 use Rattle.stream.specs.declared.progress.Progress.{Progress}
 use Rattle.stream.specs.declared.progress.Fed.{Fed}
 use Rattle.stream.specs.declared.hashing.Hashing.{Hashing}

@@ -1,6 +1,5 @@
 use mathlib.Core.Path.{sym}
 use Rattle.encoding.proofs.BufferLaws.{put_stored, put_dropped}
-use borrow.Author.Rules.{rules}
 use Rattle.encoding.proofs.buffer.put.Goals as goal
 
 pub returns-then-at-out : goal.returns-then-at-out

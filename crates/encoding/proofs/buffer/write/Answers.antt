@@ -1,9 +1,5 @@
-use mathlib.Core.Path.{◌≡◌, refl, sym, ◌∙◌}
-use Prim.Native.Nat.{◌≤◌, ◌-◌}
+use mathlib.Core.Path.{sym, ◌∙◌}
 use native.Mathlib.Omega.{arith}
-use borrow.Author.Rules.{rules}
-use lib.ListN.{length, drop}
-use Rattle.encoding.specs.Buffer.{buffer, write_on}
 use Rattle.encoding.proofs.BufferLaws.{write_on_lem, write-end}
 use Rattle.encoding.proofs.buffer.write.Goals as goal
 

@@ -1,10 +1,7 @@
-use mathlib.Core.Path.{◌≡◌, refl, sym, ◌∙◌}
+use mathlib.Core.Path.{◌≡◌}
 use Prim.Native.Nat.{◌≤◌, ◌-◌}
-use native.Mathlib.Omega.{arith}
-use borrow.Author.Rules.{rules}
 use lib.ListN.{length, drop}
 use Rattle.encoding.specs.Buffer.{buffer, write_on}
-use Rattle.encoding.proofs.BufferLaws.{write_on_lem, write-end}
 use Rattle.encoding.proofs.buffer.write.Given as goal
 
 abbrev pub invariant-loop-i : goal.invariant-loop-i

@@ -1,11 +1,6 @@
-use mathlib.Core.Path.{◌≡◌, refl, sym, ◌∙◌}
-use Prim.Native.Nat.{◌≤◌, ◌-◌}
+use mathlib.Core.Path.{refl, sym, ◌∙◌}
 use native.Mathlib.Omega.{arith}
-use borrow.Author.Rules.{rules}
-use lib.ListN.{length}
-use Rattle.encoding.specs.Buffer.{buffer, write_on}
 use Rattle.encoding.proofs.BufferLaws.{little-start, little_on, little-end}
-use Rattle.encoding.specs.Digits.{little}
 use Rattle.encoding.proofs.buffer.write_little.Goals as goal
 
 pub loop-i-init : goal.loop-i-init

@@ -1,10 +1,7 @@
-use mathlib.Core.Path.{◌≡◌, refl, sym, ◌∙◌}
+use mathlib.Core.Path.{◌≡◌}
 use Prim.Native.Nat.{◌≤◌, ◌-◌}
-use native.Mathlib.Omega.{arith}
-use borrow.Author.Rules.{rules}
 use lib.ListN.{length}
 use Rattle.encoding.specs.Buffer.{buffer, write_on}
-use Rattle.encoding.proofs.BufferLaws.{little-start, little_on, little-end}
 use Rattle.encoding.specs.Digits.{little}
 use Rattle.encoding.proofs.buffer.write_little.Given as goal
 

@@ -1,7 +1,6 @@
 use native.Mathlib.Omega.{arith}
 use Rattle.encoding.proofs.BufferLaws.{wrote_byte, wrote_cons}
 use Rattle.encoding.proofs.VarintEncoding.{varint-one, varint-two, varint-four, varint-eight}
-use borrow.Author.Rules.{rules}
 use Rattle.encoding.proofs.buffer.write_varint.Goals as goal
 
 pub returns-then-n-lt253 : goal.returns-then-n-lt253

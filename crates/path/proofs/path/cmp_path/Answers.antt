@@ -1,4 +1,3 @@
-use borrow.Author.Rules.{rules}
 use native.Mathlib.Omega.{arith}
 use Rattle.path.specs.Path.{cmp_path_of}
 use Rattle.path.proofs.path.cmp_path.Goals as goal

@@ -1,4 +1,3 @@
-use borrow.Author.Rules.{rules}
 use mathlib.Core.Path.{◌∙◌}
 use Rattle.path.specs.Path.{start_at_place, start_in}
 use Rattle.path.proofs.path.find_id.Goals as goal

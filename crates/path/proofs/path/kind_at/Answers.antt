@@ -1,4 +1,3 @@
-use borrow.Author.Rules.{rules}
 use Rattle.path.specs.LeafAnswer.{leaf_of}
 use Rattle.format.proofs.ParseLaws.{answered}
 use Rattle.path.proofs.path.kind_at.Goals as goal

@@ -1,13 +1,10 @@
-use borrow.Author.Rules.{rules}
 use native.Mathlib.Omega.{arith}
-use mathlib.Core.Path.{◌≡◌, refl, sym, ◌∙◌}
-use Prim.Native.Nat.{◌≤◌, ◌-◌}
+use mathlib.Core.Path.{refl, sym, ◌∙◌}
 use native.Mathlib.Nat.{sub-zero}
 use lib.ListN.{length, length-set}
 use Rattle.format.specs.FieldAnswer.{number_of}
 use Rattle.format.proofs.LevelLaws.{turn_below}
 use Rattle.format.proofs.ParseLaws.{answered, each-ok, each-fault}
-use Rattle.path.specs.Path.{placing, places}
 use Rattle.path.proofs.PathLaws.{placing-end, placing-stop, placing_on}
 use Rattle.path.proofs.path.level_places.Goals as goal
 

@@ -1,4 +1,3 @@
-use borrow.Author.Rules.{rules}
 use Rattle.format.specs.LevelAnswer.{kind_of}
 use Rattle.format.proofs.ParseLaws.{answered}
 use Rattle.path.specs.TscPath.{node_place_field}

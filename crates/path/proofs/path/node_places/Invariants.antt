@@ -1,11 +1,6 @@
-use borrow.Author.Rules.{rules}
-use mathlib.Core.Path.{◌∙◌}
 use Prim.Native.Nat.{ℕ, ◌-◌}
-use Rattle.format.specs.FieldAnswer.{run_of}
-use Rattle.format.proofs.ParseLaws.{answered}
-use Rattle.format.proofs.Gather.{Gathering, gather-start, gather-step, gather-refused, gather-done, each_same}
+use Rattle.format.proofs.Gather.{Gathering}
 use Rattle.path.specs.TscPath.{node_place_field}
-use Rattle.path.proofs.TscPathLaws.{places-kept, places-refused}
 use Rattle.path.proofs.path.node_places.Given as goal
 
 abbrev pub invariant-loop-i : goal.invariant-loop-i

@@ -1,12 +1,7 @@
-use borrow.Author.Rules.{rules}
-use native.Mathlib.Omega.{arith}
-use native.Mathlib.Nat.{sub-zero}
-use mathlib.Core.Path.{◌≡◌, sym, ◌∙◌}
+use mathlib.Core.Path.{◌≡◌}
 use Prim.Native.Nat.{◌≤◌, ◌-◌}
 use Rattle.path.specs.declared.path.Start.{Start}
 use Rattle.path.specs.Search.{seek_id}
-use Rattle.path.proofs.SearchLaws.{least-end, least-stop}
-use Rattle.path.proofs.StepLaws.{tells_as, least-hash, least_other, least-copy}
 use Rattle.path.proofs.path.seek_id.Given as goal
 
 abbrev pub invariant-loop-i : goal.invariant-loop-i

@@ -1,9 +1,6 @@
-use borrow.Author.Rules.{rules}
 use native.Mathlib.Omega.{arith}
 use native.Mathlib.Nat.{sub-zero}
-use mathlib.Core.Path.{◌≡◌, sym, ◌∙◌}
-use Prim.Native.Nat.{◌≤◌, ◌-◌}
-use Rattle.path.specs.Search.{seek}
+use mathlib.Core.Path.{sym, ◌∙◌}
 use Rattle.path.proofs.SearchLaws.{seek-end, seek_stop, seek-here, seek_on}
 use Rattle.path.proofs.StepLaws.{tells_as}
 use Rattle.path.proofs.path.seek_leaf.Goals as goal

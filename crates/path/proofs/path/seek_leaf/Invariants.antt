@@ -1,11 +1,6 @@
-use borrow.Author.Rules.{rules}
-use native.Mathlib.Omega.{arith}
-use native.Mathlib.Nat.{sub-zero}
-use mathlib.Core.Path.{◌≡◌, sym, ◌∙◌}
+use mathlib.Core.Path.{◌≡◌}
 use Prim.Native.Nat.{◌≤◌, ◌-◌}
 use Rattle.path.specs.Search.{seek}
-use Rattle.path.proofs.SearchLaws.{seek-end, seek_stop, seek-here, seek_on}
-use Rattle.path.proofs.StepLaws.{tells_as}
 use Rattle.path.proofs.path.seek_leaf.Given as goal
 
 abbrev pub invariant-loop-i : goal.invariant-loop-i

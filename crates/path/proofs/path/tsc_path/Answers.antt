@@ -1,4 +1,3 @@
-use borrow.Author.Rules.{rules}
 use native.Mathlib.Omega.{arith}
 use Rattle.path.specs.TscPath.{tsc_path_of}
 use Rattle.path.proofs.path.tsc_path.Goals as goal

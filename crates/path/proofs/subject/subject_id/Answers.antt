@@ -1,5 +1,4 @@
 use mathlib.Core.Path.{sym, ap, ◌∙◌}
-use borrow.Author.Rules.{rules}
 use Rattle.path.specs.Subject.{subject_hash}
 use Rattle.path.proofs.subject.subject_id.Goals as goal
 

@@ -1,11 +1,6 @@
-use borrow.Author.Rules.{rules}
 use native.Mathlib.Omega.{arith}
-use mathlib.Core.Path.{◌≡◌, sym, ◌∙◌}
-use Prim.Native.Nat.{◌≤◌, ◌-◌, ◌+◌}
-use lib.ListN.{length}
-use Rattle.format.specs.Parse.{each, times}
+use mathlib.Core.Path.{sym, ◌∙◌}
 use Rattle.format.proofs.ParseLaws.{count-start, count-step, count-refused, count-done}
-use Rattle.path.specs.Unchecked.{unchecked_leaf}
 use Rattle.path.proofs.StepLaws.{tells_as}
 use Rattle.path.proofs.walk.skip_leaves.Goals as goal
 

@@ -1,12 +1,8 @@
-use borrow.Author.Rules.{rules}
-use native.Mathlib.Omega.{arith}
-use mathlib.Core.Path.{◌≡◌, sym, ◌∙◌}
+use mathlib.Core.Path.{◌≡◌}
 use Prim.Native.Nat.{◌≤◌, ◌-◌, ◌+◌}
 use lib.ListN.{length}
 use Rattle.format.specs.Parse.{each, times}
-use Rattle.format.proofs.ParseLaws.{count-start, count-step, count-refused, count-done}
 use Rattle.path.specs.Unchecked.{unchecked_leaf}
-use Rattle.path.proofs.StepLaws.{tells_as}
 use Rattle.path.proofs.walk.skip_leaves.Given as goal
 
 abbrev pub invariant-loop-i : goal.invariant-loop-i

@@ -1,4 +1,3 @@
-use borrow.Author.Rules.{rules}
 use Rattle.format.specs.FieldAnswer.{run_of}
 use Rattle.format.proofs.ParseLaws.{answered}
 use Rattle.path.proofs.StepLaws.{step-copy, step_short, step-hash}

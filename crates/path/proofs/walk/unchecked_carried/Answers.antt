@@ -1,4 +1,3 @@
-use borrow.Author.Rules.{rules}
 use Rattle.format.specs.Level.{kind_field}
 use Rattle.path.specs.Unchecked.{unchecked_carried}
 use Rattle.path.proofs.walk.unchecked_carried.Goals as goal

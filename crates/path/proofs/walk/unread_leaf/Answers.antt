@@ -1,4 +1,3 @@
-use borrow.Author.Rules.{rules}
 use mathlib.Core.Path.{ap, ◌∙◌}
 use Rattle.format.specs.declared.field.Number.{Number}
 use Rattle.path.proofs.StepLaws.{refusal-read}

@@ -1,11 +1,7 @@
-use borrow.Author.Rules.{rules}
 use Prim.Native.Nat.{◌-◌}
-use native.Mathlib.Omega.{arith}
 use Rattle.spv.specs.PositionFits.{PositionFits}
-use Rattle.spv.proofs.PositionFitsLaws.{low-start, low_half}
 use Rattle.spv.specs.Siblings.{path_siblings}
-use Rattle.spv.proofs.ShapesLaws.{told-joins, told-fails}
-use Rattle.spv.proofs.Turns.{Climbing, climbing_start, climbing_end, climbing_up, climbing_stop}
+use Rattle.spv.proofs.Turns.{Climbing}
 use Rattle.spv.proofs.climb.climb_layers.Given as goal
 
 abbrev pub invariant-loop-k : goal.invariant-loop-k

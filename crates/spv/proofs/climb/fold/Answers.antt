@@ -1,5 +1,4 @@
 use mathlib.Core.Path.{◌∙◌, sym, ap}
-use borrow.Author.Rules.{rules}
 use Rattle.spv.specs.Climb.{Sibling, step}
 use Rattle.spv.specs.Shapes.{joined_of}
 use Rattle.spv.proofs.ShapesLaws.{is-value, is-copied, is-absent}

@@ -1,5 +1,4 @@
 use mathlib.Core.Path.{◌∙◌, ap, sym, subst}
-use borrow.Author.Rules.{rules}
 use Rattle.spv.specs.Climb.{Sibling, step, odd}
 use Rattle.spv.specs.PositionFits.{PositionFits}
 use Rattle.spv.proofs.PositionFitsLaws.{low-sibling}

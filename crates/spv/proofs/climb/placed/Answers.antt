@@ -1,6 +1,5 @@
 use mathlib.Core.Path.{◌∙◌, sym, ap}
 use mathlib.Core.Bool.{Bool}
-use borrow.Author.Rules.{rules}
 use Rattle.spv.specs.Climb.{joined}
 use Rattle.spv.proofs.ClimbLaws.{joined-even, joined-odd, joined_twin}
 use Rattle.spv.specs.Shapes.{joined_of}

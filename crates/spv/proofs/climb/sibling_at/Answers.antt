@@ -1,7 +1,6 @@
 use mathlib.Core.Path.{sym, ◌∙◌}
 use Rattle.spv.proofs.SiblingsLaws.{path_here, path_missing}
 use Rattle.spv.proofs.ShapesLaws.{node-says}
-use borrow.Author.Rules.{rules}
 use Rattle.spv.proofs.climb.sibling_at.Goals as goal
 
 pub returns-in-Here : goal.returns-in-Here

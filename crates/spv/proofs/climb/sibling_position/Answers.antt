@@ -1,5 +1,4 @@
 use mathlib.Core.Path.{sym}
-use borrow.Author.Rules.{rules}
 use Rattle.spv.proofs.ClimbLaws.{sibling-odd, sibling-even}
 use Rattle.spv.proofs.climb.sibling_position.Goals as goal
 

@@ -1,8 +1,7 @@
 use mathlib.Core.Path.{◌∙◌, sym, ap}
 use mathlib.Core.Bool.{Bool, ◌&&◌}
-use borrow.Author.Tests.{not-true, not-false, eq-eqb, ne_eqb}
+use borrow.Author.Tests.{eq-eqb, ne_eqb}
 use lib.Dec.{eqb}
-use borrow.Author.Rules.{rules}
 use Rattle.spv.proofs.compare.alike.Goals as goal
 
 pub returns-then-not-same_bytes : goal.returns-then-not-same_bytes

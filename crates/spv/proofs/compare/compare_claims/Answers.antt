@@ -1,5 +1,4 @@
 use mathlib.Core.Path.{◌∙◌, sym, ap}
-use borrow.Author.Rules.{rules}
 use Rattle.spv.specs.Shapes.{compared_of}
 use Rattle.spv.proofs.ShapesLaws.{told-refused, told-second, told-accepted, claims_both}
 use Rattle.spv.proofs.compare.compare_claims.Goals as goal

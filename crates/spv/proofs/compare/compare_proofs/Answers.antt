@@ -1,5 +1,4 @@
 use mathlib.Core.Path.{◌∙◌, ap₂}
-use borrow.Author.Rules.{rules}
 use Rattle.spv.specs.Result.{Result}
 use Rattle.spv.specs.Compare.{compare}
 use Rattle.spv.specs.Shapes.{compared_of}

@@ -1,15 +1,7 @@
-use native.Mathlib.Omega.{arith}
-use borrow.Author.Rules.{rules}
-use borrow.Author.Tests.{not-true, not-false}
 use Prim.Native.Nat.{◌+◌, ◌-◌}
-use native.Mathlib.Nat.{zero-add}
-use mathlib.Core.Path.{ap, ap₂, ◌∙◌, sym}
-use Rattle.format.specs.Bytes.{same}
 use Rattle.spv.specs.PositionFits.{PositionFits}
-use Rattle.spv.proofs.PositionFitsLaws.{low_lower, low-next}
 use Rattle.spv.specs.Siblings.{path_siblings}
-use Rattle.spv.specs.Shapes.{meeting_of}
-use Rattle.spv.proofs.Turns.{Pairing, pairing_start, pairing_end, pairing_stop, pairing_stop₂, pairing_here, pairing_up}
+use Rattle.spv.proofs.Turns.{Pairing}
 use Rattle.spv.proofs.compare.meet.Given as goal
 
 abbrev pub invariant-loop-k : goal.invariant-loop-k

@@ -1,5 +1,4 @@
 use mathlib.Core.Path.{ap₂}
-use borrow.Author.Rules.{rules}
 use Rattle.spv.specs.Compare.{meets}
 use Rattle.spv.specs.Shapes.{meeting_of}
 use Rattle.spv.proofs.compare.met.Goals as goal

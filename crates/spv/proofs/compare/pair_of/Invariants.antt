@@ -1,10 +1,7 @@
 -- `compare::pair_of` meets its contract: both halves are copied, byte by byte. Assumes nothing.
 use Prim.Native.Nat.{ℕ, ◌≤◌, ◌<◌, ◌-◌, ◌+◌}
-use mathlib.Core.Path.{◌≡◌, refl}
-use native.Mathlib.Omega.{arith}
-use borrow.Author.Rules.{rules}
-use lib.ListN.{length, get_or, length-set}
-use Rattle.spv.proofs.Pairs.{pair-more, pair-done}
+use mathlib.Core.Path.{◌≡◌}
+use lib.ListN.{length, get_or}
 use Rattle.spv.proofs.compare.pair_of.Given as goal
 
 abbrev pub invariant-loop-i : goal.invariant-loop-i

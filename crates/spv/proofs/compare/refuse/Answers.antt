@@ -1,5 +1,4 @@
 use mathlib.Core.Path.{ap, ◌∙◌}
-use borrow.Author.Rules.{rules}
 use Rattle.spv.specs.Shapes.{refused_pair, compared_of}
 use Rattle.spv.proofs.compare.refuse.Goals as goal
 

@@ -1,7 +1,5 @@
 use mathlib.Core.Path.{◌∙◌, sym, ap}
 use native.Mathlib.Omega.{arith}
-use borrow.Author.Tests.{not-true, not-false}
-use borrow.Author.Rules.{rules}
 use Rattle.spv.specs.Compare.{meets, never, strings_of}
 use Rattle.spv.proofs.PositionFitsLaws.{low-start}
 use Rattle.spv.specs.Shapes.{compared_of}

@@ -2,7 +2,6 @@ use mathlib.Core.Path.{◌∙◌, sym, ap}
 use Rattle.spv.specs.Depth.{depth_of}
 use Rattle.spv.proofs.ShapesLaws.{told-accepted, told_unproved}
 use Rattle.spv.proofs.DepthLaws.{depth-first, depth-second, depth_claims}
-use borrow.Author.Rules.{rules}
 use Rattle.spv.proofs.depth.compare_depth_claims.Goals as goal
 
 pub returns-in-Refused : goal.returns-in-Refused

@@ -2,7 +2,6 @@ use mathlib.Core.Path.{◌∙◌, ap₂}
 use Rattle.spv.specs.Result.{Result}
 use Rattle.spv.specs.Prove.{Proof}
 use Rattle.spv.specs.Depth.{depth, depth_of}
-use borrow.Author.Rules.{rules}
 use Rattle.spv.proofs.depth.compare_depths.Goals as goal
 
 pub returns : goal.returns

@@ -1,9 +1,6 @@
-use mathlib.Core.Path.{◌≡◌, sym, ◌∙◌}
-use Prim.Native.Nat.{◌-◌}
+use mathlib.Core.Path.{sym, ◌∙◌}
 use native.Mathlib.Nat.{sub-zero}
-use Rattle.spv.specs.Depth.{halved}
 use Rattle.spv.proofs.DepthLaws.{halved-step, halved-done}
-use borrow.Author.Rules.{rules}
 use Rattle.spv.proofs.depth.halve.Goals as goal
 
 pub loop-k-init : goal.loop-k-init

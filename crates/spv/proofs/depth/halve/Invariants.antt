@@ -1,9 +1,6 @@
-use mathlib.Core.Path.{◌≡◌, sym, ◌∙◌}
+use mathlib.Core.Path.{◌≡◌}
 use Prim.Native.Nat.{◌-◌}
-use native.Mathlib.Nat.{sub-zero}
 use Rattle.spv.specs.Depth.{halved}
-use Rattle.spv.proofs.DepthLaws.{halved-step, halved-done}
-use borrow.Author.Rules.{rules}
 use Rattle.spv.proofs.depth.halve.Given as goal
 
 abbrev pub invariant-loop-k : goal.invariant-loop-k

@@ -2,9 +2,8 @@ use mathlib.Core.Path.{◌∙◌, sym, ap}
 use mathlib.Core.Bool.{Bool, ◌&&◌}
 use Prim.Native.Nat.{◌-◌}
 use lib.Dec.{eqb, ltb}
-use borrow.Author.Tests.{not-true, not-false, lt-ltb, le-ltb}
+use borrow.Author.Tests.{lt-ltb, le-ltb}
 use Rattle.spv.specs.Depth.{halved}
-use borrow.Author.Rules.{rules}
 use Rattle.spv.proofs.depth.is_deeper.Goals as goal
 
 pub returns-then-not-same_bytes : goal.returns-then-not-same_bytes

@@ -1,6 +1,5 @@
 use mathlib.Core.Path.{◌∙◌}
 use Rattle.spv.proofs.DepthLaws.{pair_found, pair-none}
-use borrow.Author.Rules.{rules}
 use Rattle.spv.proofs.depth.meet_above.Goals as goal
 
 pub returns-then-m : goal.returns-then-m

@@ -1,9 +1,7 @@
 use mathlib.Core.Path.{◌∙◌, sym}
 use native.Mathlib.Omega.{arith}
-use borrow.Author.Tests.{not-true, not-false}
 use Rattle.spv.proofs.PositionFitsLaws.{low_half}
 use Rattle.spv.proofs.DepthLaws.{beside_none, beside-here, beside-above}
-use borrow.Author.Rules.{rules}
 use Rattle.spv.proofs.depth.meet_beside.Goals as goal
 
 pub returns-then-not-joins : goal.returns-then-not-joins

@@ -2,7 +2,6 @@ use mathlib.Core.Path.{◌∙◌, refl}
 use native.Mathlib.Omega.{arith}
 use Rattle.spv.proofs.ShapesLaws.{told-root, told-stop}
 use Rattle.spv.proofs.DepthLaws.{low-layer, deeper-stop, deeper-root}
-use borrow.Author.Rules.{rules}
 use Rattle.spv.proofs.depth.meet_deeper.Goals as goal
 
 pub meet_beside-requires : goal.meet_beside-requires

@@ -2,7 +2,6 @@ use mathlib.Core.Path.{◌∙◌, ap}
 use Rattle.spv.specs.declared.rejection.Rejection.{Rejection}
 use Rattle.spv.specs.Result.{refused}
 use Rattle.spv.specs.Depth.{depth_of}
-use borrow.Author.Rules.{rules}
 use Rattle.spv.proofs.depth.not_deeper.Goals as goal
 
 pub returns : goal.returns

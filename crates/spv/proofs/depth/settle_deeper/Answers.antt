@@ -1,8 +1,6 @@
 use mathlib.Core.Path.{◌∙◌, sym, ap}
-use borrow.Author.Tests.{not-true, not-false}
 use Rattle.spv.specs.Depth.{depth_of}
 use Rattle.spv.proofs.DepthLaws.{claims_shallow, claims_other, claims_fewer, claims_lowest}
-use borrow.Author.Rules.{rules}
 use Rattle.spv.proofs.depth.settle_deeper.Goals as goal
 
 pub returns-then-not-is_deeper : goal.returns-then-not-is_deeper

@@ -12,7 +12,6 @@ use Rattle.spv.specs.Result.{refused, refused_reading}
 use Rattle.spv.specs.Shapes.{claim_proof}
 use Rattle.spv.specs.Depth.{uneven, depth_of}
 use Rattle.spv.proofs.DepthLaws.{reading-fault, reading-ok}
-use borrow.Author.Rules.{rules}
 use Rattle.spv.proofs.depth.settle_transaction.Goals as goal
 
 pub returns-in_default : goal.returns-in_default

@@ -1,7 +1,6 @@
 use mathlib.Core.Path.{◌∙◌, sym, ap}
 use Rattle.spv.specs.Depth.{depth_of}
 use Rattle.spv.proofs.DepthLaws.{claims_turned, claims_given}
-use borrow.Author.Rules.{rules}
 use Rattle.spv.proofs.depth.settle_uneven.Goals as goal
 
 pub returns-then-q-p : goal.returns-then-q-p

@@ -4,7 +4,6 @@ use native.Mathlib.Omega.{arith}
 use Rattle.format.specs.FieldAnswer.{number_of}
 use Rattle.format.proofs.ParseLaws.{answered}
 use Rattle.spv.proofs.MarksLaws.{marked-at, mark-within, mark-rises, mark_finds}
-use borrow.Author.Rules.{rules}
 use Rattle.spv.proofs.marks.find_marked.Goals as goal
 
 pub overflow_cast-start : goal.overflow_cast-start

@@ -1,9 +1,8 @@
-use borrow.Author.Rules.{rules}
 use native.Mathlib.Omega.{arith}
-use Prim.Native.Nat.{◌-◌, ◌+◌}
+use Prim.Native.Nat.{◌+◌}
 use Rattle.path.specs.LeafAnswer.{leaf_of}
 use Rattle.format.proofs.ParseLaws.{answered}
-use Rattle.spv.proofs.MarksLaws.{Chosen, chosen-first, chosen-next}
+use Rattle.spv.proofs.MarksLaws.{chosen-first, chosen-next}
 use Rattle.spv.proofs.marks.last_mark.Goals as goal
 
 pub loop-i-init : goal.loop-i-init

@@ -1,9 +1,5 @@
-use borrow.Author.Rules.{rules}
-use native.Mathlib.Omega.{arith}
-use Prim.Native.Nat.{◌-◌, ◌+◌}
-use Rattle.path.specs.LeafAnswer.{leaf_of}
-use Rattle.format.proofs.ParseLaws.{answered}
-use Rattle.spv.proofs.MarksLaws.{Chosen, chosen-first, chosen-next}
+use Prim.Native.Nat.{◌-◌}
+use Rattle.spv.proofs.MarksLaws.{Chosen}
 use Rattle.spv.proofs.marks.last_mark.Given as goal
 
 abbrev pub invariant-loop-i : goal.invariant-loop-i

@@ -3,7 +3,6 @@ use Rattle.format.specs.FieldAnswer.{number_of}
 use Rattle.format.proofs.ParseLaws.{answered}
 use Rattle.spv.specs.Marks.{IsMark}
 use Rattle.spv.proofs.MarksLaws.{mark-zero, mark-first, mark-next, mark-narrowed}
-use borrow.Author.Rules.{rules}
 use Rattle.spv.proofs.marks.mark_at.Goals as goal
 
 pub returns-in_default : goal.returns-in_default

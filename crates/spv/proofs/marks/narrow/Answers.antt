@@ -1,7 +1,6 @@
 use mathlib.Core.Path.{refl}
 use borrow.Author.Tests.{lt-ltb, le-ltb}
 use Rattle.spv.specs.Marks.{narrowed}
-use borrow.Author.Rules.{rules}
 use Rattle.spv.proofs.marks.narrow.Goals as goal
 
 pub returns-then-at-lt4294967296 : goal.returns-then-at-lt4294967296

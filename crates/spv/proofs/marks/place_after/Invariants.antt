@@ -1,12 +1,6 @@
-use borrow.Author.Rules.{rules}
-use native.Mathlib.Omega.{arith}
-use mathlib.Core.Path.{◌≡◌, sym, ◌∙◌}
+use mathlib.Core.Path.{◌≡◌}
 use Prim.Native.Nat.{◌≤◌, ◌-◌}
-use native.Mathlib.Nat.{sub-zero}
-use Rattle.path.specs.LeafAnswer.{leaf_of}
-use Rattle.format.proofs.ParseLaws.{answered}
 use Rattle.spv.specs.Marks.{after}
-use Rattle.spv.proofs.MarksLaws.{after_stuck, after_next, after_none}
 use Rattle.spv.proofs.marks.place_after.Given as goal
 
 abbrev pub invariant-loop-i : goal.invariant-loop-i

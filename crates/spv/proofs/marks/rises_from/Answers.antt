@@ -1,12 +1,9 @@
-use borrow.Author.Rules.{rules}
 use native.Mathlib.Omega.{arith}
 use mathlib.Core.Path.{◌≡◌}
-use mathlib.Core.Bool.{true}
-use Prim.Native.Nat.{ℕ, ◌≤◌, ◌-◌}
+use Prim.Native.Nat.{ℕ}
 use native.Mathlib.Nat.{sub-zero}
 use Rattle.path.specs.LeafAnswer.{leaf_of}
 use Rattle.format.proofs.ParseLaws.{answered}
-use Rattle.spv.specs.Marks.{rises}
 use Rattle.spv.proofs.MarksLaws.{rises-stop, rises-step, rises-end}
 use Rattle.spv.proofs.marks.rises_from.Goals as goal
 

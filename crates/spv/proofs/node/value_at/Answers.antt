@@ -1,5 +1,4 @@
 use mathlib.Core.Path.{ap}
-use borrow.Author.Rules.{rules}
 use Rattle.spv.specs.Climb.{value}
 use Rattle.spv.specs.Shapes.{node_of}
 use Rattle.spv.proofs.node.value_at.Goals as goal

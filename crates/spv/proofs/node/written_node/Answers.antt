@@ -1,5 +1,4 @@
 use mathlib.Core.Path.{◌∙◌, sym, ap}
-use borrow.Author.Rules.{rules}
 use Rattle.format.specs.declared.leaf.Kind.{Kind}
 use Rattle.spv.specs.Siblings.{written}
 use Rattle.spv.specs.Shapes.{node_of}

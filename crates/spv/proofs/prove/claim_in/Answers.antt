@@ -1,5 +1,4 @@
 use mathlib.Core.Path.{sym, ◌∙◌, ap}
-use borrow.Author.Rules.{rules}
 use Rattle.path.specs.declared.path.Start.{Start}
 use Rattle.spv.specs.Readings.{starting, path_reading}
 use Rattle.spv.specs.Siblings.{path_siblings}

@@ -1,5 +1,4 @@
 use mathlib.Core.Path.{sym, ◌∙◌, ap}
-use borrow.Author.Rules.{rules}
 use Rattle.path.specs.declared.path.Form.{Form}
 use Rattle.spv.specs.Prove.{prove}
 use Rattle.spv.specs.Readings.{reading, reading_up_to}

@@ -1,5 +1,4 @@
 use mathlib.Core.Path.{sym, ◌∙◌, ap, refl}
-use borrow.Author.Rules.{rules}
 use Rattle.format.proofs.ParseLaws.{answered, each-ok, each-fault}
 use Rattle.format.specs.Tsc.{tsc_head_of, tsc_whole}
 use Rattle.format.specs.TscAnswer.{tsc_answer, refusal_of_tsc}

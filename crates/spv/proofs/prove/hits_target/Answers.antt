@@ -1,6 +1,5 @@
 use mathlib.Core.Path.{sym, ◌∙◌, ap}
 use mathlib.Core.Bool.{Bool}
-use borrow.Author.Rules.{rules}
 use Rattle.spv.specs.Prove.{target_of, hits}
 use Rattle.spv.proofs.ShapesLaws.{hits-any, hits-exactly}
 use Rattle.spv.proofs.prove.hits_target.Goals as goal

@@ -1,5 +1,4 @@
 use mathlib.Core.Path.{sym, refl, ◌∙◌, ap}
-use borrow.Author.Rules.{rules}
 use Rattle.spv.specs.Prove.{Reading, prove_by, prove}
 use Rattle.spv.specs.Shapes.{proved_of}
 use Rattle.spv.proofs.ShapesLaws.{claimed-read, claimed-unread}

@@ -1,5 +1,4 @@
 use mathlib.Core.Path.{◌∙◌, ap}
-use borrow.Author.Rules.{rules}
 use Rattle.spv.specs.Shapes.{proved_of}
 use Rattle.spv.proofs.prove.prove_tsc.Goals as goal
 

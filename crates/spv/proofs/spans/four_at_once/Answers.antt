@@ -1,5 +1,4 @@
 use Rattle.spv.proofs.SpansLaws.{made_four}
-use borrow.Author.Rules.{rules}
 use Rattle.spv.proofs.spans.four_at_once.Goals as goal
 
 pub returns : goal.returns

@@ -1,5 +1,4 @@
 use Rattle.spv.proofs.SpansLaws.{made_each}
-use borrow.Author.Rules.{rules}
 use Rattle.spv.proofs.spans.one_by_one.Goals as goal
 
 pub returns : goal.returns

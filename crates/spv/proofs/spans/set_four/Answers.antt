@@ -1,6 +1,5 @@
 use Rattle.spv.specs.Spans.{set_four}
 use Rattle.spv.proofs.SpansLaws.{four-past}
-use borrow.Author.Rules.{rules}
 use Rattle.spv.proofs.spans.set_four.Goals as goal
 
 pub returns-then-list-i : goal.returns-then-list-i

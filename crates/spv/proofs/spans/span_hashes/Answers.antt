@@ -1,4 +1,3 @@
-use borrow.Author.Rules.{rules}
 use Rattle.spv.proofs.spans.span_hashes.Goals as goal
 
 pub four_at_once-requires : goal.four_at_once-requires

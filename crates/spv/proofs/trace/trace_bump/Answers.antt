@@ -1,6 +1,5 @@
 use mathlib.Core.Path.{◌∙◌, ap}
 use Rattle.spv.specs.Trace.{traced_of}
-use borrow.Author.Rules.{rules}
 use Rattle.spv.proofs.trace.trace_bump.Goals as goal
 
 pub returns : goal.returns

@@ -2,7 +2,6 @@ use mathlib.Core.Path.{sym, refl, ◌∙◌, ap}
 use Rattle.spv.specs.Prove.{Reading, prove_by, prove}
 use Rattle.spv.proofs.ShapesLaws.{claimed-read, claimed-unread}
 use Rattle.spv.specs.Trace.{traced_of}
-use borrow.Author.Rules.{rules}
 use Rattle.spv.proofs.trace.trace_claim.Goals as goal
 
 pub returns-in-Read : goal.returns-in-Read

@@ -6,7 +6,6 @@ use Rattle.spv.specs.Shapes.{opened}
 use Rattle.spv.proofs.ShapesLaws.{told-root, told-stop}
 use Rattle.spv.specs.Trace.{traced_of}
 use Rattle.spv.proofs.TraceLaws.{traced_root}
-use borrow.Author.Rules.{rules}
 use Rattle.spv.proofs.trace.trace_settled.Goals as goal
 
 pub returns-in-Stop : goal.returns-in-Stop

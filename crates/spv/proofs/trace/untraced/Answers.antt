@@ -2,7 +2,6 @@ use mathlib.Core.Path.{ap}
 use lib.ListN.{replicate}
 use Rattle.spv.specs.Trace.{TRACE_ROOM, traced_of}
 use Rattle.spv.specs.declared.prove.Proved.{Proved}
-use borrow.Author.Rules.{rules}
 use Rattle.spv.proofs.trace.untraced.Goals as goal
 
 pub returns : goal.returns

@@ -1,6 +1,5 @@
 use Rattle.encoding.proofs.BufferLaws.{wrote_byte, wrote_cons}
 use Rattle.spv.proofs.TraceLaws.{text-value, text-copied, text-absent}
-use borrow.Author.Rules.{rules}
 use Rattle.spv.proofs.trace.write_sibling.Goals as goal
 
 pub returns-in-Value : goal.returns-in-Value

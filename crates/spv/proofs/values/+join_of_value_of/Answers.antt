@@ -1,5 +1,3 @@
-use borrow.Author.Rules.{rules}
-use borrow.Author.Tests.{not-true}
 use mathlib.Core.Path.{ap, ap₂, sym, ◌∙◌}
 use native.Mathlib.Omega.{arith}
 use Rattle.spv.specs.Climb.{Sibling, absent}
@@ -10,7 +8,7 @@ use Rattle.spv.proofs.ValuesLaws.{join-zero, join-none, join-two}
 use Rattle.spv.proofs.PositionFitsLaws.{low-left, low_right, low_fits}
 use Rattle.spv.specs.Shapes.{sibling_of}
 use Rattle.spv.proofs.ShapesLaws.{node-says}
-use Prim.Native.Nat.{ℕ, ◌+◌, ◌-◌, ◌*◌, ◌<◌}
+use Prim.Native.Nat.{◌+◌, ◌-◌, ◌*◌}
 use Rattle.spv.proofs.values.+join_of_value_of.Goals as goal
 
 pub join_of-returns-then-layer-eq0 : goal.join_of-returns-then-layer-eq0

@@ -1,5 +1,4 @@
 use mathlib.Core.Path.{ap, sym}
-use borrow.Author.Rules.{rules}
 use Rattle.spv.specs.Values.{has_value}
 use Rattle.spv.proofs.ShapesLaws.{is-value, is-copied, is-absent}
 use Rattle.spv.proofs.values.has_value.Goals as goal

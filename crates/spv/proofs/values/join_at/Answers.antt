@@ -1,9 +1,8 @@
 use borrow.Author.Rules.{rules}
-use Prim.Native.Nat.{ℕ, ◌-◌}
-use mathlib.Core.Path.{◌≡◌}
-use lib.ListN.{length, length-replicate}
+use Prim.Native.Nat.{ℕ}
+use lib.ListN.{length-replicate}
 use native.Mathlib.Omega.{arith}
-use Rattle.spv.proofs.MarksLaws.{Filling, filling-start, filling-more, filling-end, no_marks}
+use Rattle.spv.proofs.MarksLaws.{filling-start, filling-more, filling-end, no_marks}
 use Rattle.spv.proofs.values.join_at.Goals as goal
 
 pub loop-y-init : goal.loop-y-init

@@ -1,9 +1,7 @@
-use borrow.Author.Rules.{rules}
-use Prim.Native.Nat.{ℕ, ◌-◌}
+use Prim.Native.Nat.{◌-◌}
 use mathlib.Core.Path.{◌≡◌}
-use lib.ListN.{length, length-replicate}
-use native.Mathlib.Omega.{arith}
-use Rattle.spv.proofs.MarksLaws.{Filling, filling-start, filling-more, filling-end, no_marks}
+use lib.ListN.{length}
+use Rattle.spv.proofs.MarksLaws.{Filling}
 use Rattle.spv.proofs.values.join_at.Given as goal
 
 abbrev pub invariant-loop-y : goal.invariant-loop-y

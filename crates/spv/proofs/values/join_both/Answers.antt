@@ -1,8 +1,6 @@
 use Prim.Native.Nat.{ℕ}
 use mathlib.Core.List.{List}
 use mathlib.Core.Path.{ap, ap₂, sym, ◌∙◌}
-use borrow.Author.Rules.{rules}
-use borrow.Author.Tests.{not-true, not-false}
 use Rattle.spv.specs.Climb.{value}
 use Rattle.spv.specs.Values.{join_both}
 use Rattle.spv.proofs.ValuesLaws.{both_left, both_right}

@@ -5,7 +5,6 @@ use Rattle.path.specs.Path.{layers_of}
 use Rattle.spv.specs.Climb.{absent}
 use Rattle.spv.proofs.SiblingsLaws.{join_outside, join-bump, join-cmp, join-tsc}
 use Rattle.spv.proofs.ShapesLaws.{node-says}
-use borrow.Author.Rules.{rules}
 use Rattle.spv.proofs.values.join_in.Goals as goal
 
 pub returns-then-path-layer : goal.returns-then-path-layer

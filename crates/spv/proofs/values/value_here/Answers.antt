@@ -5,7 +5,6 @@ use Rattle.spv.specs.Values.{value_by}
 use Rattle.spv.specs.Siblings.{written}
 use Rattle.spv.specs.Shapes.{sibling_of}
 use Rattle.spv.proofs.ShapesLaws.{node-says}
-use borrow.Author.Rules.{rules}
 use Rattle.spv.proofs.values.value_here.Goals as goal
 
 pub returns-in-Plain : goal.returns-in-Plain

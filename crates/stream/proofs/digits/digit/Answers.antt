@@ -1,6 +1,5 @@
 use borrow.Author.Tests.{eq-eqb, ne_eqb}
 use Rattle.stream.specs.Progress.{digit}
-use borrow.Author.Rules.{rules}
 use Rattle.stream.proofs.digits.digit.Goals as goal
 
 pub returns-then-f-eq0 : goal.returns-then-f-eq0

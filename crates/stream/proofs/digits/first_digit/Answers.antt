@@ -1,6 +1,5 @@
 use borrow.Author.Tests.{le-ltb, lt-ltb}
 use Rattle.stream.specs.Progress.{first_digit}
-use borrow.Author.Rules.{rules}
 use Rattle.stream.proofs.digits.first_digit.Goals as goal
 
 pub returns-then-x-lt253 : goal.returns-then-x-lt253

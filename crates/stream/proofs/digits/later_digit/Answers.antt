@@ -2,7 +2,6 @@ use Rattle.stream.specs.declared.progress.Progress.{Progress}
 use mathlib.Core.Path.{◌∙◌, ap}
 use borrow.Author.Tests.{le-leb, lt-leb}
 use Rattle.stream.specs.Progress.{later_digit, shifted, numbered}
-use borrow.Author.Rules.{rules}
 use Rattle.stream.proofs.digits.later_digit.Goals as goal
 
 pub returns-then-f-le1 : goal.returns-then-f-le1

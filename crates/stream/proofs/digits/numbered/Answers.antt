@@ -1,6 +1,5 @@
 use Rattle.stream.specs.Progress.{numbered}
 use borrow.Author.Tests.{le-leb, lt-leb}
-use borrow.Author.Rules.{rules}
 use Rattle.stream.proofs.digits.numbered.Goals as goal
 
 pub returns-then-v-least : goal.returns-then-v-least

@@ -1,6 +1,5 @@
 use borrow.Author.Tests.{le-leb, lt-leb}
 use Rattle.stream.specs.Progress.{passed}
-use borrow.Author.Rules.{rules}
 use Rattle.stream.proofs.digits.passed.Goals as goal
 
 pub returns-then-f-k : goal.returns-then-f-k

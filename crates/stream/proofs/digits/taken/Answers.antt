@@ -1,6 +1,5 @@
 use borrow.Author.Tests.{le-leb, lt-leb}
 use Rattle.stream.specs.Progress.{taken}
-use borrow.Author.Rules.{rules}
 use Rattle.stream.proofs.digits.taken.Goals as goal
 
 pub returns-then-f-ge-MAX_PARTS : goal.returns-then-f-ge-MAX_PARTS

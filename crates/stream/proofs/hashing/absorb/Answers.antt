@@ -6,7 +6,6 @@ use Rattle.stream.proofs.Blocks.{absorbs_long, absorbs_short, drop_all}
 use Prim.Native.Nat.{◌%◌, ◌*◌, ◌+◌, ◌-◌, ◌/◌, ℕ}
 use mathlib.Core.Path.{◌∙◌, ap, ap₂, refl, sym}
 use Rattle.stream.specs.HashState.{blocks_from}
-use borrow.Author.Rules.{rules}
 use Rattle.stream.proofs.hashing.absorb.Goals as goal
 
 pub returns-then-part-room : goal.returns-then-part-room

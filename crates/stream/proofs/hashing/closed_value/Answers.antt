@@ -1,5 +1,4 @@
 use Rattle.stream.proofs.Blocks.{closes-long, closes_short}
-use borrow.Author.Rules.{rules}
 use Rattle.stream.proofs.hashing.closed_value.Goals as goal
 
 pub returns-then-t-lt56 : goal.returns-then-t-lt56

@@ -1,6 +1,5 @@
 use native.Mathlib.Nat.{div-one}
 use Rattle.hash.specs.Sha256.{big_endian, digest}
-use borrow.Author.Rules.{rules}
 use Rattle.stream.proofs.hashing.digest_bytes.Goals as goal
 
 pub returns : goal.returns

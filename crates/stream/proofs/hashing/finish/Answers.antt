@@ -1,5 +1,4 @@
 use Rattle.stream.proofs.Blocks.{finishes}
-use borrow.Author.Rules.{rules}
 use Rattle.stream.proofs.hashing.finish.Goals as goal
 
 pub returns : goal.returns

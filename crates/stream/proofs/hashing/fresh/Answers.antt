@@ -1,6 +1,5 @@
 use Rattle.stream.specs.HashState.{hashing_of, tail_of, value_of}
 use Rattle.hash.specs.Sha256.{H}
-use borrow.Author.Rules.{rules}
 use Rattle.stream.proofs.hashing.fresh.Goals as goal
 
 pub returns : goal.returns

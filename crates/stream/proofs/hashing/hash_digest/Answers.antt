@@ -1,4 +1,3 @@
-use borrow.Author.Rules.{rules}
 use Rattle.hash.proofs.Digests.{digest-hashed}
 use Rattle.stream.proofs.hashing.hash_digest.Goals as goal
 

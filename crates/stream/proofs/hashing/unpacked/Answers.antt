@@ -1,6 +1,5 @@
 use Rattle.stream.specs.HashState.{from_words}
 use mathlib.Core.Path.{refl}
-use borrow.Author.Rules.{rules}
 use Rattle.stream.proofs.hashing.unpacked.Goals as goal
 
 pub returns : goal.returns

@@ -1,10 +1,9 @@
 use lib.ListN.{length}
 use Rattle.stream.proofs.Blocks.{block-turn, there-length}
-use borrow.Author.Rules.{rules}
 use native.Mathlib.Omega.{arith}
 use mathlib.Core.Path.{◌≡◌, refl, ◌∙◌, ap}
 use Rattle.stream.specs.HashState.{blocks_from}
-use Prim.Native.Nat.{◌-◌, ◌≤◌, ◌/◌, ℕ, ◌*◌, ◌+◌}
+use Prim.Native.Nat.{◌-◌, ◌/◌, ℕ, ◌*◌, ◌+◌}
 use Rattle.stream.proofs.hashing.whole_blocks.Goals as goal
 
 pub loop-i-init : goal.loop-i-init

@@ -1,10 +1,6 @@
-use lib.ListN.{length}
-use Rattle.stream.proofs.Blocks.{block-turn, there-length}
-use borrow.Author.Rules.{rules}
-use native.Mathlib.Omega.{arith}
-use mathlib.Core.Path.{◌≡◌, refl, ◌∙◌, ap}
+use mathlib.Core.Path.{◌≡◌}
 use Rattle.stream.specs.HashState.{blocks_from}
-use Prim.Native.Nat.{◌-◌, ◌≤◌, ◌/◌, ℕ, ◌*◌, ◌+◌}
+use Prim.Native.Nat.{◌-◌, ◌≤◌}
 use Rattle.stream.proofs.hashing.whole_blocks.Given as goal
 
 abbrev pub invariant-loop-i : goal.invariant-loop-i

@@ -1,6 +1,5 @@
 use Rattle.stream.specs.Progress.{after_input}
 use borrow.Author.Tests.{le-leb, lt-leb}
-use borrow.Author.Rules.{rules}
 use Rattle.stream.proofs.progress.after_input.Goals as goal
 
 pub returns-then-f-le1 : goal.returns-then-f-le1

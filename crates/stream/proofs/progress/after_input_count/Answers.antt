@@ -1,6 +1,5 @@
 use Rattle.stream.specs.Progress.{next_at}
 use borrow.Author.Tests.{le-leb, lt-leb}
-use borrow.Author.Rules.{rules}
 use Rattle.stream.proofs.progress.after_input_count.Goals as goal
 
 pub returns-then-v-lt1 : goal.returns-then-v-lt1

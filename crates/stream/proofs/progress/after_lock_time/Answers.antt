@@ -1,6 +1,5 @@
 use Rattle.stream.specs.Progress.{after_lock_time}
 use borrow.Author.Tests.{eq-eqb, ne_eqb}
-use borrow.Author.Rules.{rules}
 use Rattle.stream.proofs.progress.after_lock_time.Goals as goal
 
 pub returns-then-f-eq-NODE_PAIR : goal.returns-then-f-eq-NODE_PAIR

@@ -1,6 +1,5 @@
 use borrow.Author.Tests.{le-leb, lt-leb}
 use Rattle.stream.specs.Progress.{after_output}
-use borrow.Author.Rules.{rules}
 use Rattle.stream.proofs.progress.after_output.Goals as goal
 
 pub returns-then-f-le1 : goal.returns-then-f-le1

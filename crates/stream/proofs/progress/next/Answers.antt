@@ -4,7 +4,6 @@ use Rattle.stream.proofs.Leaps.{next-at}
 use Rattle.stream.specs.declared.progress.Stage.{Stage}
 use mathlib.Core.Path.{◌∙◌, ap}
 use Rattle.stream.specs.Progress.{next_at}
-use borrow.Author.Rules.{rules}
 use Rattle.stream.proofs.progress.next.Goals as goal
 
 pub returns-in-Version : goal.returns-in-Version

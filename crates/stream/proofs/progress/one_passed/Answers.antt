@@ -1,6 +1,5 @@
 use Rattle.stream.specs.Progress.{one_passed}
 use mathlib.Core.Path.{refl}
-use borrow.Author.Rules.{rules}
 use Rattle.stream.proofs.progress.one_passed.Goals as goal
 
 pub returns : goal.returns

@@ -3,7 +3,6 @@ use Rattle.stream.specs.Parts.{with_end}
 use Rattle.stream.specs.Lent.{progress_of, resting}
 use Rattle.stream.proofs.LentLaws.{end-done, end-received, end_short, finishes_by, keeps_by}
 use Rattle.stream.specs.Progress.{is_end}
-use borrow.Author.Rules.{rules}
 use Rattle.stream.proofs.state.end.Goals as goal
 
 pub returns-then-said-ne0 : goal.returns-then-said-ne0

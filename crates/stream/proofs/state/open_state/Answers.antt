@@ -1,5 +1,4 @@
 use Rattle.stream.specs.Lent.{open_state}
-use borrow.Author.Rules.{rules}
 use Rattle.stream.proofs.state.open_state.Goals as goal
 
 pub returns : goal.returns

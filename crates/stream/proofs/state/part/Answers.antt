@@ -5,7 +5,6 @@ use Rattle.stream.specs.Lent.{resting}
 use Rattle.stream.specs.Parts.{MAX_PARTS, with_part}
 use Rattle.stream.specs.declared.progress.Fed.{Fed}
 use Rattle.stream.specs.Progress.{run}
-use borrow.Author.Rules.{rules}
 use Rattle.stream.proofs.state.part.Goals as goal
 
 pub returns-then-said-ne0 : goal.returns-then-said-ne0

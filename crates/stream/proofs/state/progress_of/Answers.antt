@@ -1,5 +1,4 @@
 use Rattle.stream.specs.Lent.{progress_of}
-use borrow.Author.Rules.{rules}
 use Rattle.stream.proofs.state.progress_of.Goals as goal
 
 pub returns : goal.returns

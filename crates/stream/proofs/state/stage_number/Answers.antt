@@ -1,5 +1,4 @@
 use Rattle.stream.specs.Progress.{stage_number}
-use borrow.Author.Rules.{rules}
 use Rattle.stream.proofs.state.stage_number.Goals as goal
 
 pub returns-in-Version : goal.returns-in-Version

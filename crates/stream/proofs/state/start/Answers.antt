@@ -1,5 +1,4 @@
 use Rattle.stream.proofs.LentLaws.{start_is}
-use borrow.Author.Rules.{rules}
 use Rattle.stream.proofs.state.start.Goals as goal
 
 pub returns : goal.returns

@@ -1,7 +1,6 @@
 use mathlib.Core.Path.{sym, ◌∙◌}
-use borrow.Author.Tests.{not-false, leb-true}
+use borrow.Author.Tests.{leb-true}
 use Rattle.stream.proofs.Outputs.{clash, output-is}
-use borrow.Author.Rules.{rules}
 use Rattle.stream.proofs.walk.at_start.Goals as goal
 
 pub returns-then-not-is_amount : goal.returns-then-not-is_amount

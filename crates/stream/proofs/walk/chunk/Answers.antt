@@ -2,7 +2,6 @@ use mathlib.Core.Path.{◌∙◌, sym}
 use Rattle.stream.proofs.Leaps.{leap_one, leap_run}
 use Rattle.stream.specs.Parts.{MAX_PARTS}
 use native.Mathlib.Omega.{arith}
-use borrow.Author.Rules.{rules}
 use Rattle.stream.proofs.walk.chunk.Goals as goal
 
 pub returns-then-f-ge-MAX_PARTS : goal.returns-then-f-ge-MAX_PARTS

@@ -1,7 +1,5 @@
 use native.Mathlib.Omega.{arith}
-use borrow.Author.Tests.{not-false}
 use Rattle.stream.proofs.Outputs.{outputs_skip}
-use borrow.Author.Rules.{rules}
 use Rattle.stream.proofs.walk.pass_outputs.Goals as goal
 
 pub returns-then-not-at_start : goal.returns-then-not-at_start

@@ -1,13 +1,9 @@
-use mathlib.Core.Path.{◌≡◌, refl, ap, ◌∙◌}
-use Prim.Native.Nat.{◌+◌, ◌-◌, ◌≤◌}
-use native.Mathlib.Omega.{arith}
-use borrow.Author.Rules.{rules}
+use mathlib.Core.Path.{◌≡◌}
+use Prim.Native.Nat.{◌-◌, ◌≤◌}
 use lib.ListN.{length, drop}
 use Rattle.stream.specs.declared.progress.Fed.{Fed}
 use Rattle.stream.specs.Parts.{MAX_PARTS}
 use Rattle.stream.specs.Progress.{run}
-use Rattle.stream.proofs.Leaps.{walk_ends, walk_stops, walk_turn}
-use Rattle.stream.proofs.Outputs.{walk_skips}
 use Rattle.stream.proofs.walk.walk.Given as goal
 
 abbrev pub invariant-loop-i : goal.invariant-loop-i

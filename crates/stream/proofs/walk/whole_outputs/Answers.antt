@@ -1,7 +1,4 @@
-use Prim.Native.Nat.{◌≤◌}
 use native.Mathlib.Omega.{arith}
-use Rattle.stream.specs.Parts.{MAX_PARTS}
-use Rattle.stream.specs.Progress.{Outputs}
 use Rattle.stream.proofs.Outputs.{outputs-none, outputs_on}
 use Rattle.stream.proofs.walk.whole_outputs.Goals as goal
 

@@ -1,4 +1,3 @@
-use borrow.Author.Rules.{rules}
 use Rattle.path.proofs.walk.LeafAnswer.refusal.Goals as goal
 
 pub returns-in-Value : goal.returns-in-Value
