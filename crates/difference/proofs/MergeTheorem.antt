@@ -6,8 +6,8 @@ use lib.ListN.{length}
 use native.Mathlib.Omega.{arith}
 use Rattle.encoding.specs.BumpBytes.{Entry}
 use Rattle.levels.specs.declared.level.Next.TheVariants.{Offset}
-use Rattle.difference.specs.Differences.{Told, told, tell, offsets_from}
-use Rattle.levels.specs.Standing.{Standing, stands, nothing, standing_in}
+use Rattle.difference.specs.Differences.{told, tell, offsets_from}
+use Rattle.levels.specs.Standing.{Standing, nothing, standing_in}
 use Rattle.levels.proofs.InOrder.{From, Under, InOrder, under_weaken, standing-below}
 use Rattle.difference.specs.Merge.{merged}
 use Rattle.levels.proofs.FrontsLaws.{standing-front, standing-past, past_from, past_order, past-under, Turn, here, above, turn, none}

@@ -44,7 +44,7 @@ part r = (r.ref_ptr, r.now)
 unfoldable pub handed : Result Choice → Bor (List ℕ) → Bor (List ℕ) → Part
 handed (accepted first) a b = part a
 handed (accepted second) a b = part b
-handed (refused why) a b = (a.ptr, [])
+handed (refused why) a b = (a.ref_ptr, [])
 
 -- a refusal in four numbers, as in memory that is lent for it: its number, what it carries, the layer and the sibling's position there; 0 where nothing is refused
 unfoldable pub why_of : Result Choice → List ℕ

@@ -1,10 +1,9 @@
 -- Laws of the check by what two paths have written between them.
 use mathlib.Core.Path.{◌≡◌, refl, ap, ap₂, sym, ◌∙◌}
 use mathlib.Core.List.{List}
-use mathlib.Core.Bool.{Bool, true, false, false≢true}
+use mathlib.Core.Bool.{true, false≢true}
 use Prim.Native.Nat.{ℕ, zero, suc, ◌+◌, ◌≤◌}
 use lib.ListN.{length, set, replicate, length-set, length-replicate}
-use lib.Dec.{leb}
 use native.Mathlib.Omega.{arith}
 use borrow.Author.Tests.{le-leb}
 use Rattle.format.specs.declared.bump.BumpHead.{BumpHead}
@@ -13,7 +12,6 @@ use Rattle.format.specs.declared.leaf.Leaf.{Leaf}
 use Rattle.format.proofs.BytesLaws.{same_refl}
 use Rattle.format.specs.Parse.{Parse, ok, fault, otherwise}
 use Rattle.format.specs.Level.{level_of_turn}
-use Rattle.path.specs.declared.path.Form.{Form}
 use Rattle.path.specs.declared.path.Path.{Path}
 use Rattle.path.specs.Unchecked.{unchecked_level}
 use Rattle.path.specs.Path.{LAYERS, layers_of, placing, bump_path_of}
@@ -23,7 +21,6 @@ use Rattle.spv.specs.Climb.{Siblings}
 use Rattle.spv.specs.Clients.{clients}
 use Rattle.spv.specs.Prove.{bound}
 use Rattle.spv.proofs.ClientsTheorems.{AllReach, Still, agreed-told, told-agreed}
-use Rattle.climbs.specs.Proofs.{is_bump}
 use Rattle.climbs.specs.Reach.{is_accepted, level_reaches, both_reach}
 use Rattle.climbs.proofs.ClientsLaws.{clients_in_lem}
 use Rattle.climbs.proofs.ReachLaws.{levelled}

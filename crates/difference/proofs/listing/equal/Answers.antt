@@ -1,7 +1,6 @@
 use Rattle.difference.proofs.MergeLaws.{flags-differ, both_copies, by_hash}
 use Rattle.format.specs.Bytes.{same, hash_at}
 use mathlib.Core.Path.{sym, ap, ap₂, ◌∙◌}
-use borrow.Author.Rules.{rules}
 use Rattle.difference.proofs.listing.equal.Goals as goal
 
 pub returns-then-flags-flags_of : goal.returns-then-flags-flags_of

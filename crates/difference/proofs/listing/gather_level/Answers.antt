@@ -3,7 +3,6 @@ use Rattle.difference.proofs.MergeLaws.{level-above, level-here}
 use Rattle.levels.proofs.OrderedLaws.{level-told}
 use native.Mathlib.Omega.{arith}
 use mathlib.Core.Path.{sym, ap₂, ◌∙◌}
-use borrow.Author.Rules.{rules}
 use Rattle.difference.proofs.listing.gather_level.Goals as goal
 
 pub returns-then-height-level : goal.returns-then-height-level

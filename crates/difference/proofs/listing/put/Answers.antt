@@ -1,10 +1,6 @@
 use Rattle.difference.proofs.FillingLaws.{put_full, put-counted, put_written}
 use Rattle.difference.specs.Filling.{store}
-use lib.ListN.{length-set}
-use borrow.Author.Tests.{not-true, not-false}
-use native.Mathlib.Omega.{arith}
 use mathlib.Core.Path.{sym}
-use borrow.Author.Rules.{rules}
 use Rattle.difference.proofs.listing.put.Goals as goal
 
 pub returns-then-room-at : goal.returns-then-room-at

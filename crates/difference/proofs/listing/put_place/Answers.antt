@@ -1,6 +1,5 @@
 use Rattle.difference.proofs.FillingLaws.{place-alike, place-told}
 use mathlib.Core.Path.{sym, ◌∙◌}
-use borrow.Author.Rules.{rules}
 use Rattle.difference.proofs.listing.put_place.Goals as goal
 
 pub returns-then-what-eq0 : goal.returns-then-what-eq0

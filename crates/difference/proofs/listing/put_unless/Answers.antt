@@ -1,6 +1,5 @@
 use Rattle.difference.specs.Filling.{put_unless}
 use mathlib.Core.Path.{refl, ◌∙◌}
-use borrow.Author.Rules.{rules}
 use Rattle.difference.proofs.listing.put_unless.Goals as goal
 
 pub returns-then-same : goal.returns-then-same

@@ -2,7 +2,6 @@ use Prim.Native.Nat.{ℕ, min}
 use mathlib.Core.Path.{ap₂}
 use Rattle.difference.proofs.MergeLaws.{walked}
 use lib.ListN.{length-replicate}
-use borrow.Author.Rules.{rules}
 use Rattle.difference.proofs.listing.tell_all.Goals as goal
 
 pub returns : goal.returns

@@ -1,13 +1,7 @@
-use borrow.Author.Rules.{rules}
 use Rattle.difference.proofs.MergeLaws.{told-there, merge-stop, merge_on, merge-end}
 use Rattle.levels.proofs.FrontsLaws.{least, front-told, past-told}
-use Rattle.difference.specs.Merge.{merged}
-use Rattle.levels.specs.Places.{entries}
-use Rattle.difference.specs.Filling.{filling, put_all}
-use lib.ListN.{length, drop}
-use Prim.Native.Nat.{◌-◌, ◌≤◌}
 use native.Mathlib.Omega.{arith}
-use mathlib.Core.Path.{◌≡◌, refl, sym, ◌∙◌}
+use mathlib.Core.Path.{sym, ◌∙◌}
 use Rattle.difference.proofs.listing.tell_level.Goals as goal
 
 pub shape_of-out-in_default : goal.shape_of-out-in_default

@@ -1,14 +1,9 @@
-use Rattle.difference.proofs.MergeLaws.{walk_end, walk-high, walk_on}
 use Rattle.difference.specs.Merge.{walk}
 use Rattle.difference.specs.Filling.{filling}
 use Rattle.levels.specs.Ordered.{holding}
-use lib.Seq.{length-take-le}
 use lib.ListN.{length}
-use Prim.Native.Nat.{◌-◌, ◌≤◌, min}
-use native.Mathlib.Nat.{sub-zero}
-use native.Mathlib.Omega.{arith}
-use mathlib.Core.Path.{◌≡◌, refl, sym, ap₂, ◌∙◌}
-use borrow.Author.Rules.{rules}
+use Prim.Native.Nat.{◌-◌, ◌≤◌}
+use mathlib.Core.Path.{◌≡◌}
 use Rattle.difference.proofs.listing.tell_levels.Given as goal
 
 abbrev pub invariant-loop-level : goal.invariant-loop-level

@@ -5,7 +5,6 @@ use Rattle.difference.specs.Listing.{side_word}
 use Rattle.format.specs.Parse.{pick}
 use mathlib.Core.Bool.{Bool}
 use mathlib.Core.Path.{refl, sym, ap, ◌∙◌}
-use borrow.Author.Rules.{rules}
 use Rattle.difference.proofs.listing.told.Goals as goal
 
 pub returns-then-equal : goal.returns-then-equal

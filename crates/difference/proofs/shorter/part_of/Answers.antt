@@ -1,6 +1,5 @@
 use mathlib.Core.Path.{refl}
 use Rattle.difference.specs.Shorter.{handed, choice_of}
-use borrow.Author.Rules.{rules}
 use Rattle.difference.proofs.shorter.part_of.Goals as goal
 
 pub returns-in-First : goal.returns-in-First

@@ -1,7 +1,6 @@
 use mathlib.Core.Path.{◌∙◌, ap}
 use Rattle.spv.specs.Result.{Result}
 use Rattle.difference.specs.Shorter.{Choice, handed, why_of}
-use borrow.Author.Rules.{rules}
 use Rattle.difference.proofs.shorter.shorter_proof.Goals as goal
 
 pub returns : goal.returns

@@ -1,9 +1,7 @@
 use mathlib.Core.Path.{◌∙◌, sym, ap}
-use borrow.Author.Tests.{not-true, not-false}
 use Rattle.spv.specs.Result.{refused}
 use Rattle.difference.specs.Shorter.{choice_of}
 use Rattle.difference.proofs.ShorterLaws.{first-refused, second-refused, two_roots, one-root}
-use borrow.Author.Rules.{rules}
 use Rattle.difference.proofs.shorter.weigh.Goals as goal
 
 pub returns-then-not-same_bytes : goal.returns-then-not-same_bytes

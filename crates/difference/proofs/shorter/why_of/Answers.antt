@@ -1,7 +1,6 @@
 use Rattle.difference.specs.Shorter.{choice_of, why_of}
 use mathlib.Core.Path.{refl}
 use native.Mathlib.Omega.{arith}
-use borrow.Author.Rules.{rules}
 use Rattle.difference.proofs.shorter.why_of.Goals as goal
 
 pub returns-in-First : goal.returns-in-First

@@ -1,14 +1,10 @@
 use lib.Seq.{length-take-le}
-use lib.ListN.{length}
 use native.Mathlib.Nat.{sub-zero}
-use Prim.Native.Nat.{◌-◌, ◌≤◌, min}
-use Rattle.levels.specs.Ordered.{holding}
-use Rattle.leaflist.specs.Rows.{filling, put_rows, listed_in}
+use Prim.Native.Nat.{min}
 use Rattle.leaflist.proofs.RowsLaws.{levels_on, levels-end}
 use Rattle.levels.proofs.OrderedLaws.{level-told}
-use mathlib.Core.Path.{◌≡◌, refl, sym, ap₂, ◌∙◌}
+use mathlib.Core.Path.{refl, sym, ap₂, ◌∙◌}
 use native.Mathlib.Omega.{arith}
-use borrow.Author.Rules.{rules}
 use Rattle.leaflist.proofs.building.put_levels.Goals as goal
 
 pub loop-level-init : goal.loop-level-init
@@ -26,8 +22,7 @@ slice_bounds-put_rows-end-in-loop-level c =
 
 pub loop-level-preserved : goal.loop-level-preserved
 loop-level-preserved c =
-    let x = level-told _ _ _ _ _ c.order_level-g.ensures (omega arith) in
-    (
+    let x = level-told _ _ _ _ _ c.order_level-g.ensures (omega arith) in (
       c.loop-level.invariant.0 ∙ levels_on _ _ _ _ _ _ c.loop-level-test.true (ap₂ min c.loop-level.invariant.3 c.loop-level.invariant.4) x.0 x.1 c.put_rows-at.ensures,
       omega (arith, c.loop-level-test.true),
       c.put_rows-at.auto.out ∙ c.loop-level.invariant.2,

@@ -1,14 +1,8 @@
-use lib.Seq.{length-take-le}
 use lib.ListN.{length}
-use native.Mathlib.Nat.{sub-zero}
-use Prim.Native.Nat.{◌-◌, ◌≤◌, min}
+use Prim.Native.Nat.{◌-◌, ◌≤◌}
 use Rattle.levels.specs.Ordered.{holding}
 use Rattle.leaflist.specs.Rows.{filling, put_rows, listed_in}
-use Rattle.leaflist.proofs.RowsLaws.{levels_on, levels-end}
-use Rattle.levels.proofs.OrderedLaws.{level-told}
-use mathlib.Core.Path.{◌≡◌, refl, sym, ap₂, ◌∙◌}
-use native.Mathlib.Omega.{arith}
-use borrow.Author.Rules.{rules}
+use mathlib.Core.Path.{◌≡◌}
 use Rattle.leaflist.proofs.building.put_levels.Given as goal
 
 abbrev pub invariant-loop-level : goal.invariant-loop-level

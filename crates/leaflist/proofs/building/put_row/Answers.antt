@@ -1,9 +1,6 @@
-use lib.ListN.{length-set}
 use Rattle.leaflist.specs.Rows.{store}
 use Rattle.leaflist.proofs.RowsLaws.{row_full, row_put}
 use mathlib.Core.Path.{sym}
-use native.Mathlib.Omega.{arith}
-use borrow.Author.Rules.{rules}
 use Rattle.leaflist.proofs.building.put_row.Goals as goal
 
 pub returns-then-out-at : goal.returns-then-out-at

@@ -3,10 +3,7 @@ use Prim.Native.Nat.{◌-◌, ◌≤◌}
 use mathlib.Core.List.{map}
 use Rattle.leaflist.specs.Rows.{filling, put_rows}
 use Rattle.leaflist.specs.LeafList.{row_at}
-use Rattle.leaflist.proofs.RowsLaws.{rows_on, rows_end}
-use mathlib.Core.Path.{◌≡◌, refl, sym, ◌∙◌}
-use native.Mathlib.Omega.{arith}
-use borrow.Author.Rules.{rules}
+use mathlib.Core.Path.{◌≡◌}
 use Rattle.leaflist.proofs.building.put_rows.Given as goal
 
 abbrev pub invariant-loop-i : goal.invariant-loop-i

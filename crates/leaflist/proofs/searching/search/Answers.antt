@@ -1,9 +1,6 @@
-use Rattle.leaflist.proofs.SearchLaws.{Narrowed, narrow_start, narrow-up, narrow-down, narrow-here, narrow-end}
-use Prim.Native.Nat.{◌-◌, ◌≤◌, ◌/◌}
-use lib.ListN.{length}
+use Rattle.leaflist.proofs.SearchLaws.{narrow_start, narrow-up, narrow-down, narrow-here, narrow-end}
 use native.Mathlib.Omega.{arith}
 use mathlib.Core.Path.{sym, ◌∙◌}
-use borrow.Author.Rules.{rules}
 use Rattle.leaflist.proofs.searching.search.Goals as goal
 
 pub loop-low-init : goal.loop-low-init
@@ -13,11 +10,10 @@ pub loop-low-preserved-in-Before : goal.loop-low-preserved-in-Before
 loop-low-preserved-in-Before c = (narrow-up _ _ _ _ _ _ c.loop-low.invariant.0 (omega arith) (sym c.compare-side.ensures ∙ c.in-Before.is), c.loop-low.invariant.1)
 
 pub loop-low-preserved : goal.loop-low-preserved
-loop-low-preserved c =
-    (
-      narrow-down _ _ _ _ _ _ c.loop-low.invariant.0 (omega arith) (sym c.compare-side.ensures ∙ c.in-Behind.is),
-      omega arith,
-    )
+loop-low-preserved c = (
+  narrow-down _ _ _ _ _ _ c.loop-low.invariant.0 (omega arith) (sym c.compare-side.ensures ∙ c.in-Behind.is),
+  omega arith,
+)
 
 pub returns-in-Here : goal.returns-in-Here
 returns-in-Here c = narrow-here _ _ _ _ (omega arith) (sym c.compare-side.ensures ∙ c.in-Here.is)

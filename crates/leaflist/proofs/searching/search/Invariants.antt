@@ -1,9 +1,6 @@
-use Rattle.leaflist.proofs.SearchLaws.{Narrowed, narrow_start, narrow-up, narrow-down, narrow-here, narrow-end}
+use Rattle.leaflist.proofs.SearchLaws.{Narrowed}
 use Prim.Native.Nat.{◌-◌, ◌≤◌, ◌/◌}
 use lib.ListN.{length}
-use native.Mathlib.Omega.{arith}
-use mathlib.Core.Path.{sym, ◌∙◌}
-use borrow.Author.Rules.{rules}
 use Rattle.leaflist.proofs.searching.search.Given as goal
 
 abbrev pub invariant-loop-low : goal.invariant-loop-low

@@ -6,7 +6,6 @@ use mathlib.Core.Bool.{Bool, ◌||◌}
 use Rattle.merging.proofs.LevelsLaws.{added_size, tally_counts, tally_sizes, tally_clashes, over_test}
 use mathlib.Core.Path.{ap, ◌∙◌}
 use native.Mathlib.Omega.{arith}
-use borrow.Author.Rules.{rules}
 use Rattle.merging.specs.Levels.{Added}
 use Rattle.merging.proofs.joining.add_level.Goals as goal
 

@@ -1,6 +1,5 @@
 use Rattle.merging.proofs.LevelsLaws.{wrote_level, tally_counts}
 use mathlib.Core.Path.{◌∙◌}
-use borrow.Author.Rules.{rules}
 use Rattle.merging.proofs.joining.put_level.Goals as goal
 
 pub shape_of-out : goal.shape_of-out

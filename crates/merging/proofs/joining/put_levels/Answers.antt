@@ -1,17 +1,15 @@
 use lib.Seq.{length-take-le}
-use lib.ListN.{length}
 use native.Mathlib.Nat.{sub-zero}
-use Prim.Native.Nat.{◌-◌, ◌≤◌, min}
+use Prim.Native.Nat.{min}
 use mathlib.Core.List.{List}
 use Rattle.encoding.specs.Buffer.{buffer, write_on}
 use Rattle.encoding.specs.Encode.{encode_all}
 use Rattle.merging.specs.Merging.{Spot}
-use Rattle.merging.specs.Levels.{walk_levels, level_text}
+use Rattle.merging.specs.Levels.{level_text}
 use Rattle.merging.proofs.LevelsLaws.{levels-end, levels_on, write-level, write-levels-end}
 use Rattle.levels.proofs.OrderedLaws.{level-told}
-use mathlib.Core.Path.{◌≡◌, refl, sym, ap, ap₂, ◌∙◌}
+use mathlib.Core.Path.{refl, sym, ap, ap₂, ◌∙◌}
 use native.Mathlib.Omega.{arith}
-use borrow.Author.Rules.{rules}
 use Rattle.merging.proofs.joining.put_levels.Goals as goal
 
 pub loop-level-init : goal.loop-level-init

@@ -1,17 +1,9 @@
-use lib.Seq.{length-take-le}
 use lib.ListN.{length}
-use native.Mathlib.Nat.{sub-zero}
-use Prim.Native.Nat.{◌-◌, ◌≤◌, min}
-use mathlib.Core.List.{List}
+use Prim.Native.Nat.{◌-◌, ◌≤◌}
 use Rattle.encoding.specs.Buffer.{buffer, write_on}
 use Rattle.encoding.specs.Encode.{encode_all}
-use Rattle.merging.specs.Merging.{Spot}
 use Rattle.merging.specs.Levels.{walk_levels, level_text}
-use Rattle.merging.proofs.LevelsLaws.{levels-end, levels_on, write-level, write-levels-end}
-use Rattle.levels.proofs.OrderedLaws.{level-told}
-use mathlib.Core.Path.{◌≡◌, refl, sym, ap, ap₂, ◌∙◌}
-use native.Mathlib.Omega.{arith}
-use borrow.Author.Rules.{rules}
+use mathlib.Core.Path.{◌≡◌}
 use Rattle.merging.proofs.joining.put_levels.Given as goal
 
 abbrev pub invariant-loop-level : goal.invariant-loop-level

@@ -1,13 +1,10 @@
 use lib.Seq.{length-take-le}
-use lib.ListN.{length}
 use native.Mathlib.Nat.{sub-zero}
-use Prim.Native.Nat.{◌-◌, ◌*◌, ◌≤◌, min}
-use Rattle.merging.specs.Levels.{walk_levels}
-use Rattle.merging.proofs.LevelsLaws.{Summing, sum-start, sum_on, sum-end, levels-end, levels_on}
+use Prim.Native.Nat.{min}
+use Rattle.merging.proofs.LevelsLaws.{sum-start, sum_on, sum-end, levels-end, levels_on}
 use Rattle.levels.proofs.OrderedLaws.{level-told}
-use mathlib.Core.Path.{◌≡◌, sym, ap₂, ◌∙◌}
+use mathlib.Core.Path.{sym, ap₂, ◌∙◌}
 use native.Mathlib.Omega.{arith}
-use borrow.Author.Rules.{rules}
 use Rattle.merging.proofs.joining.tally_levels.Goals as goal
 
 pub loop-level-init : goal.loop-level-init

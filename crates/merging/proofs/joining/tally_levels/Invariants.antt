@@ -1,13 +1,8 @@
-use lib.Seq.{length-take-le}
 use lib.ListN.{length}
-use native.Mathlib.Nat.{sub-zero}
-use Prim.Native.Nat.{◌-◌, ◌*◌, ◌≤◌, min}
+use Prim.Native.Nat.{◌-◌, ◌*◌, ◌≤◌}
 use Rattle.merging.specs.Levels.{walk_levels}
-use Rattle.merging.proofs.LevelsLaws.{Summing, sum-start, sum_on, sum-end, levels-end, levels_on}
-use Rattle.levels.proofs.OrderedLaws.{level-told}
-use mathlib.Core.Path.{◌≡◌, sym, ap₂, ◌∙◌}
-use native.Mathlib.Omega.{arith}
-use borrow.Author.Rules.{rules}
+use Rattle.merging.proofs.LevelsLaws.{Summing}
+use mathlib.Core.Path.{◌≡◌}
 use Rattle.merging.proofs.joining.tally_levels.Given as goal
 
 abbrev pub invariant-loop-level : goal.invariant-loop-level

@@ -1,6 +1,5 @@
 use Rattle.merging.proofs.MergeLaws.{other_block, other-height, same_heights}
 use mathlib.Core.Path.{◌∙◌}
-use borrow.Author.Rules.{rules}
 use Rattle.merging.proofs.merging.alike.Goals as goal
 
 pub returns-then-x-y : goal.returns-then-x-y

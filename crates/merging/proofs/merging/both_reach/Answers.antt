@@ -1,5 +1,3 @@
-use borrow.Author.Rules.{rules}
-use borrow.Author.Tests.{not-true, not-false}
 use Rattle.merging.proofs.MergeLaws.{reach-none, reach_then}
 use Rattle.merging.proofs.merging.both_reach.Goals as goal
 

@@ -1,6 +1,5 @@
 use mathlib.Core.Path.{refl}
 use Rattle.encoding.proofs.BufferLaws.{wrote_then, write_cons}
-use borrow.Author.Rules.{rules}
 use Rattle.merging.proofs.merging.put_path.Goals as goal
 
 pub returns : goal.returns

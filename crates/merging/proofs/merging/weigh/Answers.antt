@@ -1,9 +1,7 @@
 use Rattle.merging.proofs.MergeLaws.{agreed-low, unlike, too_many, two-hashes, other-root, bytes_over, list_over, both_fit, told-refused}
 use Rattle.encoding.proofs.VarintEncoding.{varint-length}
-use borrow.Author.Tests.{not-true, not-false}
 use native.Mathlib.Omega.{arith}
 use mathlib.Core.Path.{sym, ◌∙◌}
-use borrow.Author.Rules.{rules}
 use Rattle.merging.proofs.merging.weigh.Goals as goal
 
 pub returns-then-not-alike : goal.returns-then-not-alike

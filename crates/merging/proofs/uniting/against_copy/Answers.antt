@@ -2,7 +2,6 @@ use Rattle.levels.specs.Fronts.{standing_of}
 use Rattle.merging.specs.Merging.{has_hash}
 use Rattle.merging.proofs.ChoiceLaws.{picked_first, picked-second, picked_none}
 use mathlib.Core.Path.{sym, ◌∙◌}
-use borrow.Author.Rules.{rules}
 use Rattle.merging.proofs.uniting.against_copy.Goals as goal
 
 pub returns-then-has_hash : goal.returns-then-has_hash

@@ -6,12 +6,10 @@ use Rattle.merging.specs.declared.uniting.Choice.TheVariants.{First, Second, Cla
 use Rattle.merging.specs.Walk.{kept_by}
 use Rattle.merging.specs.Merging.{has_hash}
 use Rattle.levels.specs.Fronts.{standing_of}
-use borrow.Author.Tests.{not-true, not-false}
 use mathlib.Core.Bool.{◌||◌}
 use mathlib.Core.Path.{ap₂, sym, ap, ◌∙◌}
 use Rattle.merging.proofs.ChoiceLaws.{two_copies, copy-hash, hash-against, two-hashes, second_wins, first_stays}
 use native.Mathlib.Omega.{arith}
-use borrow.Author.Rules.{rules}
 use Rattle.merging.proofs.uniting.agree.Goals as goal
 
 pub returns-then-flags_of-eq1-2 : goal.returns-then-flags_of-eq1-2

@@ -1,7 +1,6 @@
 use Rattle.merging.specs.Walk.{kept_by, kept_at}
 use Rattle.levels.specs.Fronts.{standing_of}
 use mathlib.Core.Path.{refl}
-use borrow.Author.Rules.{rules}
 use Rattle.merging.proofs.uniting.choose.Goals as goal
 
 pub returns-in-Nothing-w : goal.returns-in-Nothing-w

@@ -1,7 +1,6 @@
 use Rattle.merging.specs.Walk.{kept_by}
 use Rattle.merging.proofs.TallyLaws.{clash_now, clash-before}
 use mathlib.Core.Path.{ap}
-use borrow.Author.Rules.{rules}
 use Rattle.merging.proofs.uniting.clashes_with.Goals as goal
 
 pub returns-in-Clash : goal.returns-in-Clash

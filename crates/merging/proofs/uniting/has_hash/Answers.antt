@@ -6,7 +6,6 @@ use Rattle.levels.specs.Fronts.{standing_of}
 use Rattle.levels.specs.declared.level.Spot.{Spot}
 use Rattle.merging.proofs.ChoiceLaws.{hash-copy, hash-written}
 use mathlib.Core.Path.{sym, ap, ◌∙◌}
-use borrow.Author.Rules.{rules}
 use Rattle.merging.proofs.uniting.has_hash.Goals as goal
 
 pub returns-then-flags_of-eq1 : goal.returns-then-flags_of-eq1

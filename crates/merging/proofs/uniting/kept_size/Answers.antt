@@ -3,7 +3,6 @@ use Rattle.merging.specs.Walk.{kept_by}
 use Rattle.merging.proofs.TallyLaws.{size-kept, size-clash, size_is}
 use mathlib.Core.Path.{ap}
 use native.Mathlib.Omega.{arith}
-use borrow.Author.Rules.{rules}
 use Rattle.merging.proofs.uniting.kept_size.Goals as goal
 
 pub overflow_add-result : goal.overflow_add-result

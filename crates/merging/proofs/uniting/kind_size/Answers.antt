@@ -1,7 +1,6 @@
 use Rattle.merging.proofs.TallyLaws.{size-copy, size-hash}
 use mathlib.Core.Path.{sym, ◌∙◌}
 use native.Mathlib.Omega.{arith}
-use borrow.Author.Rules.{rules}
 use Rattle.merging.proofs.uniting.kind_size.Goals as goal
 
 pub returns-then-flags_of-eq1 : goal.returns-then-flags_of-eq1

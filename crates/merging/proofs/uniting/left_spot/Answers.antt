@@ -1,5 +1,4 @@
 use Rattle.merging.proofs.ChoiceLaws.{left-first, left_other, left_there}
-use borrow.Author.Rules.{rules}
 use Rattle.merging.proofs.uniting.left_spot.Goals as goal
 
 pub returns-then-offset-eq0 : goal.returns-then-offset-eq0

@@ -1,7 +1,6 @@
 use Rattle.merging.specs.Walk.{kept_by}
 use Rattle.merging.proofs.TallyLaws.{wrote_kept, wrote_none}
 use mathlib.Core.Path.{ap, ◌∙◌}
-use borrow.Author.Rules.{rules}
 use Rattle.merging.proofs.uniting.put_kept.Goals as goal
 
 pub returns-in-Clash : goal.returns-in-Clash

@@ -1,7 +1,6 @@
 use Rattle.encoding.proofs.BufferLaws.{wrote_byte}
 use Rattle.merging.proofs.TallyLaws.{wrote_hash, plain-bytes, client-bytes, copy-bytes}
 use mathlib.Core.Path.{◌∙◌}
-use borrow.Author.Rules.{rules}
 use Rattle.merging.proofs.uniting.put_kind.Goals as goal
 
 pub shape_of-out-in-Plain : goal.shape_of-out-in-Plain

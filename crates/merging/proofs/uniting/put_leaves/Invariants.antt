@@ -1,21 +1,14 @@
 use lib.ListN.{length, drop}
 use Prim.Native.Nat.{◌-◌, ◌≤◌}
-use mathlib.Core.Path.{ap₂, ◌≡◌, refl, sym, ap, ◌∙◌}
-use mathlib.Core.List.{List}
-use Rattle.merging.specs.Merging as M
-use Rattle.levels.proofs.FrontsLaws.{least, front-told, past-told}
+use mathlib.Core.Path.{◌≡◌}
 use Rattle.levels.specs.Fronts.{standing_of}
 use Rattle.levels.specs.Places.{entries}
-use Rattle.levels.specs.Standing.{Standing, nothing}
+use Rattle.levels.specs.Standing.{nothing}
 use Rattle.encoding.specs.BumpBytes.{entry_bytes}
 use Rattle.encoding.specs.Buffer.{buffer, write_on}
 use Rattle.encoding.specs.Encode.{encode_all}
 use Rattle.merging.specs.Merging.{kept_of}
-use Rattle.merging.proofs.ChoiceLaws.{left-standing}
-use Rattle.merging.specs.Walk.{walk_spots, kept_at}
-use Rattle.merging.proofs.TallyLaws.{spots-end, spots-stop, spots_on, write-spot, write_last}
-use native.Mathlib.Omega.{arith}
-use borrow.Author.Rules.{rules}
+use Rattle.merging.specs.Walk.{walk_spots}
 use Rattle.merging.proofs.uniting.put_leaves.Given as goal
 
 abbrev pub invariant-loop-turn : goal.invariant-loop-turn

@@ -1,16 +1,11 @@
-use lib.ListN.{drop}
-use Prim.Native.Nat.{◌-◌, ◌*◌, ◌≤◌}
 use mathlib.Core.Path.{ap₂, ap, ◌∙◌}
-use Rattle.merging.specs.Merging as M
 use Rattle.levels.proofs.FrontsLaws.{least, front-told, past-told}
 use Rattle.levels.specs.Fronts.{standing_of}
-use Rattle.levels.specs.Places.{entries}
-use Rattle.levels.specs.Standing.{Standing, nothing}
+use Rattle.levels.specs.Standing.{Standing}
 use Rattle.merging.proofs.ChoiceLaws.{left-standing}
-use Rattle.merging.specs.Walk.{walk_spots, kept_at}
-use Rattle.merging.proofs.TallyLaws.{spots-end, spots-stop, spots_on, Tallying, tally_start, tally_on, tally_end}
+use Rattle.merging.specs.Walk.{kept_at}
+use Rattle.merging.proofs.TallyLaws.{spots-end, spots-stop, spots_on, tally_start, tally_on, tally_end}
 use native.Mathlib.Omega.{arith}
-use borrow.Author.Rules.{rules}
 use Rattle.merging.proofs.uniting.tally_level.Goals as goal
 
 pub loop-turn-init : goal.loop-turn-init
@@ -19,8 +14,7 @@ loop-turn-init c = (tally_start _, omega arith, omega arith, omega arith)
 
 pub returns-in_default : goal.returns-in_default
 returns-in_default c =
-    let next = least _ _ c.next_offset.ensures c.next_offset-in-loop-turn.ensures c.lesser-next.ensures c.in_default.is in
-    (
+    let next = least _ _ c.next_offset.ensures c.next_offset-in-loop-turn.ensures c.lesser-next.ensures c.in_default.is in (
       tally_end _ _ _ c.loop-turn.invariant.0 (spots-stop _ _ _ _ _ _ _ c.loop-turn-test.true next),
       omega (arith, c.loop-turn.invariant.1, c.loop-turn.invariant.2),
       omega (arith, c.loop-turn.invariant.1, c.loop-turn.invariant.3),

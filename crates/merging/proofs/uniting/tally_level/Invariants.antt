@@ -1,16 +1,10 @@
 use lib.ListN.{drop}
 use Prim.Native.Nat.{◌-◌, ◌*◌, ◌≤◌}
-use mathlib.Core.Path.{ap₂, ap, ◌∙◌}
-use Rattle.merging.specs.Merging as M
-use Rattle.levels.proofs.FrontsLaws.{least, front-told, past-told}
 use Rattle.levels.specs.Fronts.{standing_of}
 use Rattle.levels.specs.Places.{entries}
-use Rattle.levels.specs.Standing.{Standing, nothing}
-use Rattle.merging.proofs.ChoiceLaws.{left-standing}
-use Rattle.merging.specs.Walk.{walk_spots, kept_at}
-use Rattle.merging.proofs.TallyLaws.{spots-end, spots-stop, spots_on, Tallying, tally_start, tally_on, tally_end}
-use native.Mathlib.Omega.{arith}
-use borrow.Author.Rules.{rules}
+use Rattle.levels.specs.Standing.{nothing}
+use Rattle.merging.specs.Walk.{walk_spots}
+use Rattle.merging.proofs.TallyLaws.{Tallying}
 use Rattle.merging.proofs.uniting.tally_level.Given as goal
 
 abbrev pub invariant-loop-turn : goal.invariant-loop-turn
