@@ -1,6 +1,6 @@
 -- The joins of the pass, by what it does at a node: a visit with these rows under the node makes so many, whatever they wait for. A row is told by the
 -- layers that it has tried before, each with one join.
-use Rattle.std.proofs.Common.{◌≡◌, ℕ, suc, ◌+◌, ◌*◌, ◌≤◌, Bool, true, false, not, ◌&&◌, leb, List, [], ◌∷◌, ◌++◌, get_or}
+use Rattle.std.proofs.Common.{◌≡◌, ℕ, suc, ◌+◌, ◌*◌, ◌≤◌, Bool, false, not, ◌&&◌, leb, List, [], ◌∷◌, ◌++◌, get_or}
 use Rattle.spv.specs.Climb.{Siblings}
 use Rattle.spv.specs.Values.{has_value, join_of}
 use Rattle.spv.specs.Joins.{one}

@@ -1,5 +1,5 @@
 -- The pass makes at most one join for each row and layer, one for each layer, and one for each leaf.
-use Rattle.std.proofs.Common.{◌≡◌, ℕ, zero, suc, ◌+◌, ◌-◌, ◌*◌, ◌≤◌, Bool, true, false, ◌&&◌, leb, List, [], ◌∷◌, ◌++◌, length, get_or, refl, ap, ◌∙◌, suc-mul, add-mul, zero-mul, arith, leb-false, leb-true}
+use Rattle.std.proofs.Common.{◌≡◌, ℕ, suc, ◌+◌, ◌-◌, ◌*◌, ◌≤◌, Bool, true, false, ◌&&◌, leb, List, [], ◌∷◌, ◌++◌, length, get_or, refl, ap, ◌∙◌, suc-mul, add-mul, zero-mul, arith, leb-false, leb-true}
 use Rattle.format.specs.declared.leaf.Leaf.{Leaf}
 use Rattle.spv.specs.Climb.{Sibling, value, copied, absent, Siblings}
 use Rattle.spv.specs.Values.{has_value, value_by, value_of, join_of}

@@ -1,12 +1,11 @@
 -- Laws of what is looked up in one path, and in two between them.
-use Rattle.std.proofs.Common.{◌≡◌, ℕ, ◌<◌, ◌≤◌, Bool, true, false, ltb, List, length, get_or, sym, refl, ap, ◌∙◌, ap₂, arith, le-ltb, lt-ltb}
+use Rattle.std.proofs.Common.{◌≡◌, ℕ, ◌<◌, ◌≤◌, Bool, true, false, ltb, List, length, sym, refl, ap, ◌∙◌, ap₂, arith, le-ltb, lt-ltb}
 use mathlib.Core.Path.{fun_ext}
 use mathlib.Core.Bool.{false≢true}
 use Rattle.format.specs.Parse.{pick}
 use Rattle.format.specs.declared.level.Layout.{Layout}
-use Rattle.path.specs.Search.{leaf_of_level}
-use Rattle.spv.specs.Climb.{Sibling, value, copied, absent, Siblings}
-use Rattle.spv.specs.Siblings.{sibling, written_by, find_at}
+use Rattle.spv.specs.Climb.{Sibling, value, copied, absent}
+use Rattle.spv.specs.Siblings.{written_by, find_at}
 use Rattle.spv.specs.Values.{has_value}
 use Rattle.climbs.specs.LookUp.{prefer, looked_up}
 

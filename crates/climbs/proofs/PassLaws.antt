@@ -10,13 +10,12 @@ use Rattle.spv.specs.Climb.{Sibling, value, copied, absent, Siblings, sibling_po
 use Rattle.spv.proofs.ClimbLaws.{sibling-odd, sibling-even}
 use Rattle.spv.specs.Values.{has_value, value_by, join_both, join_of, value_of, worked_out}
 use Rattle.spv.proofs.ValuesLaws.{join-two, both_left}
-use Rattle.spv.specs.Siblings.{written, sibling, written_by}
+use Rattle.spv.specs.Siblings.{written, sibling}
 use Rattle.hash.specs.Sha256.{sha256d}
 use Rattle.hash.proofs.Sha256Laws.{sha256d-length}
 use Rattle.format.specs.Bytes.{hash_at}
 use Rattle.spv.specs.Climb.{odd, step}
 use Rattle.spv.specs.Shapes.{sibling_by, sibling_of, joined_of}
-use Rattle.spv.proofs.ShapesLaws.{sibling-node}
 use Rattle.spv.specs.declared.climb.Joined.{Joined}
 use Rattle.spv.specs.declared.node.Node.{Node}
 use Rattle.spv.specs.declared.node.NodeKind.TheVariants.{Value, Copied, Absent}

@@ -1,8 +1,8 @@
 -- Laws of the check that all clients of a level climb to one root.
-use Rattle.std.proofs.Common.{◌≡◌, ℕ, ◌≤◌, Bool, true, false, ◌&&◌, leb, List, sym, refl, ap, ◌∙◌, arith, leb-true}
+use Rattle.std.proofs.Common.{◌≡◌, ℕ, true, false, ◌&&◌, leb, List, refl, arith, leb-true}
 use mathlib.Core.Bool.{false≢true}
 use Rattle.format.proofs.Basics.{and-true}
-use Rattle.format.specs.Parse.{ok, fault, otherwise}
+use Rattle.format.specs.Parse.{ok, fault}
 use Rattle.format.specs.Field.{varint}
 use Rattle.path.specs.declared.path.Form.{Form}
 use Rattle.path.specs.declared.path.Path.{Path}

@@ -1,5 +1,5 @@
 -- Laws of climbs in rows: one layer more leads where the row led, and at the end a row has come there.
-use Rattle.std.proofs.Common.{◌≡◌, ℕ, zero, suc, ◌+◌, ◌-◌, ◌*◌, ◌/◌, ◌%◌, ◌^◌, ◌<◌, ◌≤◌, Bool, true, false, eqb, ltb, List, ◌++◌, length, get_or, set, sym, refl, ap, ◌∙◌, le_trans, le_refl, div-one, arith, length-set, get_or-set_other, get_or-set_same, shr-shr, ltb-false, ltb-true, le-ltb, lt-ltb, eq-eqb, ne_eqb, eqb-true}
+use Rattle.std.proofs.Common.{◌≡◌, ℕ, ◌+◌, ◌-◌, ◌*◌, ◌/◌, ◌%◌, ◌^◌, ◌<◌, ◌≤◌, Bool, true, false, eqb, ltb, List, ◌++◌, length, get_or, set, sym, refl, ap, ◌∙◌, le_trans, le_refl, div-one, arith, get_or-set_other, get_or-set_same, shr-shr, le-ltb, lt-ltb, eq-eqb, ne_eqb, eqb-true}
 use native.Mathlib.Nat.{sub-zero}
 use borrow.Author.Tests.{eqb-false}
 use Rattle.hash.specs.Sha256.{sha256d}
@@ -7,8 +7,8 @@ use Rattle.format.specs.Bytes.{same, set_hash, hash_at}
 use Rattle.format.proofs.BytesLaws.{set-inside}
 use Rattle.format.specs.Parse.{pick}
 use Rattle.format.specs.Refusals.{NOT_LISTED, MISSING, TWIN}
-use Rattle.spv.specs.Result.{Result, accepted, refused, carrying, at_sibling}
-use Rattle.spv.specs.Climb.{Sibling, value, copied, absent, Siblings, sibling_position, odd, Step, joins, fails, joined, step, top, ascend, end_by, end_of}
+use Rattle.spv.specs.Result.{carrying, at_sibling}
+use Rattle.spv.specs.Climb.{Sibling, value, copied, absent, Siblings, sibling_position, odd, Step, joins, fails, joined, step, ascend, end_by, end_of}
 use Rattle.spv.proofs.ClimbLaws.{turn-joins, turn-fails, turn-none}
 use Rattle.spv.specs.Shapes.{joined_of}
 use Rattle.spv.proofs.ShapesLaws.{told-joins, told-fails}
@@ -16,7 +16,7 @@ use Rattle.spv.proofs.Stored.{stored_here, stored_other}
 use Rattle.spv.specs.declared.climb.StepKind.{StepKind}
 use Rattle.spv.specs.declared.climb.StepKind.TheVariants.{Joins, Fails}
 use Rattle.spv.specs.declared.climb.Joined.{Joined}
-use Rattle.climbs.specs.Row.{number_of, sibling_at, refusal_of, leads, leads_at, came, came_at, state_by, hashes_by, states_after, hashes_after, Moved}
+use Rattle.climbs.specs.Row.{number_of, sibling_at, refusal_of, leads, leads_at, came, state_by, hashes_by, states_after, hashes_after, Moved}
 
 -- ---- one row
 

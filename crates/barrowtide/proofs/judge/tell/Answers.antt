@@ -6,8 +6,7 @@ use borrow.Author.Rules.{rules}
 use Rattle.barrowtide.proofs.judge.tell.Goals as goal
 
 pub returns-in-Accepted : goal.returns-in-Accepted
-returns-in-Accepted c =
-    (
+returns-in-Accepted c = (
   refl,
   λ v h.
       let t = verdict_accepted v _ (sym c.in-Accepted.is ∙ h) in
@@ -16,8 +15,7 @@ returns-in-Accepted c =
 )
 
 pub returns-in-Refused : goal.returns-in-Refused
-returns-in-Refused c =
-    (
+returns-in-Refused c = (
   refl,
   λ v h.
       let e = verdict_refused v _ (sym c.in-Refused.is ∙ h) in

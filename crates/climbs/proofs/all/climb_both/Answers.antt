@@ -1,4 +1,4 @@
-use Rattle.std.proofs.Common.{◌∙◌, arith, rules}
+use Rattle.std.proofs.Common.{◌∙◌, arith}
 use Rattle.climbs.proofs.RowLaws.{moved_on}
 use Rattle.climbs.proofs.SpentLaws.{spent_on, all_settled}
 use Rattle.climbs.proofs.OrderLaws.{placed-rows, placed-sorted}

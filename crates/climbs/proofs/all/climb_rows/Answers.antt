@@ -1,4 +1,4 @@
-use Rattle.std.proofs.Common.{subst, arith, rules}
+use Rattle.std.proofs.Common.{subst, arith}
 use Rattle.spv.specs.Climb.{Siblings}
 use Rattle.spv.specs.Values.{worked_out}
 use Rattle.climbs.specs.Spent.{Settled}

@@ -1,9 +1,6 @@
-use Rattle.std.proofs.Common.{◌≡◌, ◌-◌, ◌^◌, ◌<◌, ◌≤◌, length, get_or, sym, refl, ◌∙◌, subst, arith, rules}
-use Rattle.climbs.specs.LookUp.{looked_up}
-use Rattle.spv.specs.Values.{worked_out}
+use Rattle.std.proofs.Common.{◌^◌, ◌<◌, get_or, sym, refl, ◌∙◌, subst, arith, rules}
 use Rattle.spv.specs.PositionFits.{PositionFits}
-use Rattle.climbs.specs.Row.{Rows, Moved, Reached}
-use Rattle.climbs.specs.Spent.{Spent}
+use Rattle.climbs.specs.Row.{Rows}
 use Rattle.climbs.proofs.RowLaws.{moved_none, moved_on}
 use Rattle.climbs.proofs.SpentLaws.{spent-none, spent_on}
 use Rattle.climbs.proofs.PassLaws.{reached-none, reached-both, reached-grows}

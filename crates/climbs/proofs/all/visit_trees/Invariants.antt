@@ -1,14 +1,8 @@
-use Rattle.std.proofs.Common.{◌≡◌, ◌-◌, ◌^◌, ◌<◌, ◌≤◌, length, get_or, sym, refl, ◌∙◌, subst, arith, rules}
+use Rattle.std.proofs.Common.{◌≡◌, ◌-◌, ◌≤◌, length}
 use Rattle.climbs.specs.LookUp.{looked_up}
 use Rattle.spv.specs.Values.{worked_out}
-use Rattle.spv.specs.PositionFits.{PositionFits}
-use Rattle.climbs.specs.Row.{Rows, Moved, Reached}
+use Rattle.climbs.specs.Row.{Moved, Reached}
 use Rattle.climbs.specs.Spent.{Spent}
-use Rattle.climbs.proofs.RowLaws.{moved_none, moved_on}
-use Rattle.climbs.proofs.SpentLaws.{spent-none, spent_on}
-use Rattle.climbs.proofs.PassLaws.{reached-none, reached-both, reached-grows}
-use Rattle.climbs.proofs.Visits.{setting_on}
-use Rattle.climbs.proofs.TogetherLaws.{low-above, spot_tree, tree_goes, reached-end}
 use Rattle.climbs.proofs.all.visit_trees.Given as goal
 
 abbrev pub invariant-loop-lo : goal.invariant-loop-lo

@@ -1,4 +1,4 @@
-use Rattle.std.proofs.Common.{sym, ap, ◌∙◌, rules}
+use Rattle.std.proofs.Common.{sym, ap, ◌∙◌}
 use Rattle.climbs.proofs.WaitingLaws.{levels-bump}
 use Rattle.path.specs.declared.path.Path.{Path}
 use Rattle.format.specs.declared.bump.BumpHead.{BumpHead}

@@ -1,4 +1,4 @@
-use Rattle.std.proofs.Common.{◌≡◌, ◌-◌, ◌<◌, length, refl, ap, ◌∙◌, arith, rules}
+use Rattle.std.proofs.Common.{refl, ap, ◌∙◌, arith}
 use Rattle.format.proofs.ParseLaws.{answered}
 use Rattle.path.specs.LeafAnswer.{leaf_of}
 use Rattle.format.specs.Refusals.{NOT_LISTED}
@@ -7,8 +7,7 @@ use Rattle.spv.specs.Values.{worked_out}
 use Rattle.climbs.specs.LookUp.{looked_up}
 use Rattle.spv.specs.Clients.{closing}
 use Rattle.climbs.specs.ClientsShapes.{want_says, checked_of}
-use Rattle.climbs.specs.Waiting.{rows_say}
-use Rattle.climbs.proofs.WaitingLaws.{lent_on, rows_none, rows-refused, Checking, checking-start, checking-end, checking_short, checking_halts, checking_goes}
+use Rattle.climbs.proofs.WaitingLaws.{lent_on, rows_none, rows-refused, checking-start, checking-end, checking_short, checking_halts, checking_goes}
 use Rattle.climbs.proofs.clients.check_each.Goals as goal
 
 pub loop-i-init : goal.loop-i-init

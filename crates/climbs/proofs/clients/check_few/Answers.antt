@@ -1,11 +1,8 @@
-use Rattle.std.proofs.Common.{◌-◌, ap, ◌∙◌, rules}
+use Rattle.std.proofs.Common.{ap, ◌∙◌}
 use Rattle.format.proofs.ParseLaws.{answered}
 use Rattle.path.specs.LeafAnswer.{leaf_of}
-use Rattle.spv.specs.Siblings.{path_siblings}
-use Rattle.climbs.specs.ClientsShapes.{want_says, checked_of}
-use Rattle.spv.specs.Result.{accepted}
-use Rattle.spv.specs.Prove.{any}
-use Rattle.climbs.proofs.WaitingLaws.{Checking, checking-start, checking-end, checking_short, checking_goes}
+use Rattle.climbs.specs.ClientsShapes.{checked_of}
+use Rattle.climbs.proofs.WaitingLaws.{checking-start, checking-end, checking_short, checking_goes}
 use Rattle.climbs.proofs.clients.check_few.Goals as goal
 
 pub loop-i-init : goal.loop-i-init

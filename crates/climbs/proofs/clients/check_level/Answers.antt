@@ -1,4 +1,4 @@
-use Rattle.std.proofs.Common.{sym, ap, ◌∙◌, rules}
+use Rattle.std.proofs.Common.{sym, ap, ◌∙◌}
 use Rattle.format.proofs.ParseLaws.{answered}
 use Rattle.format.specs.FieldAnswer.{number_of}
 use Rattle.climbs.proofs.ClientsLaws.{level_short, level-read}

@@ -1,4 +1,4 @@
-use Rattle.std.proofs.Common.{◌∙◌, arith, rules}
+use Rattle.std.proofs.Common.{◌∙◌, arith}
 use Rattle.climbs.proofs.WaitingLaws.{own_clients}
 use Rattle.climbs.proofs.clients.check_own.Goals as goal
 

@@ -1,5 +1,4 @@
-use Rattle.std.proofs.Common.{◌≡◌, ◌-◌, ◌≤◌, length, refl, ◌∙◌, arith, length-set, rules}
-use Rattle.climbs.specs.Begun.{First}
+use Rattle.std.proofs.Common.{refl, ◌∙◌, arith, length-set}
 use Rattle.climbs.proofs.ProofsLaws.{first-none, first_more, first-end}
 use Rattle.climbs.proofs.clients.clear.Goals as goal
 

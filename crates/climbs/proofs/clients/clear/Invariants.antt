@@ -1,6 +1,5 @@
-use Rattle.std.proofs.Common.{◌≡◌, ◌-◌, ◌≤◌, length, refl, ◌∙◌, arith, length-set, rules}
+use Rattle.std.proofs.Common.{◌≡◌, ◌-◌, ◌≤◌, length}
 use Rattle.climbs.specs.Begun.{First}
-use Rattle.climbs.proofs.ProofsLaws.{first-none, first_more, first-end}
 use Rattle.climbs.proofs.clients.clear.Given as goal
 
 abbrev pub invariant-loop-i : goal.invariant-loop-i

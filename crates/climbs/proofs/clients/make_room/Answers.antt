@@ -1,4 +1,4 @@
-use Rattle.std.proofs.Common.{◌∙◌, rules}
+use Rattle.std.proofs.Common.{◌∙◌}
 use Rattle.climbs.proofs.WaitingLaws.{rows_none}
 use Rattle.climbs.proofs.clients.make_room.Goals as goal
 

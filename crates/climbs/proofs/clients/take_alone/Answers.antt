@@ -1,4 +1,4 @@
-use Rattle.std.proofs.Common.{◌∙◌, rules}
+use Rattle.std.proofs.Common.{◌∙◌}
 use Rattle.climbs.specs.ClientsShapes.{want_says}
 use Rattle.climbs.proofs.WaitingLaws.{alone_client, leaf-plain, leaf-copy}
 use Rattle.climbs.proofs.clients.take_alone.Goals as goal

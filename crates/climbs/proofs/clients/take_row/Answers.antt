@@ -1,4 +1,4 @@
-use Rattle.std.proofs.Common.{ℕ, ◌+◌, List, set, ap, ◌∙◌, arith, rules}
+use Rattle.std.proofs.Common.{ℕ, ◌+◌, List, set, ap, ◌∙◌, arith}
 use Rattle.climbs.proofs.WaitingLaws.{leaf-plain, leaf-copy}
 use Rattle.climbs.specs.Waiting.{rows_say}
 use Rattle.climbs.proofs.WaitingLaws.{row-client}

@@ -1,7 +1,5 @@
-use Rattle.std.proofs.Common.{◌≡◌, ◌-◌, ◌≤◌, refl, ap, ◌∙◌, arith, rules}
-use Rattle.spv.specs.Result.{Result}
-use Rattle.spv.specs.Prove.{Target}
-use Rattle.climbs.specs.ClientsShapes.{want_says, end_says, pending}
+use Rattle.std.proofs.Common.{ap, ◌∙◌, arith}
+use Rattle.climbs.specs.ClientsShapes.{end_says}
 use Rattle.climbs.proofs.WaitingLaws.{pending_on, pending-none, pending-end, ends_said}
 use Rattle.climbs.specs.Row.{came_at}
 use Rattle.climbs.proofs.clients.want_rows.Goals as goal

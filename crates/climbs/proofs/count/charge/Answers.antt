@@ -1,4 +1,4 @@
-use Rattle.std.proofs.Common.{ℕ, ◌+◌, ◌%◌, get_or, sym, ap, ◌∙◌, arith, rules}
+use Rattle.std.proofs.Common.{ℕ, ◌+◌, ◌%◌, get_or, sym, ap, ◌∙◌, arith}
 use Rattle.climbs.specs.Spent.{U64}
 use Rattle.climbs.proofs.SpentLaws.{charge-none, charge_stays, charge-joins, charge-fails}
 use Rattle.climbs.proofs.count.charge.Goals as goal

@@ -1,4 +1,4 @@
-use Rattle.std.proofs.Common.{ℕ, ◌+◌, ◌%◌, Bool, sym, ap, ◌∙◌, rules}
+use Rattle.std.proofs.Common.{ℕ, ◌+◌, ◌%◌, Bool, sym, ap, ◌∙◌}
 use Rattle.format.specs.Parse.{pick}
 use Rattle.climbs.specs.Spent.{U64, joined_cost}
 use Rattle.climbs.proofs.count.join_cost.Goals as goal

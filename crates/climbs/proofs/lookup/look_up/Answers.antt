@@ -1,5 +1,4 @@
-use Rattle.std.proofs.Common.{sym, ◌∙◌, arith, rules}
-use borrow.Author.Tests.{not-true, not-false}
+use Rattle.std.proofs.Common.{sym, ◌∙◌, arith}
 use Rattle.climbs.proofs.LookUpLaws.{looked_alone, looked_first, looked_both}
 use Rattle.climbs.proofs.lookup.look_up.Goals as goal
 

@@ -1,4 +1,4 @@
-use Rattle.std.proofs.Common.{sym, ap, ◌∙◌, rules}
+use Rattle.std.proofs.Common.{sym, ap, ◌∙◌}
 use Rattle.spv.specs.Climb.{absent}
 use Rattle.spv.specs.Siblings.{sibling}
 use Rattle.spv.proofs.ShapesLaws.{node-says}

@@ -1,8 +1,7 @@
 use Rattle.climbs.proofs.LookUpLaws.{prefer-hash, prefer-value, prefer-copy, prefer-absent}
-use Rattle.spv.proofs.ShapesLaws.{is-value, is-copied, is-absent, node-says}
-use Rattle.spv.specs.Shapes.{sibling_of, sibling_by, node_of}
-use Rattle.spv.specs.Climb.{Sibling, value, copied, absent}
-use Rattle.std.proofs.Common.{◌≡◌, sym, refl, ap, ◌∙◌, arith, rules}
+use Rattle.spv.proofs.ShapesLaws.{is-value, is-copied, is-absent}
+use Rattle.spv.specs.Shapes.{sibling_of}
+use Rattle.std.proofs.Common.{sym, ◌∙◌}
 use Rattle.climbs.proofs.lookup.prefer.Goals as goal
 
 pub returns-then-has_value : goal.returns-then-has_value

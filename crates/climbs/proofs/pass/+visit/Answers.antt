@@ -1,4 +1,4 @@
-use Rattle.std.proofs.Common.{ℕ, ◌+◌, ◌-◌, ◌*◌, ◌<◌, refl, ◌∙◌, arith, rules}
+use Rattle.std.proofs.Common.{◌+◌, ◌-◌, ◌*◌, refl, ◌∙◌, arith}
 use Rattle.climbs.specs.LookUp.{looked_up}
 use Rattle.spv.specs.Values.{worked_out}
 use Rattle.spv.proofs.PositionFitsLaws.{low_right, low_fits}

@@ -1,5 +1,5 @@
-use Rattle.std.proofs.Common.{◌≡◌, ℕ, ◌-◌, ◌<◌, ◌≤◌, length, get_or, arith, rules}
-use Rattle.climbs.specs.Row.{Rows, Reached}
+use Rattle.std.proofs.Common.{◌≡◌, ℕ, ◌<◌, length, get_or, arith, rules}
+use Rattle.climbs.specs.Row.{Rows}
 use Rattle.climbs.proofs.PassLaws.{reached-none, reached-more, reached_less}
 use Rattle.climbs.proofs.pass.behind.Goals as goal
 

@@ -1,6 +1,5 @@
-use Rattle.std.proofs.Common.{◌≡◌, ℕ, ◌-◌, ◌<◌, ◌≤◌, length, get_or, arith, rules}
-use Rattle.climbs.specs.Row.{Rows, Reached}
-use Rattle.climbs.proofs.PassLaws.{reached-none, reached-more, reached_less}
+use Rattle.std.proofs.Common.{◌-◌}
+use Rattle.climbs.specs.Row.{Reached}
 use Rattle.climbs.proofs.pass.behind.Given as goal
 
 abbrev pub invariant-loop-i : goal.invariant-loop-i

@@ -1,4 +1,4 @@
-use Rattle.std.proofs.Common.{◌≡◌, ◌+◌, sym, ◌∙◌, arith, rules}
+use Rattle.std.proofs.Common.{sym, ◌∙◌, arith}
 use Rattle.climbs.proofs.PassLaws.{beside-left, beside_right, beside_neither}
 use Rattle.climbs.proofs.pass.beside.Goals as goal
 

@@ -1,4 +1,4 @@
-use Rattle.std.proofs.Common.{sym, ◌∙◌, rules}
+use Rattle.std.proofs.Common.{sym, ◌∙◌}
 use Rattle.spv.specs.Climb.{absent}
 use Rattle.spv.proofs.ShapesLaws.{node-says}
 use Rattle.climbs.proofs.PassLaws.{children-value, children-copied, children-absent}

@@ -1,4 +1,4 @@
-use Rattle.std.proofs.Common.{Bool, refl, ap, ◌∙◌, rules}
+use Rattle.std.proofs.Common.{Bool, refl, ap, ◌∙◌}
 use Rattle.climbs.specs.Spent.{joined_cost}
 use Rattle.climbs.proofs.pass.join_known.Goals as goal
 

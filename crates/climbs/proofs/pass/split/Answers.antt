@@ -1,5 +1,5 @@
-use Rattle.std.proofs.Common.{◌≡◌, ◌-◌, ◌<◌, ◌≤◌, length, get_or, sym, ◌∙◌, arith, rules}
-use Rattle.climbs.specs.Row.{Rows, Under}
+use Rattle.std.proofs.Common.{◌<◌, length, sym, ◌∙◌, arith, rules}
+use Rattle.climbs.specs.Row.{Rows}
 use Rattle.climbs.proofs.PassLaws.{under_none, under_more}
 use Rattle.climbs.proofs.pass.split.Goals as goal
 

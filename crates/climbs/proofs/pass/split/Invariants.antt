@@ -1,6 +1,5 @@
-use Rattle.std.proofs.Common.{◌≡◌, ◌-◌, ◌<◌, ◌≤◌, length, get_or, sym, ◌∙◌, arith, rules}
-use Rattle.climbs.specs.Row.{Rows, Under}
-use Rattle.climbs.proofs.PassLaws.{under_none, under_more}
+use Rattle.std.proofs.Common.{◌-◌, ◌≤◌}
+use Rattle.climbs.specs.Row.{Under}
 use Rattle.climbs.proofs.pass.split.Given as goal
 
 abbrev pub invariant-loop-m : goal.invariant-loop-m

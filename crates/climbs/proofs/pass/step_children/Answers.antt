@@ -1,5 +1,3 @@
-use Rattle.std.proofs.Common.{rules}
-use borrow.Author.Tests.{not-true}
 use Rattle.climbs.proofs.PassLaws.{made_none}
 use Rattle.climbs.proofs.pass.step_children.Goals as goal
 

@@ -1,4 +1,4 @@
-use Rattle.std.proofs.Common.{arith, rules}
+use Rattle.std.proofs.Common.{arith}
 use borrow.Author.Tests.{not-true, not-false}
 use Rattle.climbs.proofs.PassLaws.{stepped_not, stepped_unknown, stepped_both, charged_none}
 use Rattle.climbs.proofs.pass.step_row.Goals as goal

@@ -1,7 +1,5 @@
-use Rattle.std.proofs.Common.{◌≡◌, ◌-◌, ◌<◌, ◌≤◌, length, refl, ◌∙◌, arith, rules}
-use Rattle.climbs.specs.Row.{Rows}
+use Rattle.std.proofs.Common.{◌≡◌, ◌-◌, ◌≤◌, length}
 use Rattle.climbs.specs.Pass.{AllStepped, Charged}
-use Rattle.climbs.proofs.PassLaws.{all_none, all_more, all_end, charged_none, charged_both}
 use Rattle.climbs.proofs.pass.step_rows.Given as goal
 
 abbrev pub invariant-loop-i : goal.invariant-loop-i

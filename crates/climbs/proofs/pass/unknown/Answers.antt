@@ -1,4 +1,4 @@
-use Rattle.std.proofs.Common.{false, ap, rules}
+use Rattle.std.proofs.Common.{false, ap}
 use Rattle.spv.specs.declared.node.Node.{Node}
 use Rattle.climbs.specs.declared.pass.Known.{Known}
 use Rattle.climbs.specs.Pass.{unknown_node}

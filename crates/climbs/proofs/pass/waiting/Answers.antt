@@ -1,5 +1,5 @@
-use Rattle.std.proofs.Common.{◌≡◌, ℕ, ◌-◌, ◌<◌, ◌≤◌, length, get_or, arith, rules}
-use Rattle.climbs.specs.Row.{Rows, NotAt}
+use Rattle.std.proofs.Common.{◌≡◌, ℕ, ◌<◌, length, get_or, arith, rules}
+use Rattle.climbs.specs.Row.{Rows}
 use Rattle.climbs.proofs.PassLaws.{not-at-none, not-at-more, not-at_less}
 use Rattle.climbs.proofs.pass.waiting.Goals as goal
 

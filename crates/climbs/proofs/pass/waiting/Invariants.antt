@@ -1,6 +1,5 @@
-use Rattle.std.proofs.Common.{◌≡◌, ℕ, ◌-◌, ◌<◌, ◌≤◌, length, get_or, arith, rules}
-use Rattle.climbs.specs.Row.{Rows, NotAt}
-use Rattle.climbs.proofs.PassLaws.{not-at-none, not-at-more, not-at_less}
+use Rattle.std.proofs.Common.{◌-◌}
+use Rattle.climbs.specs.Row.{NotAt}
 use Rattle.climbs.proofs.pass.waiting.Given as goal
 
 abbrev pub invariant-loop-i : goal.invariant-loop-i

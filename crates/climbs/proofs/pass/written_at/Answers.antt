@@ -1,5 +1,3 @@
-use Rattle.std.proofs.Common.{rules}
-use borrow.Author.Tests.{not-true, not-false}
 use Rattle.climbs.specs.LookUp.{looked_up}
 use Rattle.climbs.proofs.PassLaws.{seen_unasked, seen_looked}
 use Rattle.climbs.proofs.pass.written_at.Goals as goal

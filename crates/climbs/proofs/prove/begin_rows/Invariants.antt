@@ -1,8 +1,7 @@
-use Rattle.std.proofs.Common.{◌≡◌, ◌-◌, ◌≤◌, length, refl, ap, ◌∙◌, arith, length-set, rules}
+use Rattle.std.proofs.Common.{◌≡◌, ◌-◌, ◌≤◌, length}
 use Rattle.path.specs.Path.{start_in}
 use Rattle.climbs.specs.Begun.{begun_row, First}
 use Rattle.climbs.specs.Proofs.{start_row, id_at}
-use Rattle.climbs.proofs.ProofsLaws.{first-none, first_more, first-end}
 use Rattle.climbs.proofs.prove.begin_rows.Given as goal
 
 abbrev pub invariant-loop-i : goal.invariant-loop-i

@@ -1,4 +1,4 @@
-use Rattle.std.proofs.Common.{sym, ap, rules}
+use Rattle.std.proofs.Common.{sym, ap}
 use Rattle.climbs.specs.Begun.{begun_row}
 use Rattle.climbs.proofs.prove.begun_row.Goals as goal
 

@@ -1,4 +1,4 @@
-use Rattle.std.proofs.Common.{set, ap, ◌∙◌, arith, rules}
+use Rattle.std.proofs.Common.{set, ap, ◌∙◌, arith}
 use Rattle.climbs.proofs.ProofsLaws.{closed-root, closed-zeros}
 use Rattle.climbs.proofs.prove.close_row.Goals as goal
 

@@ -1,5 +1,4 @@
-use Rattle.std.proofs.Common.{◌≡◌, ◌-◌, ◌*◌, ◌≤◌, length, refl, ◌∙◌, arith, rules}
-use Rattle.climbs.specs.Begun.{Closed}
+use Rattle.std.proofs.Common.{refl, ◌∙◌, arith}
 use Rattle.climbs.proofs.ProofsLaws.{closed_none, closed-more, closed-end}
 use Rattle.climbs.proofs.prove.close_rows.Goals as goal
 

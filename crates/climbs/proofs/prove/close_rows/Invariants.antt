@@ -1,6 +1,5 @@
-use Rattle.std.proofs.Common.{◌≡◌, ◌-◌, ◌*◌, ◌≤◌, length, refl, ◌∙◌, arith, rules}
+use Rattle.std.proofs.Common.{◌≡◌, ◌-◌, ◌*◌, ◌≤◌, length}
 use Rattle.climbs.specs.Begun.{Closed}
-use Rattle.climbs.proofs.ProofsLaws.{closed_none, closed-more, closed-end}
 use Rattle.climbs.proofs.prove.close_rows.Given as goal
 
 abbrev pub invariant-loop-i : goal.invariant-loop-i

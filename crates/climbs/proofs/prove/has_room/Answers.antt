@@ -1,4 +1,4 @@
-use Rattle.std.proofs.Common.{sym, rules}
+use Rattle.std.proofs.Common.{sym}
 use Rattle.climbs.proofs.ProofsLaws.{many-layers, many-rows, few_states, room_last}
 use Rattle.climbs.proofs.prove.has_room.Goals as goal
 

@@ -1,4 +1,4 @@
-use Rattle.std.proofs.Common.{length, sym, ◌∙◌, arith, length-take-le, rules}
+use Rattle.std.proofs.Common.{length, sym, ◌∙◌, arith, length-take-le}
 use Rattle.climbs.proofs.ProofsLaws.{fits_told, all-proved, none-proved, counted_most, counted-fits, all-counted, none-counted}
 use Rattle.climbs.proofs.prove.prove_all.Goals as goal
 

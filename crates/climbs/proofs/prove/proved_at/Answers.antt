@@ -1,4 +1,4 @@
-use Rattle.std.proofs.Common.{sym, ◌∙◌, rules}
+use Rattle.std.proofs.Common.{sym, ◌∙◌}
 use Rattle.climbs.proofs.ProofsLaws.{proved-root, proved-refusal}
 use Rattle.climbs.proofs.prove.proved_at.Goals as goal
 

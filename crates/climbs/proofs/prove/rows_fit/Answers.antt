@@ -1,4 +1,4 @@
-use Rattle.std.proofs.Common.{sym, ap, ◌∙◌, rules}
+use Rattle.std.proofs.Common.{sym, ap, ◌∙◌}
 use Rattle.climbs.specs.Proofs.{is_bump}
 use Rattle.climbs.proofs.ProofsLaws.{fits-levels, fits-none}
 use Rattle.climbs.proofs.prove.rows_fit.Goals as goal

@@ -1,4 +1,4 @@
-use Rattle.std.proofs.Common.{sym, ap, rules}
+use Rattle.std.proofs.Common.{sym, ap}
 use Rattle.climbs.specs.Proofs.{start_row}
 use Rattle.climbs.proofs.prove.start_row.Goals as goal
 

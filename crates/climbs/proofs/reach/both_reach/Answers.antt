@@ -1,5 +1,4 @@
-use Rattle.std.proofs.Common.{sym, ◌∙◌, rules}
-use borrow.Author.Tests.{not-true, not-false}
+use Rattle.std.proofs.Common.{sym, ◌∙◌}
 use Rattle.climbs.proofs.ReachLaws.{levels-told, unlevelled, levelled}
 use Rattle.climbs.proofs.reach.both_reach.Goals as goal
 

@@ -1,4 +1,4 @@
-use Rattle.std.proofs.Common.{◌&&◌, leb, sym, ap, rules}
+use Rattle.std.proofs.Common.{◌&&◌, leb, sym, ap}
 use Rattle.path.specs.declared.path.Form.{Form}
 use Rattle.path.specs.Path.{LAYERS}
 use Rattle.climbs.specs.Proofs.{is_bump}

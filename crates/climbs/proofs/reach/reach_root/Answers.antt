@@ -1,4 +1,4 @@
-use Rattle.std.proofs.Common.{ap, ◌∙◌, rules}
+use Rattle.std.proofs.Common.{ap, ◌∙◌}
 use Rattle.format.proofs.ParseLaws.{answered}
 use Rattle.format.specs.FieldAnswer.{number_of}
 use Rattle.climbs.specs.Reach.{agrees}

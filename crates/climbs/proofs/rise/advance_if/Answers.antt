@@ -1,4 +1,4 @@
-use Rattle.std.proofs.Common.{Bool, sym, ap, ◌∙◌, rules}
+use Rattle.std.proofs.Common.{Bool, sym, ap, ◌∙◌}
 use Rattle.format.specs.Parse.{pick}
 use Rattle.climbs.specs.Row.{states_after, hashes_after}
 use Rattle.climbs.specs.Spent.{costs_after}

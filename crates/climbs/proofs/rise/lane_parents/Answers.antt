@@ -1,5 +1,4 @@
 use Rattle.lanes.specs.Lanes as L
-use Rattle.std.proofs.Common.{rules}
 use Rattle.climbs.proofs.rise.lane_parents.Goals as goal
 
 pub returns : goal.returns

@@ -1,9 +1,8 @@
-use Rattle.std.proofs.Common.{arith, rules}
+use Rattle.std.proofs.Common.{arith}
 use Rattle.climbs.specs.LookUp.{looked_up}
-use Rattle.spv.specs.Values.{worked_out}
 use Rattle.climbs.proofs.RowLaws.{moved_none}
 use Rattle.climbs.proofs.SpentLaws.{spent-none}
-use Rattle.climbs.proofs.RiseLaws.{After, after_one}
+use Rattle.climbs.proofs.RiseLaws.{after_one}
 use Rattle.climbs.proofs.rise.layer1.Goals as goal
 
 pub returns-then-not-turn : goal.returns-then-not-turn

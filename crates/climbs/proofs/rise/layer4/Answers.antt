@@ -1,4 +1,4 @@
-use Rattle.std.proofs.Common.{◌∙◌, arith, rules}
+use Rattle.std.proofs.Common.{◌∙◌, arith}
 use Rattle.climbs.specs.LookUp.{looked_up}
 use Rattle.climbs.proofs.RiseLaws.{rise_four}
 use Rattle.climbs.proofs.rise.layer4.Goals as goal

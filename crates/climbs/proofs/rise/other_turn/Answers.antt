@@ -1,4 +1,3 @@
-use Rattle.std.proofs.Common.{rules}
 use Rattle.climbs.proofs.RiseLaws.{stays_right}
 use Rattle.climbs.proofs.rise.other_turn.Goals as goal
 

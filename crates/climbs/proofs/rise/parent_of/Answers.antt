@@ -1,4 +1,3 @@
-use Rattle.std.proofs.Common.{rules}
 use borrow.Author.Tests.{not-true}
 use Rattle.climbs.proofs.RiseLaws.{parent-none, parent_made}
 use Rattle.climbs.proofs.rise.parent_of.Goals as goal

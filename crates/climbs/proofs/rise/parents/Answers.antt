@@ -1,4 +1,3 @@
-use Rattle.std.proofs.Common.{rules}
 use Rattle.climbs.proofs.RiseLaws.{parents-four}
 use Rattle.climbs.proofs.rise.parents.Goals as goal
 

@@ -1,8 +1,4 @@
-use Rattle.std.proofs.Common.{◌≡◌, ◌+◌, ◌-◌, ◌≤◌, length, refl, ◌∙◌, arith}
-use Rattle.climbs.specs.LookUp.{looked_up}
-use Rattle.spv.specs.Values.{worked_out}
-use Rattle.climbs.specs.Row.{Moved}
-use Rattle.climbs.specs.Spent.{Spent}
+use Rattle.std.proofs.Common.{◌+◌, refl, ◌∙◌, arith}
 use Rattle.climbs.proofs.RowLaws.{moved_none, moved_on, moved_up}
 use Rattle.climbs.proofs.SpentLaws.{spent-none, spent_on, spent-up}
 use Rattle.climbs.proofs.RiseLaws.{held_on}

@@ -1,11 +1,8 @@
-use Rattle.std.proofs.Common.{◌≡◌, ◌+◌, ◌-◌, ◌≤◌, length, refl, ◌∙◌, arith}
+use Rattle.std.proofs.Common.{◌≡◌, ◌-◌, ◌≤◌, length}
 use Rattle.climbs.specs.LookUp.{looked_up}
 use Rattle.spv.specs.Values.{worked_out}
 use Rattle.climbs.specs.Row.{Moved}
 use Rattle.climbs.specs.Spent.{Spent}
-use Rattle.climbs.proofs.RowLaws.{moved_none, moved_on, moved_up}
-use Rattle.climbs.proofs.SpentLaws.{spent-none, spent_on, spent-up}
-use Rattle.climbs.proofs.RiseLaws.{held_on}
 use Rattle.climbs.proofs.rise.rise4.Given as goal
 
 abbrev pub invariant-loop-k : goal.invariant-loop-k

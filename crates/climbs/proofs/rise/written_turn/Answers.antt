@@ -1,4 +1,4 @@
-use Rattle.std.proofs.Common.{arith, rules}
+use Rattle.std.proofs.Common.{arith}
 use borrow.Author.Tests.{not-false}
 use Rattle.climbs.specs.LookUp.{looked_up}
 use Rattle.climbs.proofs.RiseLaws.{stays_right, moves_right}

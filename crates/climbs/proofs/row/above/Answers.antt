@@ -1,4 +1,4 @@
-use Rattle.std.proofs.Common.{ℕ, ◌/◌, ◌^◌, ◌<◌, sym, ap, ◌∙◌, arith, rules}
+use Rattle.std.proofs.Common.{ℕ, ◌/◌, ◌^◌, ◌<◌, sym, ap, ◌∙◌, arith}
 use native.Mathlib.Nat.{div-eq_of_lt}
 use Rattle.climbs.proofs.row.above.Goals as goal
 

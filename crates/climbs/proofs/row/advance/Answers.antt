@@ -1,4 +1,4 @@
-use Rattle.std.proofs.Common.{sym, ◌∙◌, arith, rules}
+use Rattle.std.proofs.Common.{sym, ◌∙◌, arith}
 use Rattle.climbs.proofs.RowLaws.{advance_stays, advance-joins, advance-fails}
 use Rattle.climbs.proofs.row.advance.Goals as goal
 

@@ -1,4 +1,4 @@
-use Rattle.std.proofs.Common.{ℕ, ◌+◌, ◌*◌, ◌%◌, ap, rules, le-ltb, lt-ltb}
+use Rattle.std.proofs.Common.{ℕ, ◌+◌, ◌*◌, ◌%◌, ap, le-ltb, lt-ltb}
 use Rattle.climbs.specs.Begun.{closed_state}
 use Rattle.climbs.proofs.row.closed_state.Goals as goal
 

@@ -1,5 +1,4 @@
 use Rattle.climbs.specs.Row.{refusal_of}
-use Rattle.std.proofs.Common.{rules}
 use Rattle.climbs.proofs.row.rejection_of.Goals as goal
 
 pub returns : goal.returns

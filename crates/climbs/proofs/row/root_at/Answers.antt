@@ -1,4 +1,4 @@
-use Rattle.std.proofs.Common.{◌*◌, sym, arith, rules}
+use Rattle.std.proofs.Common.{◌*◌, sym, arith}
 use Rattle.format.proofs.BytesLaws.{hash-none}
 use Rattle.climbs.proofs.row.root_at.Goals as goal
 

@@ -1,5 +1,4 @@
 use Rattle.climbs.proofs.WaitingLaws.{row-root, row-stop}
-use Rattle.std.proofs.Common.{rules}
 use Rattle.climbs.proofs.row.row_end.Goals as goal
 
 pub returns-then-state-lt128 : goal.returns-then-state-lt128

@@ -1,4 +1,4 @@
-use Rattle.std.proofs.Common.{ap, ◌∙◌, rules, le-ltb, lt-ltb}
+use Rattle.std.proofs.Common.{ap, ◌∙◌, le-ltb, lt-ltb}
 use Rattle.spv.specs.Climb.{sibling_position}
 use Rattle.climbs.specs.Row.{sibling_at}
 use Rattle.climbs.proofs.row.sibling_at.Goals as goal

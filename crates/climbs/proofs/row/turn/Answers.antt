@@ -1,4 +1,4 @@
-use Rattle.std.proofs.Common.{ℕ, List, ap, ◌∙◌, rules}
+use Rattle.std.proofs.Common.{ℕ, List, ap, ◌∙◌}
 use Rattle.spv.specs.Climb.{step}
 use Rattle.spv.specs.Shapes.{sibling_of, joined_of}
 use Rattle.climbs.proofs.row.turn.Goals as goal

@@ -1,4 +1,4 @@
-use Rattle.std.proofs.Common.{Bool, sym, ap, ◌∙◌, rules}
+use Rattle.std.proofs.Common.{Bool, sym, ap, ◌∙◌}
 use Rattle.spv.specs.Clients.{closing}
 use Rattle.spv.specs.Prove.{target_of}
 use Rattle.climbs.specs.ClientsShapes.{checked_of}

@@ -1,4 +1,4 @@
-use Rattle.std.proofs.Common.{ap, ◌∙◌, rules}
+use Rattle.std.proofs.Common.{ap, ◌∙◌}
 use Rattle.spv.specs.Clients.{closing}
 use Rattle.climbs.specs.ClientsShapes.{checked_of}
 use Rattle.climbs.proofs.ClientsShapesLaws.{goes_on, halts}

@@ -1,4 +1,4 @@
-use Rattle.std.proofs.Common.{ap, ◌∙◌, rules}
+use Rattle.std.proofs.Common.{ap, ◌∙◌}
 use Rattle.climbs.specs.ClientsShapes.{refused_check, checked_of}
 use Rattle.climbs.proofs.want.unlisted.Goals as goal
 

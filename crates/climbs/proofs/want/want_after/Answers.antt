@@ -1,4 +1,4 @@
-use Rattle.std.proofs.Common.{◌∙◌, rules}
+use Rattle.std.proofs.Common.{◌∙◌}
 use Rattle.climbs.proofs.ClientsShapesLaws.{told_halts, goes_on, halts}
 use Rattle.climbs.proofs.want.want_after.Goals as goal
 

@@ -1,4 +1,4 @@
-use Rattle.std.proofs.Common.{sym, ap, ◌∙◌, rules}
+use Rattle.std.proofs.Common.{sym, ap, ◌∙◌}
 use Rattle.spv.specs.Result.{refused}
 use Rattle.spv.specs.Prove.{target_of}
 use Rattle.climbs.specs.ClientsShapes.{want_says, want_by}
