@@ -133,10 +133,10 @@ pub extern "C" fn barrowtide_check_clients(
     blame: &mut [u64; 3],
     root: &mut [u8; 32],
 ) -> u32
-    ensures* { λ r. ⌜ (let v = bump_clients message.now in
-        (r ≡ I.refusal v)
+    ensures { (let v = bump_clients message.now in
+        (result ≡ I.refusal v)
         × (blame.new ≡ I.blame v blame.old)
-        × (root.new ≡ I.taken (λ r. r) v root.old)) ⌝ }
+        × (root.new ≡ I.taken (λ r. r) v root.old)) }
 {
     let checked = climbs::check_clients(message);
     let agreement = checked.agreement;

@@ -1,0 +1,9 @@
+use Rattle.stream.specs.Parts.{with_part, says, MAX_PARTS}
+use Rattle.barrowtide.proofs.PartsLaws.{answer_kept}
+use Rattle.barrowtide.proofs.parts.barrowtide_parts_part.Goals as goal
+
+-- The state that the call kept has the answer, and from it come the number and the lent memory.
+pub returns : goal.returns
+returns c = λ calls is.
+    let t = c.tell.ensures _ (answer_kept (with_part c.args.part.now) c.args.state.now c.part-next.result c.part-next.ensures calls is) in
+    (c.part-next.ensures calls is, t.0, t.1, t.2, t.3, t.4, t.5)
