@@ -54,13 +54,15 @@ fn every_file_of_definitions_is_named_where_its_crate_lists_them() {
     }
 }
 
-/// The check keeps a crate's definitions from citing its own proofs; of another crate's they could.
+/// The check keeps a crate's definitions from citing its own proofs; of another crate's they could. What the logic's
+/// libraries define, as `paste`, std passes on below its own `proofs.Math`.
 #[test]
 fn no_definition_and_no_contract_cites_a_proof() {
     for (part, ending, word) in [("specs", "antt", "use "), ("src", "rt", "ghost use ")] {
         for file in files(part, ending) {
             for line in text(&file).lines().filter(|line| line.starts_with(word)) {
-                assert!(!line.contains(".proofs."), "{}: {line}", file.display());
+                let cites = line.replace("Rattle.std.proofs.Math.", "");
+                assert!(!cites.contains(".proofs."), "{}: {line}", file.display());
             }
         }
     }
