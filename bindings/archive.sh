@@ -47,9 +47,9 @@ is_proved() { # ARCHIVE
     [ -f "$1" ] && [ -f "$1.sources" ] && [ "$(cat "$1.sources")" = "$("$top/dist/sources") $(sha256 "$1")" ]
 }
 
-# Proves and builds the library, with what the prover has kept, and leaves it in target/staticlib.
+# Proves and builds the library, over what the prover has kept and for every x86-64 processor, and leaves it in target/staticlib.
 build_archive() {
-    (cd "$top/crates/barrowtide" && rt lib) || return
+    (cd "$top/crates/barrowtide" && rt lib --cpu x86-64) || return
     mkdir -p "${made%/*}"
     cp "$top/crates/barrowtide/out/libbarrowtide.a" "$made"
 }
@@ -104,7 +104,7 @@ prove() {
     fi
     if ! is_proved "$made"; then
         mkdir -p "$top/target"
-        say "proving the library: $(count_crates) crates, some twenty minutes the first time; the prover's notes are in $notes"
+        say "proving the library: $(count_crates) crates, ten to twenty minutes the first time; the prover's notes are in $notes"
         sources=$("$top/dist/sources")
         guarded prove_crates || fail "the library could not be proved; $notes has the prover's notes"
         [ "$sources" = "$("$top/dist/sources")" ] || fail "the sources were changed while they were proved"

@@ -251,7 +251,7 @@ fn gate() {
     };
     let renew = "; dist/renew brings dist/ up to date";
     assert!(accepted(&run(&[])).ends_with("\n2 passed, 0 failed\n"));
-    assert_eq!(place.read("proved"), Some("ci\nlib\nversion\n".into()));
+    assert_eq!(place.read("proved"), Some("ci\nlib --cpu x86-64\nversion\n".into()));
     assert_eq!(place.built(), 2);
 
     place.remove("proved");

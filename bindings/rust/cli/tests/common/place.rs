@@ -127,7 +127,8 @@ impl Place {
 
     /// How often the library was proved.
     pub fn proved(&self) -> usize {
-        self.read("proved").map_or(0, |text| text.lines().filter(|line| *line == "lib").count())
+        self.read("proved")
+            .map_or(0, |text| text.lines().filter(|line| line.starts_with("lib ")).count())
     }
 
     /// How often the program was built.
