@@ -1,6 +1,7 @@
 #!/usr/bin/env bash
 # Finds libbarrowtide.a: the one that is kept in dist/, if it was proved from the sources as they stand, and else the one
 # of target/staticlib, which is proved anew unless it was made from them. What counts is what files hold, not their times.
+# The prover leaves an archive in crates/barrowtide/out, which rt ci clears; target/staticlib has a copy of it.
 #
 # Sourced by ./barrowtide, ./install, dist/renew and .ci/run, which set `top`. Run by itself, as the build.rs of
 # barrowtide-sys does, it prints where the archive is.
@@ -46,15 +47,22 @@ is_proved() { # ARCHIVE
     [ -f "$1" ] && [ -f "$1.sources" ] && [ "$(cat "$1.sources")" = "$("$top/dist/sources") $(sha256 "$1")" ]
 }
 
+# Proves and builds the library, over what the prover has kept and for every x86-64 processor, and leaves it in target/staticlib.
+build_archive() {
+    (cd "$top/crates/barrowtide" && rt lib --cpu x86-64) || return
+    mkdir -p "${made%/*}"
+    cp "$top/crates/barrowtide/out/libbarrowtide.a" "$made"
+}
+
 # Notes of what sources the archive of target/staticlib was proved from.
 note_proved() { # HASH
     echo "$1 $(sha256 "$made")" >"$made.sources"
 }
 
-# How many crates the library takes.
+# How many crates the library takes. A line of crates.txt is NAME: LIBRARY .. or NAME staticlib: LIBRARY ..
 count_crates() {
     awk '
-        { sub(/#.*/, ""); at = index($0, ":"); if (at) needs[substr($0, 1, at - 1)] = substr($0, at + 1) }
+        { sub(/#.*/, ""); at = index($0, ":"); if (at) { split(substr($0, 1, at - 1), name, " "); needs[name[1]] = substr($0, at + 1) } }
         function visit(name, list, i, n) {
             if (name in seen || !(name in needs)) return
             seen[name]; count++
@@ -66,17 +74,20 @@ count_crates() {
 
 # Proves the library, with a line for each crate; all that the prover says goes to a file.
 prove_crates() {
-    local count line done=0
+    local count line crate done=0
     count=$(count_crates)
-    cd "$top"
-    rt staticlib barrowtide 2>&1 | tee "$notes" | while IFS= read -r line; do
+    build_archive 2>&1 | tee "$notes" | while IFS= read -r line; do
         case $line in
-        "rt: "*" proved ("*)
-            done=$((done + 1))
-            say "$done of $count: ${line#rt: }"
+        "crate "*": modules loaded="*)
+            crate=${line#crate }
+            crate=${crate%%:*}
             ;;
-        "rt: target/staticlib/"*) say "$count of $count: barrowtide proved" ;;
-        "rt: "*) say "${line#rt: }" ;;
+        logic=proved*)
+            done=$((done + 1))
+            [ "$crate" != barrowtide ] || done=$count
+            say "$done of $count: $crate proved"
+            ;;
+        "rt: the library "*) say "${line#rt: }" ;;
         esac
     done
 }
@@ -93,7 +104,7 @@ prove() {
     fi
     if ! is_proved "$made"; then
         mkdir -p "$top/target"
-        say "proving the library: $(count_crates) crates, some ten minutes the first time; the prover's notes are in $notes"
+        say "proving the library: $(count_crates) crates, ten to twenty minutes the first time; the prover's notes are in $notes"
         sources=$("$top/dist/sources")
         guarded prove_crates || fail "the library could not be proved; $notes has the prover's notes"
         [ "$sources" = "$("$top/dist/sources")" ] || fail "the sources were changed while they were proved"

@@ -2,9 +2,11 @@
 #![tactic(auto)]
 
 ghost use Rattle.std.specs.Prelude.{◌≡◌, ◌≤◌, length, take};
+ghost use Rattle.std.specs.Io.{ReadsAtMost};
 ghost use Rattle.listing.specs.Listing.{LISTING_ROOM, listing};
 
-use libc::{STDIN_FILENO, STDOUT_FILENO};
+use std::io;
+use std::io::{Read, Write};
 
 // Room for one byte more than is listed, so that a longer input is seen.
 fn input() -> [u8; 65537]
@@ -27,10 +29,25 @@ fn list_whole(s: &[u8], out: &mut [u8]) -> usize
     listing::list(s, out)
 }
 
-fn main() {
+// Reads until the room is full or the input ends, and answers how many bytes stand at the start of the room.
+fn read_full<R: Read>(input: &mut R, room: &mut [u8]) -> io::Result<usize>
+    ensures { ReadsAtMost result room.new }
+{
+    let mut done = 0;
+    while done < room.len() {
+        let n = input.read(&mut room[done..])?;
+        if n == 0 {
+            break;
+        }
+        done += n;
+    }
+    Ok(done)
+}
+
+fn main(rt: HostRuntime) -> io::Result<()> {
     let mut s = input();
-    let n = io::read_full(STDIN_FILENO, &mut s);
+    let n = read_full(&mut rt.stdin(), &mut s)?;
     let mut out = output();
     let k = list_whole(&s[..n], &mut out);
-    io::write_all(STDOUT_FILENO, &out[..k]);
+    rt.stdout().write_all(&out[..k])
 }

@@ -1,10 +1,10 @@
 //! The program `bumplist` against the reference.
 //!
-//! It is looked for in `target/bin` at the top of the repository, or where `BARROWTIDE_BUMPLIST`
-//! says; since other commands make it, these tests run only when asked for:
+//! It is looked for in `crates/bumplist/out` at the top of the repository, or where
+//! `BARROWTIDE_BUMPLIST` says; since other commands make it, these tests run only when asked for:
 //!
 //! ```text
-//! rt check bumplist
+//! (cd ../../crates/bumplist && rt run <stdin)
 //! cargo test --offline --test bumplist -- --ignored
 //! ```
 
@@ -23,12 +23,12 @@ use reference::hex::{decode, expand, show};
 /// Runs the program on an input and compares what it prints.
 fn check(input: &[u8]) -> String {
     let program = env::var_os("BARROWTIDE_BUMPLIST").map_or_else(
-        || Path::new(env!("CARGO_MANIFEST_DIR")).join("../../../target/bin/bumplist"),
+        || Path::new(env!("CARGO_MANIFEST_DIR")).join("../../../crates/bumplist/out/bumplist"),
         PathBuf::from,
     );
     let mut child =
         Command::new(&program).stdin(Stdio::piped()).stdout(Stdio::piped()).spawn().unwrap_or_else(
-            |error| panic!("{}: {error}; run `rt check bumplist`", program.display()),
+            |error| panic!("{}: {error}; run `rt run` in crates/bumplist", program.display()),
         );
     let mut stdin = child.stdin.take().expect("a pipe");
     // The program may stop reading an input that is too long.
@@ -41,7 +41,7 @@ fn check(input: &[u8]) -> String {
 }
 
 #[test]
-#[ignore = "needs target/bin/bumplist"]
+#[ignore = "needs crates/bumplist/out/bumplist"]
 fn examples() {
     assert_eq!(
         check(&expand("00 01 01 01 01")),
@@ -60,7 +60,7 @@ fn examples() {
 }
 
 #[test]
-#[ignore = "needs target/bin/bumplist"]
+#[ignore = "needs crates/bumplist/out/bumplist"]
 fn sizes() {
     let mut input = expand("00 01 00 00{65534}");
     assert_eq!(check(&input), "refused 1 at 0\n");
@@ -69,7 +69,7 @@ fn sizes() {
 }
 
 #[test]
-#[ignore = "needs target/bin/bumplist"]
+#[ignore = "needs crates/bumplist/out/bumplist"]
 fn sound_and_damaged_paths() {
     let mut random = Random::of("sound_and_damaged_paths");
     for count in [2, 3, 11, 700] {

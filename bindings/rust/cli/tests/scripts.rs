@@ -96,16 +96,16 @@ fn proving_said() {
             && said[1].contains("proving the library: 3 crates"),
         "{said:?}"
     );
-    let lines =
-        ["1 of 3: hash proved (1 s)", "2 of 3: format proved (1 s)", "3 of 3: barrowtide proved"];
+    let lines = ["1 of 3: hash proved", "2 of 3: format proved", "3 of 3: barrowtide proved"];
     assert_eq!(said[2..], lines.map(|line| format!("archive.sh: {line}")));
     let notes = place.read("target/prover.log").expect("the notes");
     assert!(notes.contains("note: of hash\n") && notes.contains("note: of format\n"), "{notes}");
 
     let place = Place::new("refused");
-    place.script("bin/rt", "echo 'rt: hash NOT PROVED (exit 1, 1 s)'; exit 1");
+    let why = "the library hash did not build, so nothing above it was checked";
+    place.script("bin/rt", &format!("echo 'rt: {why}' >&2; exit 1"));
     let said = failed(&place.run("barrowtide", &["--help"]));
-    assert!(said.contains("barrowtide: hash NOT PROVED"), "{said}");
+    assert!(said.contains(&format!("barrowtide: {why}")), "{said}");
     assert!(said.contains("could not be proved") && said.contains("target/prover.log"), "{said}");
     place.remove("bin/rt");
     let said = failed(&place.run("barrowtide", &["--help"]));
@@ -237,100 +237,144 @@ fn interrupted() {
 #[test]
 fn gate() {
     let place = Place::with_kept("gate");
-    let run = |archive: &str| {
+    let run = |variables: &[(&str, &str)]| {
         let mut command = place.command(".ci/run", &[]);
-        command.env("ARCHIVE", archive).output().expect("the gate starts")
+        command.envs(variables.iter().copied()).output().expect("the gate starts")
     };
-    let refused = |archive: &str, said: &str| {
-        let output = run(archive);
+    let refused = |variables: &[(&str, &str)], said: &str| {
+        let output = run(variables);
         let error = text(&output.stderr);
         let last = error.lines().last().unwrap_or_default();
         assert!(last.starts_with(".ci/run: ") && last.contains(said), "{error}");
-        assert!(last.ends_with("; dist/renew brings dist/ up to date"), "{error}");
         assert_eq!(output.status.code(), Some(1));
         place.read("proved")
     };
-    assert!(accepted(&run(place::ARCHIVE)).ends_with("\n2 passed, 0 failed\n"));
-    assert_eq!(place.read("proved"), Some("fmt --check\nci\nstaticlib barrowtide\n".into()));
+    let renew = "; dist/renew brings dist/ up to date";
+    assert!(accepted(&run(&[])).ends_with("\n2 passed, 0 failed\n"));
+    assert_eq!(place.read("proved"), Some("ci\nlib --cpu x86-64\nversion\n".into()));
     assert_eq!(place.built(), 2);
 
     place.remove("proved");
     let header = place.read("include/barrowtide.h").expect("the header");
     place.write("include/barrowtide.h", &(header.clone() + "\n"));
-    assert_eq!(refused(place::ARCHIVE, "dist/SHA256SUMS"), None);
+    assert_eq!(refused(&[], &format!("dist/SHA256SUMS{renew}")), None);
     place.write("include/barrowtide.h", &header);
     place.write(SOURCE, "-- changed");
-    assert_eq!(refused(place::ARCHIVE, "dist/SOURCES"), None);
+    assert_eq!(refused(&[], &format!("dist/SOURCES{renew}")), None);
     place.write(SOURCE, "");
+    assert_eq!(place.built(), 2);
+
+    // What rt ci refuses, and an edit that it could not try.
+    let output = run(&[("FAILED", "1")]);
+    assert!(!output.status.success() && text(&output.stdout).ends_with("\n2 passed, 1 failed\n"));
+    assert_eq!(place.read("proved"), Some("ci\n".into()));
+    assert_eq!(refused(&[("BAD", ", 1 bad")], "edit is bad"), Some("ci\nci\n".into()));
 
     // Another archive from the same sources: what renew takes is the one just proved.
     place.write("other", "!<arch>\n");
     let other = place.0.join("other");
-    let other = other.to_str().expect("a plain path");
-    assert!(refused(other, "the archive just proved and built").is_some());
-    assert_eq!(place.built(), 2);
+    let other = [("ARCHIVE", other.to_str().expect("a plain path"))];
+    assert!(refused(&other, "the archive just proved and built").is_some());
+    assert!(refused(&other, renew).is_some());
     accepted(&place.run("dist/renew", &[]));
     assert_eq!(place.read(KEPT).as_deref(), Some("!<arch>\n"));
-    accepted(&run(other));
+    accepted(&run(&other));
 }
 
 /// Each wrong program of an edit has to be refused at a fact of its own function, and no other function.
 #[test]
 fn wrong_programs() {
     let place = Place::new("wrong_programs");
+    place.write("crates/hash/src/lib", "a c");
     place.write(
         "crates/hash/must-fail/first.edit",
         "# one\n# program: exchanged in join\nfile: src/lib\nold: a\nnew: b\n\n\
          # two\n# program: turned in rounds::back\nfile: src/lib\nold: c\nnew: d\n",
     );
-    let own =
-        |function: &str| format!("/t/proofs/{function}/Proof.antt:1:2: error: `returns`: no\n");
+    let own = |function: &str| {
+        format!("./proofs/{function}/Answers.antt:1:2: error: `returns`: `omega`: no\n")
+    };
     let rests = |function: &str| {
         let why = "was not admitted (it has holes or undetermined implicits, or was rejected)";
-        let path = format!("/t/proofs/{function}/Proof.antt:3:4");
+        let path = format!("./proofs/{function}/Answers.antt:3:4");
         format!("{path}: error: `spec`: `returns` {why}, so this cannot be checked\n")
     };
-    let shape = |function: &str| {
-        format!(
-            "/t/proofs/{function}/Proof.antt:1:2: error: `returns`: record `A` has no field `f`\n"
-        )
+    let shapes = |function: &str| {
+        let path = format!("./proofs/{function}/Answers.antt:1:2");
+        format!("{path}: error: `returns`: record `A` has no field `f`\n")
+            + &format!("{path}: error: `g`: `goal.g`: module `A.Goals` has no `g` that can be named from here\n")
     };
-    let look = |log: &str| {
-        place.write("target/must-fail/hash/first/.log", log);
+    let calls = |function: &str| {
+        format!("fn hash::{function}: no proof: it calls `hash::f`, which is not proved\n")
+    };
+    // What the prover says of both programs, and of each alone.
+    let look = |both: &str, first: &str, second: &str| {
+        for (source, said) in [("b d", both), ("b c", first), ("a d", second)] {
+            place.write(&format!("said/{source}"), said);
+        }
+        let _ = fs::remove_dir_all(place.0.join("target"));
         let output = place.run(".ci/refusals", &[]);
         assert_eq!(output.status.code(), Some(i32::from(!output.status.success())));
         (output.status.success(), text(&output.stdout) + &text(&output.stderr))
     };
     let both = own("join") + &rests("join") + &own("rounds/back");
     let good = "2 wrong programs, each refused at a fact of its own\n";
-    assert_eq!(look(&both), (true, good.into()));
-    // A caller of a wrong program; a cycle of calls; a function that has no proof file.
-    assert_eq!(look(&(both.clone() + &rests("all"))), (true, good.into()));
-    assert_eq!(look(&(own("join") + &own("rounds/+back+forth"))), (true, good.into()));
-    assert_eq!(look(&(own("+all+join") + &own("rounds/+back"))), (true, good.into()));
-    let found = "fn hash::join: no proof: expected `join-spec` in /t; `search` does not close it\n";
-    assert_eq!(look(&(found.to_owned() + &own("rounds/back"))), (true, good.into()));
-
-    for (log, said) in [
-        (own("join"), "hash/turned: not refused at a fact of its own: rounds::back"),
-        (own("join") + &rests("rounds/back"), "hash/turned: not refused"),
-        (own("join") + &shape("rounds/back"), "hash/turned: not refused"),
-        (own("join") + &own("back"), "hash/turned: not refused"),
-        (both.clone() + &own("all"), "no program is said to be wrong there: all"),
-        (
-            "fn hash::join: no proof: expected it; it calls `hash::f`, which is not proved\n"
-                .to_owned()
-                + &own("rounds/back"),
-            "hash/exchanged: not refused",
-        ),
+    let found =
+        "fn hash::join: no proof: expected answers in ./proofs/join/Answers.antt; `search` \
+        did not prove `returns`\n";
+    for log in [
+        both.clone(),
+        // A caller of a wrong program; a cycle of calls; a function that has no proof file.
+        both.clone() + &rests("all") + &calls("all"),
+        own("join") + &own("rounds/+back+forth"),
+        own("+all+join") + &own("rounds/+back"),
+        found.to_owned() + &own("rounds/back"),
+        own("join").replace("Answers", "Invariants") + &own("rounds/back"),
     ] {
-        let (fine, words) = look(&log);
+        assert_eq!(look(&log, "", ""), (true, good.into()));
+    }
+    // One that calls the other is asked for alone.
+    assert_eq!(look(&(calls("join") + &own("rounds/back")), &own("join"), ""), (true, good.into()));
+    assert_eq!(look(&own("join"), "", &own("rounds/back")), (true, good.into()));
+
+    let none = "hash/turned: not refused at a fact of its own: rounds::back";
+    for (log, alone, said) in [
+        (own("join"), String::new(), none),
+        (own("join") + &rests("rounds/back"), rests("rounds/back"), none),
+        (own("join") + &shapes("rounds/back"), shapes("rounds/back"), none),
+        (own("join"), calls("rounds::back"), none),
+        (own("join") + &own("back"), own("back"), none),
+        (
+            own("join"),
+            own("rounds/back") + &own("all"),
+            "hash/turned: no program is said to be wrong there: all",
+        ),
+        (both.clone() + &own("all"), String::new(), "no program is said to be wrong there: all"),
+    ] {
+        let (fine, words) = look(&log, "", &alone);
         assert!(!fine && words.contains(said), "{words}");
     }
-    place.remove("target");
-    let untried = place.run(".ci/refusals", &["hash"]);
-    assert!(text(&untried.stderr).contains("hash/first was not tried"));
-    assert_eq!(untried.status.code(), Some(1));
+
+    // What was tried is not tried again while the files are the same.
+    let tries = || place.read("proved").map_or(0, |text| text.matches("check\n").count());
+    assert_eq!(look(&both, "", ""), (true, good.into()));
+    let before = tries();
+    assert_eq!(accepted(&place.run(".ci/refusals", &["hash"])), good);
+    assert_eq!(tries(), before);
+    place.write(SOURCE, "-- changed");
+    assert_eq!(accepted(&place.run(".ci/refusals", &["hash"])), good);
+    assert_eq!(tries(), before + 1);
+
+    // A check that ended otherwise, and an edit that fits no more.
+    place.write(SOURCE, "");
+    let mut command = place.command(".ci/refusals", &[]);
+    let output = command.env("CHECKED", "2").output().expect("it starts");
+    assert!(text(&output.stderr).contains("hash/first: a check ended with status 2"));
+    assert_eq!(output.status.code(), Some(1));
+    place.write("crates/hash/src/lib", "c");
+    let output = place.run(".ci/refusals", &[]);
+    assert!(text(&output.stderr).contains("hash/first does not fit src/lib: a"));
+    assert_eq!(output.status.code(), Some(1));
 }
 
 /// A changed header takes no proof, changed sources do.

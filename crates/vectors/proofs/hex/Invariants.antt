@@ -4,4 +4,4 @@ use borrow.Author.Rules.{rules}
 use Rattle.vectors.proofs.hex.Given as goal
 
 abbrev pub invariant-loop-i : goal.invariant-loop-i
-invariant-loop-i l = l.i ≤ 32
+invariant-loop-i g l = l.i ≤ 32

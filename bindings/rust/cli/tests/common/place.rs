@@ -1,10 +1,12 @@
 //! A folder with the scripts of the repository and what they ask for, with stand-ins for `rt` and
 //! `cargo`.
 
+use std::env;
 use std::fs::{self, Permissions};
 use std::os::unix::fs::PermissionsExt;
 use std::path::{Path, PathBuf};
-use std::process::{Command, Output, Stdio};
+use std::process::{self, Command, Output, Stdio};
+use std::thread;
 
 pub const TOP: &str = concat!(env!("CARGO_MANIFEST_DIR"), "/../../..");
 
@@ -24,17 +26,26 @@ const FILES: [&str; 9] = [
     "man/barrowtide.1",
 ];
 
-/// Proves two crates, with a note of each, or is the gate.
+/// Proves three crates, with a note of each, or is the gate; of a changed crate it says what a file has that is
+/// named as its source reads.
 const RT: &str = r#"echo "$*" >>"$HERE/proved"
 case $1 in
-fmt) ;;
-ci) echo "2 passed, 0 failed" ;;
-staticlib)
-    for crate in hash format; do echo "note: of $crate"; echo "rt: $crate proved (1 s)"; done >&2
-    mkdir -p target/staticlib
-    cp "$ARCHIVE" target/staticlib/libbarrowtide.a
-    echo "rt: target/staticlib/libbarrowtide.a has the functions of barrowtide"
+version) echo "kit" ;;
+ci)
+    echo "rt: ok; handles allowed: none; must-fail edits: 2 refused${BAD:-}; all were tried"
+    echo "2 passed, ${FAILED:-0} failed"
+    exit "${FAILED:-0}"
     ;;
+lib)
+    for crate in hash format barrowtide; do
+        echo "note: of $crate"
+        echo "crate $crate: modules loaded=1 checked=1"
+        echo "logic=proved functions=1"
+    done
+    mkdir -p out
+    cp "$ARCHIVE" out/libbarrowtide.a
+    ;;
+check) cat "$HERE/said/$(cat src/lib)"; exit "${CHECKED:-1}" ;;
 *) exit 9 ;;
 esac"#;
 
@@ -50,17 +61,19 @@ const PROGRAM: &str = r#"pwd; echo "$@""#;
 pub struct Place(pub PathBuf);
 
 impl Place {
-    /// A new one, which keeps no archive.
+    /// A new one, which keeps no archive. It lies outside the repository, where rt ci takes no other crates.txt.
     pub fn new(name: &str) -> Self {
-        let top = PathBuf::from(env!("CARGO_TARGET_TMPDIR")).join(name);
-        let _ = fs::remove_dir_all(&top);
+        let top = env::temp_dir().join(format!("barrowtide-{}-{name}", process::id()));
         fs::create_dir_all(&top).expect("a folder for the test");
         let place = Self(fs::canonicalize(top).expect("a folder"));
-        place.write("crates.txt", "hash:\nformat: hash\nbarrowtide: format\nother: hash\n");
-        // Without the endings of sources: rt asks of every such file in the repository whose it is.
+        place.write(
+            "crates.txt",
+            "hash:\nformat: hash\nbarrowtide staticlib: format\nother: hash\n",
+        );
         place.write("crates/hash/src/lib", "");
         place.write("crates/hash/specs/Hash", "");
         place.write("crates/hash/proofs/Hash", "");
+        place.write("crates/barrowtide/src/lib", "");
         for file in ["Cargo.toml", "Cargo.lock", "barrowtide-sys/build.rs"] {
             place.write(&format!("bindings/rust/{file}"), "");
         }
@@ -114,7 +127,8 @@ impl Place {
 
     /// How often the library was proved.
     pub fn proved(&self) -> usize {
-        self.read("proved").map_or(0, |text| text.matches("staticlib barrowtide\n").count())
+        self.read("proved")
+            .map_or(0, |text| text.lines().filter(|line| line.starts_with("lib ")).count())
     }
 
     /// How often the program was built.
@@ -138,6 +152,14 @@ impl Place {
 
     pub fn run(&self, script: &str, arguments: &[&str]) -> Output {
         self.command(script, arguments).output().expect("the script starts")
+    }
+}
+
+impl Drop for Place {
+    fn drop(&mut self) {
+        if !thread::panicking() {
+            let _ = fs::remove_dir_all(&self.0);
+        }
     }
 }
 
