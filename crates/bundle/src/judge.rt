@@ -257,7 +257,7 @@ fn settle(verdict: Verdict, fault: Fault) -> Verdict
 
 // The bundle rule, for the bytes of a BEEF, a list of trusted roots end to end, a fee that is asked of each transaction, and a table of so many rows.
 // What the records say is written in a flat form with room for 256: their ids end to end, and ten numbers for each. Both callers lend that room; the
-// tests of it stand for a `requires`, which a walk by hand would have to meet.
+// tests of it stand for a `requires`, which the proof of a caller would have to meet.
 pub(crate) fn judge_flat(
     s: &[u8],
     roots: &[u8],

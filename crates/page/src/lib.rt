@@ -205,7 +205,7 @@ fn answer_all(s: &[u8], ids: &[u8], path: Path, numbers: &mut [u64], roots: &mut
     answer_ids(s, ids, path, &mut states, numbers, roots);
 }
 
-// A page as it is asked for, with its answers in flat form. The caller lends room for them; the tests of it stand for a `requires`, which a walk by hand
+// A page as it is asked for, with its answers in flat form. The caller lends room for them; the tests of it stand for a `requires`, which the caller's proof
 // would have to meet.
 fn answer_flat(s: &[u8], ids: &[u8], room: usize, roots: &mut [u8], numbers: &mut [u64]) -> Paged
     ensures { ROOTS_ROOM ≤ length roots.old → NUMBERS_ROOM ≤ length numbers.old → (result ≡ paged_of (page s.now ids.now room))

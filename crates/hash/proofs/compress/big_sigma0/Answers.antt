@@ -1,4 +1,4 @@
--- `hash::big0` meets its contract: the definition's own expression. Assumes nothing.
+-- `big_sigma0` meets its contract: the definition's own expression. Assumes nothing.
 use Rattle.std.proofs.Common.{refl}
 use Rattle.hash.specs.Sha256.{Σ0, ◌⊕◌, rotr, shr, shl}
 use Rattle.hash.proofs.compress.big_sigma0.Goals as goal
