@@ -1,5 +1,5 @@
 -- A list of leaves and two BUMPs merged, for C.
-use Rattle.std.specs.Prelude.{List, ℕ, length}
+use Rattle.std.specs.Prelude.{ℕ, length}
 use Rattle.encoding.specs.BumpBytes.{Content, bump_bytes}
 use Rattle.levels.specs.declared.level.Place.{Place}
 use Rattle.levels.specs.declared.level.Place.TheVariants.{At, Nowhere}

@@ -1,13 +1,11 @@
 -- The bundle rule in two passes, of a bundle that was read: a first one up to 20, whose flat form is what the second, for 26, 27 and 28, goes by.
-use Prim.Native.Nat.{ℕ, zero, suc, ◌+◌, ◌-◌, ◌*◌, ◌<◌, ◌≤◌}
+use Prim.Native.Nat.{ℕ, zero, suc, ◌+◌, ◌*◌, ◌<◌, ◌≤◌}
 use mathlib.Core.Path.{◌≡◌, refl, sym, ap, ap₂, ◌∙◌}
 use mathlib.Core.Bool.{Bool, true, false}
-use mathlib.Core.List.{List, [], ◌∷◌, ◌++◌, map}
+use mathlib.Core.List.{List, [], ◌∷◌, map}
 use native.Mathlib.Omega.{arith}
 use lib.ListN.{length, get_or, take, length-map, length-take}
 use lib.Seq.{get_or-take}
-use Rattle.format.specs.declared.beef.Anchor.{Anchor}
-use Rattle.format.specs.declared.beef.Anchor.TheVariants.{Unanchored, Bump as InBump}
 use Rattle.format.specs.Parse.{ok, pick, many, ◌passing◌else◌}
 use Rattle.format.proofs.ParseLaws.{many-told, onward-told, passing_told}
 use Rattle.format.specs.Field.{bytes, le8, number, varint}
@@ -16,10 +14,10 @@ use Rattle.format.specs.Transaction.{script_field, takes, output_field, outputs_
 use Rattle.format.proofs.TransactionLaws.{TxRead, tx_told, output-told, taken-total}
 use Rattle.format.specs.Beef.{BeefEntry, Beef}
 use Rattle.format.proofs.BeefLaws.{BeefRead}
-use Rattle.format.specs.Refusals.{MAX_INPUT, MAX_TOTAL, BAD_AMOUNT, SAME_TX, NO_PARENT, NO_OUTPUT}
+use Rattle.format.specs.Refusals.{MAX_INPUT, MAX_TOTAL, BAD_AMOUNT, SAME_TX}
 use Rattle.bundle.specs.declared.judge.Ruling.{Ruling}
 use Rattle.bundle.specs.declared.judge.Ruling.TheVariants.{Refuses, Passes}
-use Rattle.spv.specs.Result.{Result, accepted, refused, carrying, blaming}
+use Rattle.spv.specs.Result.{Result, carrying}
 use Rattle.spv.specs.Hashes.{hashes_of, among}
 use Rattle.spv.proofs.RowsLaws.{map_at}
 use Rattle.bundle.specs.declared.pass.Fault.{Fault}
@@ -32,7 +30,7 @@ use Rattle.bundle.specs.Second.{fault_in}
 use Rattle.bundle.specs.Pass.{fault_of, settled}
 use Rattle.bundle.specs.Shown.{Shown, Answers}
 use Rattle.bundle.proofs.ShownLaws.{fault-taken}
-use Rattle.bundle.specs.Bundle.{rests, entry_id, entry_row, ruling, Judgement, judge_from, judge_entries}
+use Rattle.bundle.specs.Bundle.{entry_id, entry_row, ruling, Judgement, judge_from, judge_entries}
 use Rattle.bundle.proofs.BundleLaws.{from_same}
 use Rattle.bundle.specs.BundleHeads.{flag_of}
 use Rattle.bundle.proofs.BundleTheorems.{empty_entry, take-map, ids_are, told-earlier}

@@ -1,5 +1,5 @@
 -- What the code holds of a bundle that was read is judged as the bundle is.
-use Prim.Native.Nat.{ℕ, zero, suc, ◌+◌, ◌-◌, ◌%◌, ◌<◌, ◌≤◌}
+use Prim.Native.Nat.{ℕ, zero, suc, ◌-◌, ◌%◌, ◌<◌, ◌≤◌}
 use mathlib.Core.Path.{◌≡◌, refl, sym, ap, ◌∙◌, subst}
 use mathlib.Core.Bool.{Bool, true, false, ◌&&◌}
 use mathlib.Core.List.{List, [], ◌∷◌, map}
@@ -45,7 +45,7 @@ use Rattle.bundle.specs.Shown.{Answers}
 use Rattle.bundle.specs.declared.judge.Verdict.{Verdict}
 use Rattle.bundle.specs.declared.judge.Verdict.TheVariants.{Accepted, Refused}
 use Rattle.bundle.proofs.TableLaws.{flat-length}
-use Rattle.bundle.specs.Bundle.{rests, trusted, proving, nth_bump, empty_bump, entry_id, entry_row, judge_from, judge_entries, judge_read, judge_beef, judge_up_to}
+use Rattle.bundle.specs.Bundle.{rests, trusted, proving, nth_bump, empty_bump, entry_id, entry_row, judge_from, judge_read, judge_beef, judge_up_to}
 use Rattle.bundle.proofs.BundleTheorems.{empty_entry, take-map, trusted-told}
 use Rattle.bundle.proofs.BundleLaws.{from_map, from_same}
 use Rattle.bundle.specs.BundleHeads.{rests_from, head_total, head_proving, head_anchoring, head_ruling, head_id, head_stands, head_row, heads_from, numbers_of, no_head, RowIs, Written}

@@ -2,20 +2,18 @@
 -- parent earlier in the bundle and pays (02, Item 9).
 use Prim.Native.Nat.{ℕ, zero, suc, ◌<◌, ◌≤◌}
 use mathlib.Core.Path.{◌≡◌, refl, sym, ap, ◌∙◌}
-use mathlib.Core.Bool.{Bool, true, false, ◌&&◌, ◌||◌}
+use mathlib.Core.Bool.{Bool, true, false, ◌&&◌}
 use mathlib.Core.List.{List, [], ◌∷◌, map}
 use mathlib.Core.Logic.{◌⊎◌, inl, inr}
 use native.Mathlib.Decide.{dec_lt}
 use native.Mathlib.Omega.{arith}
 use lib.ListN.{length, get_or, take, length-take, length-map}
 use lib.Seq.{get_or-take}
-use Rattle.format.proofs.Basics.{or_true}
 use Rattle.format.specs.declared.transaction.Input.{Input}
 use Rattle.format.specs.declared.beef.Anchor.{Anchor}
 use Rattle.format.specs.declared.beef.Anchor.TheVariants.{Unanchored, Bump as InBump}
 use Rattle.format.specs.Parse.{pick}
-use Rattle.format.specs.Bytes.{same, hash_at}
-use Rattle.format.proofs.BytesLaws.{same_eq, eq_same}
+use Rattle.format.specs.Bytes.{hash_at}
 use Rattle.format.specs.Beef.{BeefEntry, Beef}
 use Rattle.format.specs.Refusals.{UNTRUSTED, SAME_TX, NO_PARENT}
 use Rattle.bundle.specs.declared.judge.Ruling.TheVariants.{Refuses, Passes}

@@ -11,7 +11,7 @@ use lib.ListN.{length, get_or, set, take, drop, replicate, get_or-eq_default}
 use lib.Seq.{drop-drop}
 use borrow.Author.Tests.{le-leb, lt-ltb, ltb-true, ltb-false, lt-leb, le-ltb, eqb-true, eqb-false, eq-eqb, ne_eqb, not-true, not-false}
 use Rattle.format.specs.declared.transaction.Input.{Input}
-use Rattle.format.proofs.Basics.{one_less, or_true}
+use Rattle.format.proofs.Basics.{one_less}
 use Rattle.format.specs.Parse.{ok, fault, pick}
 use Rattle.format.specs.Bytes.{same, hash_at}
 use Rattle.format.proofs.BytesLaws.{same_eq, eq_same}

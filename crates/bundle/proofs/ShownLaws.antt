@@ -2,7 +2,7 @@
 use Prim.Native.Nat.{ℕ, zero, suc, ◌+◌, ◌-◌, ◌*◌, ◌/◌, ◌<◌, ◌≤◌}
 use mathlib.Core.Path.{◌≡◌, refl, sym, ap, ap₂, ◌∙◌, subst}
 use mathlib.Core.Bool.{Bool, true, false, not}
-use mathlib.Core.List.{List, [], ◌∷◌, ◌++◌, map, append_assoc, append-nil}
+use mathlib.Core.List.{List, [], ◌∷◌, ◌++◌, append_assoc, append-nil}
 use native.Mathlib.Omega.{arith}
 use native.Mathlib.Nat.{sub-zero}
 use lib.Dec.{eqb}
@@ -11,7 +11,6 @@ use lib.Seq.{get_or-take, take-take, length-take-le, ext_get_or}
 use borrow.Author.Tests.{eqb-true, eqb-false, eq-eqb, ne_eqb, not-true, not-false}
 use Rattle.format.specs.Parse.{pick}
 use Rattle.format.specs.Refusals.{NO_OUTPUT}
-use Rattle.spv.specs.declared.rejection.Rejection.{Rejection}
 use Rattle.spv.specs.Result.{accepted, refused, carrying, blaming}
 use Rattle.spv.specs.Hashes.{hashes_of, Distinct}
 use Rattle.spv.proofs.HashesLaws.{hashes-at, taken-length}
@@ -19,7 +18,6 @@ use Rattle.spv.proofs.RowsLaws.{map_at}
 use Rattle.bundle.specs.declared.pass.Fault.{Fault}
 use Rattle.bundle.specs.Amounts.{Payment, AmountRuling, passes, refuses, ids_of, exist, fresh, spends, enough, funded, amounts}
 use Rattle.bundle.specs.Payments.{no_payment, Different}
-use Rattle.bundle.specs.Numbers.{output_count}
 use Rattle.bundle.specs.FlatForm.{column, inputs_of, exist_from}
 use Rattle.bundle.proofs.ExistLaws.{exist-is}
 use Rattle.bundle.specs.Walks.{Counted}

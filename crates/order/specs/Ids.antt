@@ -1,8 +1,7 @@
 -- Searching among the ids of a set, which stand end to end.
-use Rattle.std.specs.Prelude.{ℕ, suc, ◌*◌, ◌<◌, ◌≡◌, List, [], ◌∷◌, length, get_or}
-use Rattle.format.specs.Parse.{pick}
+use Rattle.std.specs.Prelude.{ℕ, ◌*◌, ◌<◌, ◌≡◌, List, length, get_or}
 use Rattle.format.specs.Field.{le8}
-use Rattle.format.specs.Bytes.{same, hash_at}
+use Rattle.format.specs.Bytes.{hash_at}
 
 -- an id's first eight bytes as a number
 unfoldable pub key_of : List ℕ → ℕ

@@ -33,7 +33,7 @@ use Rattle.page.specs.declared.Paged.{Paged}
 use Rattle.page.specs.Page.{MAX_PAGE, blank_answer, answer_of, bump_for, page, paged_of, row_of}
 use Rattle.page.proofs.PageLaws.{page-few, opening_row, opening_paged}
 use Rattle.page.specs.Opening.{unopened, opening_of, answer_under, answer_at, count_of}
-use Rattle.page.specs.Flat.{ROOTS_ROOM, NUMBERS_ROOM, flat_at, flat_answer, Copied, Noted, Levelled, asked, Right, AllRight}
+use Rattle.page.specs.Flat.{ROOTS_ROOM, NUMBERS_ROOM, flat_at, flat_answer, Copied, Noted, Levelled, asked, AllRight}
 
 -- ---- rows that were proved
 

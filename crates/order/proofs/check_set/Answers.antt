@@ -2,8 +2,6 @@ use Prim.Native.Nat.{ℕ}
 use mathlib.Core.Path.{sym, ap, ◌∙◌}
 use lib.ListN.{length, length-replicate}
 use native.Mathlib.Omega.{arith}
-use borrow.Author.Rules.{rules}
-use borrow.Author.Tests.{not-true, not-false}
 use Rattle.order.proofs.SetAnswers.{opened-told, check-refused, check_made, answer_refused, answer_fails, answer_passes}
 use Rattle.order.proofs.check_set.Goals as goal
 

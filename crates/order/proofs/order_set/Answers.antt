@@ -2,8 +2,6 @@ use Prim.Native.Nat.{ℕ}
 use mathlib.Core.Path.{ap, ◌∙◌}
 use lib.ListN.{length, length-replicate}
 use native.Mathlib.Omega.{arith}
-use borrow.Author.Rules.{rules}
-use borrow.Author.Tests.{not-true, not-false}
 use Rattle.order.proofs.SetAnswers.{opened-told, order_refused, order_short, order_made, answer_refused, row-refused, answer_none, answer_some, row-ours}
 use Rattle.order.proofs.order_set.Goals as goal
 

@@ -1,7 +1,6 @@
 use Prim.Native.Nat.{ℕ}
 use native.Mathlib.Omega.{arith}
 use lib.ListN.{length-replicate}
-use borrow.Author.Rules.{rules}
 use Rattle.page.proofs.answer_all.Goals as goal
 
 pub answer_ids-requires : goal.answer_ids-requires

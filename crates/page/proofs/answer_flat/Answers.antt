@@ -1,6 +1,5 @@
 use native.Mathlib.Omega.{arith}
 use Rattle.page.proofs.FlatLaws.{not-both, opening_few, opening_levelled, flat-page}
-use borrow.Author.Rules.{rules}
 use Rattle.page.proofs.answer_flat.Goals as goal
 
 pub returns-then-roots-lt-ROOTS_ROOM : goal.returns-then-roots-lt-ROOTS_ROOM

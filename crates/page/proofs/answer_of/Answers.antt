@@ -1,5 +1,4 @@
 use Rattle.page.specs.Page.{answer_by, answer_of}
-use borrow.Author.Rules.{rules}
 use Rattle.page.proofs.answer_of.Goals as goal
 
 pub returns-in-Accepted : goal.returns-in-Accepted

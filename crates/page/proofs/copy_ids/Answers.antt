@@ -1,10 +1,6 @@
-use Prim.Native.Nat.{◌-◌}
-use mathlib.Core.Path.{◌≡◌, refl, ◌∙◌}
+use mathlib.Core.Path.{refl, ◌∙◌}
 use native.Mathlib.Omega.{arith}
-use lib.ListN.{length}
-use borrow.Author.Rules.{rules}
 use Rattle.format.proofs.BytesLaws.{hash-at-length}
-use Rattle.page.specs.Flat.{Copied}
 use Rattle.page.proofs.FlatLaws.{copied_none, copied_on, copied_all}
 use Rattle.page.proofs.copy_ids.Goals as goal
 

@@ -1,11 +1,7 @@
 use Prim.Native.Nat.{◌-◌}
-use mathlib.Core.Path.{◌≡◌, refl, ◌∙◌}
-use native.Mathlib.Omega.{arith}
+use mathlib.Core.Path.{◌≡◌}
 use lib.ListN.{length}
-use borrow.Author.Rules.{rules}
-use Rattle.format.proofs.BytesLaws.{hash-at-length}
 use Rattle.page.specs.Flat.{Copied}
-use Rattle.page.proofs.FlatLaws.{copied_none, copied_on, copied_all}
 use Rattle.page.proofs.copy_ids.Given as goal
 
 abbrev pub invariant-loop-row : goal.invariant-loop-row

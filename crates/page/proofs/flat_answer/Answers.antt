@@ -1,6 +1,5 @@
 use mathlib.Core.Path.{sym, ◌∙◌}
 use Rattle.page.proofs.FlatLaws.{flat-past, flat_over, flat_short, flat-here, flat-row}
-use borrow.Author.Rules.{rules}
 use Rattle.page.proofs.flat_answer.Goals as goal
 
 pub returns-then-count-row : goal.returns-then-count-row

@@ -1,10 +1,9 @@
-use Prim.Native.Nat.{ℕ, ◌+◌, ◌-◌, ◌≤◌}
-use mathlib.Core.Path.{◌≡◌, refl, sym, subst, ◌∙◌}
+use Prim.Native.Nat.{ℕ, ◌+◌, ◌≤◌}
+use mathlib.Core.Path.{refl, sym, subst, ◌∙◌}
 use native.Mathlib.Omega.{arith}
-use lib.ListN.{length, get_or, length-set}
-use Rattle.page.specs.Flat.{NUMBERS_ROOM, Noted}
+use lib.ListN.{get_or, length-set}
+use Rattle.page.specs.Flat.{NUMBERS_ROOM}
 use Rattle.page.proofs.FlatLaws.{noted-none, noted_on, noted-end}
-use borrow.Author.Rules.{rules}
 use Rattle.page.proofs.note_rows.Goals as goal
 
 pub bounds-numbers : goal.bounds-numbers

@@ -1,10 +1,7 @@
-use Prim.Native.Nat.{ℕ, ◌+◌, ◌-◌, ◌≤◌}
-use mathlib.Core.Path.{◌≡◌, refl, sym, subst, ◌∙◌}
-use native.Mathlib.Omega.{arith}
-use lib.ListN.{length, get_or, length-set}
+use Prim.Native.Nat.{◌-◌, ◌≤◌}
+use mathlib.Core.Path.{◌≡◌}
+use lib.ListN.{length, get_or}
 use Rattle.page.specs.Flat.{NUMBERS_ROOM, Noted}
-use Rattle.page.proofs.FlatLaws.{noted-none, noted_on, noted-end}
-use borrow.Author.Rules.{rules}
 use Rattle.page.proofs.note_rows.Given as goal
 
 abbrev pub invariant-loop-row : goal.invariant-loop-row

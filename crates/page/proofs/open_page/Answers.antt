@@ -3,7 +3,6 @@ use Prim.Native.Nat.{◌/◌}
 use lib.ListN.{length}
 use Rattle.page.specs.Opening.{unopened, opening_of}
 use Rattle.page.proofs.PageLaws.{page-part, page_over, page_short, page-asked}
-use borrow.Author.Rules.{rules}
 use Rattle.page.proofs.open_page.Goals as goal
 
 pub returns-then-ids-ne0 : goal.returns-then-ids-ne0

@@ -7,7 +7,6 @@ use Rattle.spv.specs.Result.{refused_reading}
 use Rattle.page.specs.declared.Paged.{Paged}
 use Rattle.page.specs.declared.Opening.{Opening}
 use Rattle.page.specs.Opening.{unopened, opening_of}
-use borrow.Author.Rules.{rules}
 use Rattle.page.proofs.read_page.Goals as goal
 
 pub returns-in_default : goal.returns-in_default

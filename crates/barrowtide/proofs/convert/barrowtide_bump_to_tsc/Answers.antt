@@ -1,4 +1,3 @@
-use borrow.Author.Rules.{rules}
 use Rattle.barrowtide.proofs.convert.barrowtide_bump_to_tsc.Goals as goal
 
 pub returns : goal.returns

@@ -1,4 +1,3 @@
-use borrow.Author.Rules.{rules}
 use Rattle.barrowtide.proofs.convert.barrowtide_tsc_to_bump.Goals as goal
 
 pub returns : goal.returns

@@ -1,4 +1,3 @@
-use borrow.Author.Rules.{rules}
 use Rattle.barrowtide.proofs.differences.barrowtide_differences.Goals as goal
 
 pub returns : goal.returns

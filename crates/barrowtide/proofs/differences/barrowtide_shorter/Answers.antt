@@ -3,7 +3,6 @@ use Rattle.difference.specs.Shorter.{Part}
 use Rattle.difference.proofs.ShorterLaws.{weighs}
 use lib.ListN.{length}
 use mathlib.Core.Path.{ap}
-use borrow.Author.Rules.{rules}
 use Rattle.barrowtide.proofs.differences.barrowtide_shorter.Goals as goal
 
 pub returns-then-size-ne0 : goal.returns-then-size-ne0

@@ -2,7 +2,6 @@ use Rattle.barrowtide.proofs.ChoicesLaws.{listed-refused, listed-accepted}
 use Rattle.barrowtide.proofs.InterfaceLaws.{refused-number, refused-blame, refused-taken, given-number, given-blame, given-taken}
 use mathlib.Core.Path.{sym, ◌∙◌}
 use lib.ListN.{length}
-use borrow.Author.Rules.{rules}
 use Rattle.barrowtide.proofs.differences.tell.Goals as goal
 
 pub returns-in-Entries : goal.returns-in-Entries

@@ -2,7 +2,6 @@ use lib.ListN.{length}
 use mathlib.Core.Path.{refl, sym, ◌∙◌}
 use Rattle.barrowtide.proofs.InterfaceLaws.{refused-number, refused-blame, refused-taken, given-number, given-blame, given-taken}
 use Rattle.barrowtide.proofs.AnswersLaws.{verdict_refused, verdict_accepted}
-use borrow.Author.Rules.{rules}
 use Rattle.barrowtide.proofs.judge.tell.Goals as goal
 
 pub returns-in-Accepted : goal.returns-in-Accepted

@@ -1,4 +1,3 @@
-use borrow.Author.Rules.{rules}
 use Rattle.barrowtide.proofs.leaves.barrowtide_merge.Goals as goal
 
 pub returns : goal.returns

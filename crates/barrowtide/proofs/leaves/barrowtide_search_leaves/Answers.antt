@@ -1,7 +1,6 @@
 use Rattle.levels.specs.declared.level.Place.{Place}
 use Rattle.barrowtide.specs.Leaves.{found_of, place_after}
 use mathlib.Core.Path.{ap, ◌∙◌}
-use borrow.Author.Rules.{rules}
 use Rattle.barrowtide.proofs.leaves.barrowtide_search_leaves.Goals as goal
 
 pub returns : goal.returns

@@ -2,7 +2,6 @@ use Rattle.barrowtide.proofs.LeavesLaws.{built_refused, built_accepted}
 use Rattle.barrowtide.proofs.InterfaceLaws.{refused-number, refused-blame, refused-taken, given-number, given-blame, given-taken}
 use mathlib.Core.Path.{sym, ◌∙◌}
 use lib.ListN.{length}
-use borrow.Author.Rules.{rules}
 use Rattle.barrowtide.proofs.leaves.tell_built.Goals as goal
 
 pub returns-in-Leaves : goal.returns-in-Leaves

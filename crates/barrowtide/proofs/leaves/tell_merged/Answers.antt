@@ -2,7 +2,6 @@ use Rattle.barrowtide.specs.Leaves.{bytes_of, leaves_of}
 use Rattle.barrowtide.proofs.LeavesLaws.{merged-refused, merged-accepted}
 use Rattle.barrowtide.proofs.InterfaceLaws.{refused-number, refused-blame, refused-taken, given-number, given-blame, given-taken}
 use mathlib.Core.Path.{sym, ◌∙◌}
-use borrow.Author.Rules.{rules}
 use Rattle.barrowtide.proofs.leaves.tell_merged.Goals as goal
 
 pub returns-in-Written : goal.returns-in-Written

@@ -1,6 +1,5 @@
 use Rattle.barrowtide.specs.Leaves.{found_of, place_after}
 use mathlib.Core.Path.{refl}
-use borrow.Author.Rules.{rules}
 use Rattle.barrowtide.proofs.leaves.tell_place.Goals as goal
 
 pub returns-in-At : goal.returns-in-At

@@ -1,4 +1,3 @@
-use borrow.Author.Rules.{rules}
 use Rattle.barrowtide.proofs.ordering.barrowtide_check_order.Goals as goal
 
 pub returns : goal.returns

@@ -1,5 +1,4 @@
 use mathlib.Core.Path.{sym, ◌∙◌}
-use borrow.Author.Rules.{rules}
 use Rattle.barrowtide.proofs.OrderingLaws.{told-accepted, told-refused}
 use Rattle.barrowtide.proofs.ordering.tell.Goals as goal
 

@@ -1,7 +1,6 @@
 use mathlib.Core.Path.{sym, ◌∙◌}
 use Rattle.barrowtide.proofs.InterfaceLaws.{refused-number, refused-blame, given-number, given-blame}
 use Rattle.barrowtide.proofs.AnswersLaws.{paged_refused, paged_accepted}
-use borrow.Author.Rules.{rules}
 use Rattle.barrowtide.proofs.pages.tell.Goals as goal
 
 pub returns-in-Answered : goal.returns-in-Answered

@@ -1,4 +1,4 @@
-use Rattle.stream.specs.Parts.{with_end, says, MAX_PARTS}
+use Rattle.stream.specs.Parts.{with_end}
 use Rattle.barrowtide.proofs.PartsLaws.{answer_kept}
 use Rattle.barrowtide.proofs.parts.barrowtide_parts_end.Goals as goal
 

@@ -1,4 +1,4 @@
-use Rattle.stream.specs.Parts.{with_part, says, MAX_PARTS}
+use Rattle.stream.specs.Parts.{with_part}
 use Rattle.barrowtide.proofs.PartsLaws.{answer_kept}
 use Rattle.barrowtide.proofs.parts.barrowtide_parts_part.Goals as goal
 

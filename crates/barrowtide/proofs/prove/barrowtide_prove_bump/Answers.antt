@@ -1,4 +1,3 @@
-use borrow.Author.Rules.{rules}
 use Rattle.barrowtide.proofs.prove.barrowtide_prove_bump.Goals as goal
 
 pub returns : goal.returns

@@ -1,4 +1,3 @@
-use borrow.Author.Rules.{rules}
 use Rattle.format.proofs.ParseLaws.{answered, each-ok, each-fault}
 use Rattle.format.specs.TransactionAnswer.{tx_answer}
 use Rattle.format.specs.Transaction.{tx_field, tx_head_of}

@@ -1,4 +1,3 @@
-use borrow.Author.Rules.{rules}
 use Rattle.format.proofs.ParseLaws.{answered, each-ok, each-fault}
 use Rattle.format.specs.TscAnswer.{tsc_answer}
 use Rattle.format.specs.Tsc.{tsc_head_of}

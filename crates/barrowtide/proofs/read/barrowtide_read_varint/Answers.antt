@@ -1,4 +1,3 @@
-use borrow.Author.Rules.{rules}
 use Rattle.format.specs.FieldAnswer.{number_of}
 use Rattle.format.proofs.ParseLaws.{answered}
 use Rattle.barrowtide.proofs.InterfaceLaws.{first-ok, first-fault, first_too_long, refused-number, refused-blame, refused-taken, given-number, given-blame, given-taken}

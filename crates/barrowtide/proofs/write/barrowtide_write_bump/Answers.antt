@@ -1,4 +1,3 @@
-use borrow.Author.Rules.{rules}
 use Rattle.barrowtide.proofs.write.barrowtide_write_bump.Goals as goal
 
 pub returns : goal.returns

@@ -2,7 +2,6 @@ use lib.ListN.{length}
 use mathlib.Core.Path.{sym, ◌∙◌}
 use Rattle.barrowtide.proofs.InterfaceLaws.{refused-number, refused-blame, refused-taken, given-number, given-blame, given-taken}
 use Rattle.barrowtide.proofs.AnswersLaws.{written-refused, written-accepted}
-use borrow.Author.Rules.{rules}
 use Rattle.barrowtide.proofs.write.tell.Goals as goal
 
 pub returns-in-Bytes : goal.returns-in-Bytes

@@ -1,5 +1,3 @@
-use borrow.Author.Rules.{rules}
-use borrow.Author.Tests.{not-true}
 use Rattle.bundle.proofs.AnchoredLaws.{risen_none}
 use Rattle.bundle.proofs.anchored.climb_bump.Goals as goal
 

@@ -1,10 +1,6 @@
-use Prim.Native.Nat.{ℕ, ◌+◌, ◌-◌, ◌≤◌, ◌<◌}
-use mathlib.Core.Path.{◌≡◌, refl, ◌∙◌}
+use mathlib.Core.Path.{refl, ◌∙◌}
 use borrow.Author.Rules.{rules}
 use native.Mathlib.Omega.{arith}
-use lib.ListN.{length, get_or}
-use Rattle.format.specs.Refusals.{MAX_BUMPS}
-use Rattle.bundle.specs.Anchored.{Right}
 use Rattle.bundle.proofs.AnchoredLaws.{risen_on}
 use Rattle.bundle.proofs.anchored.climb_bumps.Goals as goal
 

@@ -1,11 +1,8 @@
 use Prim.Native.Nat.{ℕ, ◌+◌, ◌-◌, ◌≤◌, ◌<◌}
-use mathlib.Core.Path.{◌≡◌, refl, ◌∙◌}
-use borrow.Author.Rules.{rules}
-use native.Mathlib.Omega.{arith}
+use mathlib.Core.Path.{◌≡◌}
 use lib.ListN.{length, get_or}
 use Rattle.format.specs.Refusals.{MAX_BUMPS}
 use Rattle.bundle.specs.Anchored.{Right}
-use Rattle.bundle.proofs.AnchoredLaws.{risen_on}
 use Rattle.bundle.proofs.anchored.climb_bumps.Given as goal
 
 abbrev pub invariant-loop-b : goal.invariant-loop-b

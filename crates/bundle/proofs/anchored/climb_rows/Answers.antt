@@ -1,4 +1,3 @@
-use borrow.Author.Rules.{rules}
 use native.Mathlib.Omega.{arith}
 use Rattle.bundle.proofs.AnchoredLaws.{rows_settled}
 use Rattle.bundle.proofs.anchored.climb_rows.Goals as goal

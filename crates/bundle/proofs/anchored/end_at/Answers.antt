@@ -1,4 +1,3 @@
-use borrow.Author.Rules.{rules}
 use Rattle.bundle.proofs.AnchoredLaws.{at-passes, at-refuses}
 use Rattle.bundle.proofs.anchored.end_at.Goals as goal
 

@@ -1,10 +1,8 @@
-use Prim.Native.Nat.{◌-◌, ◌≤◌}
 use mathlib.Core.Path.{◌≡◌, refl, ap, ◌∙◌}
 use native.Mathlib.Omega.{arith}
 use borrow.Author.Rules.{rules}
 use lib.ListN.{length, length-set}
 use Rattle.format.proofs.BytesLaws.{hash-at-length}
-use Rattle.bundle.specs.Anchored.{Gathered}
 use Rattle.bundle.proofs.AnchoredLaws.{gathered_none, gathered_past, gathered_one}
 use Rattle.bundle.proofs.anchored.gather.Goals as goal
 

@@ -1,11 +1,7 @@
 use Prim.Native.Nat.{◌-◌, ◌≤◌}
-use mathlib.Core.Path.{◌≡◌, refl, ap, ◌∙◌}
-use native.Mathlib.Omega.{arith}
-use borrow.Author.Rules.{rules}
-use lib.ListN.{length, length-set}
-use Rattle.format.proofs.BytesLaws.{hash-at-length}
+use mathlib.Core.Path.{◌≡◌}
+use lib.ListN.{length}
 use Rattle.bundle.specs.Anchored.{Gathered}
-use Rattle.bundle.proofs.AnchoredLaws.{gathered_none, gathered_past, gathered_one}
 use Rattle.bundle.proofs.anchored.gather.Given as goal
 
 abbrev pub invariant-loop-i : goal.invariant-loop-i

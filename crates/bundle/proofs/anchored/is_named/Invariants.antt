@@ -1,10 +1,6 @@
 use Prim.Native.Nat.{ℕ, ◌-◌, ◌<◌}
 use mathlib.Core.Path.{◌≡◌}
-use native.Mathlib.Omega.{arith}
-use borrow.Author.Count.{below_more}
-use borrow.Author.Rules.{rules}
 use lib.ListN.{get_or}
-use Rattle.bundle.specs.Anchored.{Unnamed}
 use Rattle.bundle.proofs.anchored.is_named.Given as goal
 
 abbrev pub invariant-loop-i : goal.invariant-loop-i

@@ -1,4 +1,3 @@
-use borrow.Author.Rules.{rules}
 use mathlib.Core.Path.{◌∙◌}
 use Rattle.bundle.proofs.AnchoredLaws.{put-refuses, put-passes}
 use Rattle.bundle.proofs.anchored.put_end.Goals as goal

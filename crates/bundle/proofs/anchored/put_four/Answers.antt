@@ -1,6 +1,4 @@
 use borrow.Author.Rules.{rules}
-use native.Mathlib.Omega.{arith}
-use lib.ListN.{length-set}
 use Rattle.bundle.specs.Anchored.{put_four}
 use Rattle.bundle.proofs.anchored.put_four.Goals as goal
 

@@ -1,9 +1,7 @@
-use Prim.Native.Nat.{◌-◌, ◌≤◌}
 use mathlib.Core.Path.{◌≡◌, refl, ◌∙◌}
 use native.Mathlib.Omega.{arith}
 use borrow.Author.Rules.{rules}
 use lib.ListN.{length}
-use Rattle.bundle.specs.Anchored.{SettlesRows}
 use Rattle.bundle.proofs.AnchoredLaws.{rows_none, rows_more}
 use Rattle.bundle.proofs.anchored.settle_rows.Goals as goal
 

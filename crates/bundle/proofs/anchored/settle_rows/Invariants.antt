@@ -1,10 +1,7 @@
 use Prim.Native.Nat.{◌-◌, ◌≤◌}
-use mathlib.Core.Path.{◌≡◌, refl, ◌∙◌}
-use native.Mathlib.Omega.{arith}
-use borrow.Author.Rules.{rules}
+use mathlib.Core.Path.{◌≡◌}
 use lib.ListN.{length}
 use Rattle.bundle.specs.Anchored.{SettlesRows}
-use Rattle.bundle.proofs.AnchoredLaws.{rows_none, rows_more}
 use Rattle.bundle.proofs.anchored.settle_rows.Given as goal
 
 abbrev pub invariant-loop-r : goal.invariant-loop-r

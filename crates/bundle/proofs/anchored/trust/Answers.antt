@@ -1,8 +1,6 @@
 use mathlib.Core.Path.{ap, sym, ◌∙◌}
-use borrow.Author.Tests.{not-true, not-false}
 use Rattle.bundle.proofs.BundleHeadLaws.{trusted-refused, trusted-listed, trusted-not}
 use Rattle.bundle.specs.declared.judge.Ruling.TheVariants.{Refuses}
-use borrow.Author.Rules.{rules}
 use Rattle.bundle.proofs.anchored.trust.Goals as goal
 
 pub returns-then-not-is_among : goal.returns-then-not-is_among

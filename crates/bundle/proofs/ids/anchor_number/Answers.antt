@@ -1,4 +1,3 @@
-use borrow.Author.Rules.{rules}
 use mathlib.Core.Path.{sym, ap}
 use Rattle.bundle.specs.Ahead.{anchor_of}
 use Rattle.bundle.proofs.ids.anchor_number.Goals as goal

@@ -1,4 +1,3 @@
-use borrow.Author.Rules.{rules}
 use native.Mathlib.Omega.{arith}
 use Rattle.bundle.specs.WorkMade.{group_work}
 use Rattle.bundle.proofs.ids.group_work.Goals as goal

@@ -1,4 +1,3 @@
-use borrow.Author.Rules.{rules}
 use Rattle.bundle.proofs.AheadLaws.{ids_made_lem}
 use Rattle.bundle.proofs.ids.ids_of.Goals as goal
 

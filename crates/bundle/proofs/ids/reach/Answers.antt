@@ -1,4 +1,3 @@
-use borrow.Author.Rules.{rules}
 use Rattle.format.proofs.ParseLaws.{answered}
 use Rattle.format.specs.BeefAnswer.{entry_answer}
 use Rattle.bundle.specs.Ahead.{span_of}

@@ -1,4 +1,3 @@
-use borrow.Author.Rules.{rules}
 use Rattle.bundle.specs.Ahead.{set_anchors}
 use Rattle.bundle.proofs.ids.set_anchors.Goals as goal
 

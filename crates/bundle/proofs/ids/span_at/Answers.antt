@@ -1,4 +1,3 @@
-use borrow.Author.Rules.{rules}
 use Rattle.bundle.proofs.AheadLaws.{reached-none, reached-more}
 use Rattle.bundle.proofs.ids.span_at.Goals as goal
 

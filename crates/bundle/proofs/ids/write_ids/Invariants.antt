@@ -1,13 +1,9 @@
 use Prim.Native.Nat.{◌-◌, ◌*◌, ◌≤◌}
-use mathlib.Core.Path.{◌≡◌, refl, ◌∙◌}
-use native.Mathlib.Omega.{arith}
-use borrow.Author.Rules.{rules}
+use mathlib.Core.Path.{◌≡◌}
 use lib.ListN.{length}
 use Rattle.bundle.specs.Windows.{sum_to}
 use Rattle.bundle.specs.Ahead.{span_at, Onward, IdsFrom, AnchorsFrom}
-use Rattle.bundle.proofs.AheadLaws.{onward-start, onward-four, ids_none, ids_four, ids_enough, anchors_none, anchors_four, anchors_enough}
 use Rattle.bundle.specs.WorkMade.{work_below}
-use Rattle.bundle.proofs.WorkMadeLaws.{made_four, made_all}
 use Rattle.bundle.proofs.ids.write_ids.Given as goal
 
 abbrev pub invariant-loop-i : goal.invariant-loop-i

@@ -1,9 +1,7 @@
 use mathlib.Core.Path.{ap, sym, ◌∙◌}
-use borrow.Author.Tests.{not-true, not-false}
 use Rattle.bundle.proofs.BundleHeadLaws.{stands-again, stands_mined, stands_nowhere, stands_child, stands_orphan}
 use Rattle.bundle.specs.declared.judge.Ruling.TheVariants.{Refuses}
 use Rattle.bundle.specs.Anchored.{mined_by}
-use borrow.Author.Rules.{rules}
 use Rattle.bundle.proofs.judge.judge_entry.Goals as goal
 
 pub returns-then-is_among : goal.returns-then-is_among

@@ -1,5 +1,5 @@
-use Prim.Native.Nat.{◌-◌, ◌<◌, ◌≤◌}
-use mathlib.Core.Path.{◌≡◌, sym, ◌∙◌}
+use Prim.Native.Nat.{◌<◌}
+use mathlib.Core.Path.{sym, ◌∙◌}
 use native.Mathlib.Omega.{arith}
 use native.Mathlib.Nat.{sub-zero}
 use borrow.Author.Rules.{rules}
@@ -7,7 +7,6 @@ use Rattle.format.proofs.ParseLaws.{answered}
 use Rattle.format.specs.TransactionAnswer.{input_answer}
 use Rattle.spv.specs.Hashes.{hashes_of}
 use Rattle.bundle.proofs.FlatLaws.{finds_some, finds_none}
-use Rattle.bundle.specs.BundleHeads.{rests_from}
 use Rattle.bundle.proofs.BundleHeadLaws.{parents-refused, parents-missing, parents_on, parents-end}
 use Rattle.bundle.proofs.judge.rests_on.Goals as goal
 

@@ -1,14 +1,7 @@
-use Prim.Native.Nat.{◌-◌, ◌<◌, ◌≤◌}
-use mathlib.Core.Path.{◌≡◌, sym, ◌∙◌}
-use native.Mathlib.Omega.{arith}
-use native.Mathlib.Nat.{sub-zero}
-use borrow.Author.Rules.{rules}
-use Rattle.format.proofs.ParseLaws.{answered}
-use Rattle.format.specs.TransactionAnswer.{input_answer}
+use Prim.Native.Nat.{◌-◌, ◌≤◌}
+use mathlib.Core.Path.{◌≡◌}
 use Rattle.spv.specs.Hashes.{hashes_of}
-use Rattle.bundle.proofs.FlatLaws.{finds_some, finds_none}
 use Rattle.bundle.specs.BundleHeads.{rests_from}
-use Rattle.bundle.proofs.BundleHeadLaws.{parents-refused, parents-missing, parents_on, parents-end}
 use Rattle.bundle.proofs.judge.rests_on.Given as goal
 
 abbrev pub invariant-loop-i : goal.invariant-loop-i

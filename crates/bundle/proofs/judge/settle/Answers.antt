@@ -1,4 +1,3 @@
-use borrow.Author.Rules.{rules}
 use Rattle.bundle.proofs.BundleRead.{settle-none, settle-fault}
 use Rattle.bundle.proofs.judge.settle.Goals as goal
 

@@ -1,4 +1,3 @@
-use borrow.Author.Rules.{rules}
 use Rattle.bundle.proofs.FlatLaws.{inputs-anchored, inputs_free}
 use Rattle.bundle.proofs.marks.inputs_of.Goals as goal
 

@@ -1,10 +1,6 @@
-use Prim.Native.Nat.{◌-◌}
-use mathlib.Core.Path.{◌≡◌, refl, ◌∙◌}
+use mathlib.Core.Path.{refl, ◌∙◌}
 use native.Mathlib.Omega.{arith}
-use borrow.Author.Rules.{rules}
-use lib.ListN.{length}
-use Rattle.spv.specs.Hashes.{hashes_of, Distinct}
-use Rattle.bundle.proofs.FlatLaws.{Passing, passing_start, passing_end, passing_on}
+use Rattle.bundle.proofs.FlatLaws.{passing_start, passing_end, passing_on}
 use Rattle.bundle.proofs.marks.mark_entries.Goals as goal
 
 pub loop-k-init : goal.loop-k-init

@@ -1,10 +1,8 @@
 use Prim.Native.Nat.{◌-◌}
-use mathlib.Core.Path.{◌≡◌, refl, ◌∙◌}
-use native.Mathlib.Omega.{arith}
-use borrow.Author.Rules.{rules}
+use mathlib.Core.Path.{◌≡◌}
 use lib.ListN.{length}
 use Rattle.spv.specs.Hashes.{hashes_of, Distinct}
-use Rattle.bundle.proofs.FlatLaws.{Passing, passing_start, passing_end, passing_on}
+use Rattle.bundle.proofs.FlatLaws.{Passing}
 use Rattle.bundle.proofs.marks.mark_entries.Given as goal
 
 abbrev pub invariant-loop-k : goal.invariant-loop-k

@@ -1,12 +1,8 @@
-use Prim.Native.Nat.{◌-◌}
-use mathlib.Core.Path.{◌≡◌, refl, ◌∙◌}
+use mathlib.Core.Path.{refl, ◌∙◌}
 use native.Mathlib.Omega.{arith}
-use borrow.Author.Rules.{rules}
-use lib.ListN.{length}
 use Rattle.format.proofs.ParseLaws.{answered}
 use Rattle.format.specs.TransactionAnswer.{input_answer}
-use Rattle.spv.specs.Hashes.{hashes_of, Distinct}
-use Rattle.bundle.proofs.FlatLaws.{Marking, marking_start, marking_end, marking_stops, marking_on}
+use Rattle.bundle.proofs.FlatLaws.{marking_start, marking_end, marking_stops, marking_on}
 use Rattle.bundle.proofs.marks.mark_inputs.Goals as goal
 
 pub loop-i-init : goal.loop-i-init

@@ -1,4 +1,3 @@
-use borrow.Author.Rules.{rules}
 use mathlib.Core.Path.{refl}
 use Rattle.bundle.proofs.FlatLaws.{one_below, one-past, one_again, one_new}
 use Rattle.bundle.proofs.marks.mark_one.Goals as goal

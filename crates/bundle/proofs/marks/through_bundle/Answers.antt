@@ -1,4 +1,3 @@
-use borrow.Author.Rules.{rules}
 use Rattle.bundle.proofs.FlatLaws.{through-past, through-at}
 use Rattle.bundle.proofs.marks.through_bundle.Goals as goal
 

@@ -1,7 +1,5 @@
-use Prim.Native.Nat.{◌-◌, ◌≤◌}
 use native.Mathlib.Omega.{arith}
-use borrow.Author.Rules.{rules}
-use Rattle.bundle.proofs.ShownLaws.{Passed, passed_start, passed-end, passed-missing, passed_on}
+use Rattle.bundle.proofs.ShownLaws.{passed_start, passed-end, passed-missing, passed_on}
 use mathlib.Core.Path.{ap}
 use mathlib.Core.Bool.{not}
 use Rattle.bundle.proofs.outputs.first_missing.Goals as goal

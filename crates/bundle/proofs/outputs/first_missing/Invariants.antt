@@ -1,7 +1,5 @@
 use Prim.Native.Nat.{◌-◌, ◌≤◌}
-use native.Mathlib.Omega.{arith}
-use borrow.Author.Rules.{rules}
-use Rattle.bundle.proofs.ShownLaws.{Passed, passed_start, passed-end, passed-missing, passed_on}
+use Rattle.bundle.proofs.ShownLaws.{Passed}
 use Rattle.bundle.proofs.outputs.first_missing.Given as goal
 
 abbrev pub invariant-loop-k : goal.invariant-loop-k

@@ -1,9 +1,7 @@
 use Prim.Native.Nat.{◌*◌}
 use mathlib.Core.Path.{sym, ap, ◌∙◌}
-use native.Mathlib.Omega.{arith}
 use lib.ListN.{take}
 use lib.Seq.{length-take-le}
-use borrow.Author.Rules.{rules}
 use Rattle.format.specs.declared.transaction.Items.{Items}
 use Rattle.spv.specs.Hashes.{hashes_of}
 use Rattle.bundle.specs.FlatForm.{exist_from}

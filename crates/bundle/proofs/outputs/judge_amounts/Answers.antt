@@ -2,7 +2,6 @@ use Prim.Native.Nat.{◌*◌}
 use mathlib.Core.Path.{sym}
 use native.Mathlib.Omega.{arith}
 use lib.Seq.{length-take-le}
-use borrow.Author.Rules.{rules}
 use Rattle.bundle.proofs.ShownLaws.{answers-many, answers_short, answers-narrow, answers-fault, answers-missing, answers-all}
 use Rattle.bundle.proofs.outputs.judge_amounts.Goals as goal
 

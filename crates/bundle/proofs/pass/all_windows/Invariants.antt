@@ -1,14 +1,11 @@
 use Prim.Native.Nat.{◌-◌, ◌≤◌}
-use mathlib.Core.Path.{◌≡◌, refl, ◌∙◌}
+use mathlib.Core.Path.{◌≡◌}
 use mathlib.Core.List.{List}
 use lib.ListN.{length}
 use Rattle.bundle.specs.Amounts.{Payment}
 use Rattle.bundle.specs.Numbers.{output_count}
 use Rattle.bundle.specs.Pictured.{Pictured}
 use Rattle.bundle.specs.Pass.{Firsts, Reached, Blank}
-use native.Mathlib.Omega.{arith}
-use borrow.Author.Rules.{rules}
-use Rattle.bundle.proofs.ReachLaws.{reached-start, reached-end}
 use Rattle.bundle.proofs.pass.all_windows.Given as goal
 
 abbrev pub invariant-loop-base : goal.invariant-loop-base

@@ -1,7 +1,5 @@
-use Prim.Native.Nat.{◌-◌}
 use native.Mathlib.Omega.{arith}
-use borrow.Author.Rules.{rules}
-use Rattle.bundle.proofs.FaultLaws.{Clear, clear-start, clear-end, clear-again, clear-little, clear_on}
+use Rattle.bundle.proofs.FaultLaws.{clear-start, clear-end, clear-again, clear-little, clear_on}
 use mathlib.Core.Path.{ap}
 use mathlib.Core.Bool.{not}
 use Rattle.bundle.proofs.pass.first_fault.Goals as goal

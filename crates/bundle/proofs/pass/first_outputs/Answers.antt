@@ -1,7 +1,5 @@
-use Prim.Native.Nat.{◌-◌}
 use native.Mathlib.Omega.{arith}
-use borrow.Author.Rules.{rules}
-use Rattle.bundle.proofs.ReachLaws.{FirstsTo, firsts_start, firsts_on, firsts_end}
+use Rattle.bundle.proofs.ReachLaws.{firsts_start, firsts_on, firsts_end}
 use Rattle.bundle.proofs.pass.first_outputs.Goals as goal
 
 pub loop-k-init : goal.loop-k-init

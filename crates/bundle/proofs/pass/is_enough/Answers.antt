@@ -1,4 +1,3 @@
-use borrow.Author.Rules.{rules}
 use Rattle.bundle.proofs.FaultLaws.{enough-anchored, enough_less, enough-more}
 use Rattle.bundle.proofs.pass.is_enough.Goals as goal
 

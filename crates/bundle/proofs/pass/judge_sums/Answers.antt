@@ -1,4 +1,3 @@
-use borrow.Author.Rules.{rules}
 use Rattle.bundle.proofs.ReachLaws.{judged-none, judged-many, judged_short, judged_by}
 use Rattle.bundle.proofs.pass.judge_sums.Goals as goal
 

@@ -1,4 +1,3 @@
-use borrow.Author.Rules.{rules}
 use Rattle.bundle.proofs.ReachLaws.{reached_on}
 use Rattle.bundle.proofs.pass.one_window.Goals as goal
 

@@ -1,11 +1,8 @@
-use Prim.Native.Nat.{◌-◌, ◌≤◌}
-use mathlib.Core.Path.{◌≡◌, refl, ◌∙◌}
+use mathlib.Core.Path.{refl, ◌∙◌}
 use native.Mathlib.Omega.{arith}
-use borrow.Author.Rules.{rules}
-use lib.ListN.{length}
 use Rattle.format.specs.FieldAnswer.{number_of}
 use Rattle.format.proofs.ParseLaws.{answered}
-use Rattle.bundle.proofs.WalkLaws.{Adds, adds_start, adds_end, adds_stuck, adds_none, adds_on}
+use Rattle.bundle.proofs.WalkLaws.{adds_start, adds_end, adds_stuck, adds_none, adds_on}
 use Rattle.bundle.proofs.sums.add_outputs.Goals as goal
 
 pub loop-j-init : goal.loop-j-init

@@ -1,11 +1,7 @@
 use Prim.Native.Nat.{◌-◌, ◌≤◌}
-use mathlib.Core.Path.{◌≡◌, refl, ◌∙◌}
-use native.Mathlib.Omega.{arith}
-use borrow.Author.Rules.{rules}
+use mathlib.Core.Path.{◌≡◌}
 use lib.ListN.{length}
-use Rattle.format.specs.FieldAnswer.{number_of}
-use Rattle.format.proofs.ParseLaws.{answered}
-use Rattle.bundle.proofs.WalkLaws.{Adds, adds_start, adds_end, adds_stuck, adds_none, adds_on}
+use Rattle.bundle.proofs.WalkLaws.{Adds}
 use Rattle.bundle.proofs.sums.add_outputs.Given as goal
 
 abbrev pub invariant-loop-j : goal.invariant-loop-j

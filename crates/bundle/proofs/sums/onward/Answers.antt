@@ -1,4 +1,3 @@
-use borrow.Author.Rules.{rules}
 use mathlib.Core.Path.{◌∙◌}
 use Rattle.bundle.proofs.WalkLaws.{onward-same, onward_over, onward_short, onward-next}
 use Rattle.bundle.proofs.sums.onward.Goals as goal

@@ -1,12 +1,9 @@
-use Prim.Native.Nat.{◌-◌, ◌≤◌}
-use mathlib.Core.Path.{◌≡◌, refl, sym, ◌∙◌}
+use mathlib.Core.Path.{refl, sym, ◌∙◌}
 use native.Mathlib.Omega.{arith}
 use native.Mathlib.Nat.{sub-zero}
-use borrow.Author.Rules.{rules}
 use Rattle.format.proofs.ParseLaws.{answered}
 use Rattle.format.specs.FieldAnswer.{number_of}
 use Rattle.format.proofs.TransactionLaws.{output-told, taken-total}
-use Rattle.bundle.specs.BundleHeads.{total_from}
 use Rattle.bundle.proofs.BundleHeadLaws.{total-refused, total_on, total-end}
 use Rattle.bundle.proofs.sums.outputs_total.Goals as goal
 

@@ -1,4 +1,3 @@
-use borrow.Author.Rules.{rules}
 use Rattle.bundle.proofs.WalkLaws.{walk_is}
 use Rattle.bundle.proofs.sums.walk_at.Goals as goal
 

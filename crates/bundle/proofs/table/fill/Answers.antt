@@ -1,4 +1,4 @@
-use Rattle.std.proofs.Common.{◌≡◌, ◌<◌, length, ap, ◌∙◌, arith, slice_set}
+use Rattle.std.proofs.Common.{◌<◌, length, ap, ◌∙◌, arith, slice_set}
 use Rattle.spv.proofs.Filled.{up_to_none, up_to_more, up_to_all, up_to_length}
 use Rattle.bundle.specs.Table.{flat_record}
 use Rattle.bundle.proofs.table.fill.Goals as goal

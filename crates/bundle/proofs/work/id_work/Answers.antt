@@ -1,6 +1,5 @@
 use native.Mathlib.Omega.{arith}
 use Rattle.bundle.specs.Work.{id_work}
-use borrow.Author.Rules.{rules}
 use Rattle.bundle.proofs.work.id_work.Goals as goal
 
 pub returns : goal.returns

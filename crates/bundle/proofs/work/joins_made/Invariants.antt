@@ -1,10 +1,7 @@
 use Prim.Native.Nat.{◌-◌, ◌*◌, ◌≤◌}
-use mathlib.Core.Path.{◌≡◌, refl}
-use borrow.Author.Rules.{rules}
-use native.Mathlib.Omega.{arith}
+use mathlib.Core.Path.{◌≡◌}
 use Rattle.bundle.specs.Windows.{sum_to}
 use Rattle.bundle.specs.WorkMade.{kept_joins}
-use Rattle.bundle.proofs.WorkMadeLaws.{sum_one}
 use Rattle.bundle.proofs.work.joins_made.Given as goal
 
 abbrev pub invariant-loop-k : goal.invariant-loop-k

@@ -1,4 +1,3 @@
-use borrow.Author.Rules.{rules}
 use native.Mathlib.Omega.{arith}
 use Rattle.bundle.proofs.WorkMadeLaws.{total-is}
 use Rattle.bundle.proofs.work.work_made.Goals as goal

@@ -1,4 +1,3 @@
-use borrow.Author.Rules.{rules}
 use Rattle.order.proofs.BitsLaws.{bit_shifted}
 use Rattle.order.proofs.bits.has_bit.Goals as goal
 

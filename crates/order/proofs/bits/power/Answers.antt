@@ -1,4 +1,3 @@
-use borrow.Author.Rules.{rules}
 use Rattle.order.proofs.BitsLaws.{powered}
 use Rattle.order.proofs.bits.power.Goals as goal
 

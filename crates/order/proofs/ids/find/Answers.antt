@@ -1,11 +1,8 @@
-use Prim.Native.Nat.{◌≤◌, ◌-◌}
-use mathlib.Core.Path.{◌≡◌, sym, ◌∙◌}
-use borrow.Author.Rules.{rules}
+use mathlib.Core.Path.{sym, ◌∙◌}
 use native.Mathlib.Numerals.{add-one}
 use native.Mathlib.Omega.{arith}
 use Rattle.spv.specs.Hashes.{hashes}
-use Rattle.order.specs.Ids.{key_of}
-use Rattle.order.proofs.IdsLaws.{Passed, passed_start, search_on, search-here, search-end}
+use Rattle.order.proofs.IdsLaws.{passed_start, search_on, search-here, search-end}
 use Rattle.order.proofs.ids.find.Goals as goal
 
 pub loop-i-init : goal.loop-i-init

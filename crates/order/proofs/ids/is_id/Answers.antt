@@ -1,7 +1,6 @@
 use mathlib.Core.Path.{sym, ap, ◌∙◌}
 use mathlib.Core.List.{List}
 use Prim.Native.Nat.{ℕ, ◌*◌}
-use borrow.Author.Rules.{rules}
 use Rattle.format.specs.Bytes.{same, hash_at}
 use Rattle.order.proofs.IdsLaws.{keys_differ}
 use Rattle.order.proofs.ids.is_id.Goals as goal

@@ -1,4 +1,3 @@
-use borrow.Author.Rules.{rules}
 use Rattle.order.specs.Ids.{key_of}
 use Rattle.order.proofs.ids.key_of.Goals as goal
 

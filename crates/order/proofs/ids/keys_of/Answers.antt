@@ -1,10 +1,9 @@
-use Prim.Native.Nat.{ℕ, ◌≤◌, ◌-◌}
+use Prim.Native.Nat.{ℕ}
 use mathlib.Core.Path.{◌≡◌, ap, ◌∙◌}
 use lib.ListN.{length, length-replicate}
-use borrow.Author.Rules.{rules}
 use native.Mathlib.Numerals.{add-one}
 use native.Mathlib.Omega.{arith}
-use Rattle.order.specs.Ids.{key_of, Keys}
+use Rattle.order.specs.Ids.{key_of}
 use Rattle.order.proofs.IdsLaws.{keys_start, keys_on}
 use Rattle.order.proofs.ids.keys_of.Goals as goal
 

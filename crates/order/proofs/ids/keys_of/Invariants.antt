@@ -1,11 +1,5 @@
-use Prim.Native.Nat.{ℕ, ◌≤◌, ◌-◌}
-use mathlib.Core.Path.{◌≡◌, ap, ◌∙◌}
-use lib.ListN.{length, length-replicate}
-use borrow.Author.Rules.{rules}
-use native.Mathlib.Numerals.{add-one}
-use native.Mathlib.Omega.{arith}
-use Rattle.order.specs.Ids.{key_of, Keys}
-use Rattle.order.proofs.IdsLaws.{keys_start, keys_on}
+use Prim.Native.Nat.{◌≤◌, ◌-◌}
+use Rattle.order.specs.Ids.{Keys}
 use Rattle.order.proofs.ids.keys_of.Given as goal
 
 abbrev pub invariant-loop-k : goal.invariant-loop-k

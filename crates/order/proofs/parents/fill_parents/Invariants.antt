@@ -1,14 +1,8 @@
-use Prim.Native.Nat.{◌≤◌, ◌-◌, ◌<◌}
-use mathlib.Core.Path.{◌≡◌, refl, sym, ◌∙◌}
+use Prim.Native.Nat.{◌≤◌, ◌-◌}
+use mathlib.Core.Path.{◌≡◌}
 use lib.ListN.{length}
-use borrow.Author.Rules.{rules}
-use native.Mathlib.Nat.{sub-zero}
-use native.Mathlib.Omega.{arith}
-use Rattle.format.proofs.ParseLaws.{answered}
-use Rattle.format.specs.TransactionAnswer.{tx_answer}
 use Rattle.spv.specs.Hashes.{hashes}
 use Rattle.order.specs.Parents.{filled_from}
-use Rattle.order.proofs.ParentsLaws.{filling-refused, filling_on, filling-end}
 use Rattle.order.proofs.parents.fill_parents.Given as goal
 
 abbrev pub invariant-loop-i : goal.invariant-loop-i

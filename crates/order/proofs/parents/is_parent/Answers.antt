@@ -1,4 +1,3 @@
-use borrow.Author.Rules.{rules}
 use Rattle.order.proofs.CodeLaws.{depends_bit}
 use Rattle.order.proofs.parents.is_parent.Goals as goal
 

@@ -1,5 +1,3 @@
-use native.Mathlib.Omega.{arith}
-use borrow.Author.Rules.{rules}
 use Rattle.order.proofs.ParentsLaws.{put_made, put-none}
 use Rattle.order.proofs.parents.put_parent.Goals as goal
 

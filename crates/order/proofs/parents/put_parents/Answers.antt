@@ -1,13 +1,9 @@
-use Prim.Native.Nat.{◌≤◌, ◌-◌, ◌<◌}
-use mathlib.Core.Path.{◌≡◌, refl, sym, ◌∙◌}
-use lib.ListN.{length}
-use borrow.Author.Rules.{rules}
+use Prim.Native.Nat.{◌<◌}
+use mathlib.Core.Path.{refl, sym, ◌∙◌}
 use native.Mathlib.Nat.{sub-zero}
 use native.Mathlib.Omega.{arith}
 use Rattle.format.proofs.ParseLaws.{answered}
 use Rattle.format.specs.TransactionAnswer.{input_answer}
-use Rattle.spv.specs.Hashes.{hashes}
-use Rattle.order.specs.Parents.{parents_from, all_named}
 use Rattle.order.proofs.ParentsLaws.{putting_refused, putting_on, putting_end}
 use Rattle.order.proofs.parents.put_parents.Goals as goal
 

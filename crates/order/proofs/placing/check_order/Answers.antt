@@ -1,14 +1,13 @@
-use Prim.Native.Nat.{ℕ, ◌≤◌, ◌<◌, ◌-◌}
-use Rattle.order.specs.Code.{depends_in, Marks}
+use Prim.Native.Nat.{ℕ, ◌<◌}
+use Rattle.order.specs.Code.{depends_in}
 use mathlib.Core.Path.{◌≡◌, sym, ap, ◌∙◌}
 use mathlib.Core.Bool.{true}
 use native.Mathlib.Omega.{arith}
 use native.Mathlib.Numerals.{add-one}
 use lib.ListN.{length, take, get_or, length-replicate, length-set}
-use borrow.Author.Rules.{rules}
 use borrow.Author.Tests.{not-true, not-false}
 use Rattle.order.specs.Order.{ready}
-use Rattle.order.proofs.CodeLaws.{marks_start, Checking, checking-start, checking_on, checking-fails, checking_ends, marks_on, ready-low}
+use Rattle.order.proofs.CodeLaws.{marks_start, checking-start, checking_on, checking-fails, checking_ends, marks_on, ready-low}
 use mathlib.Core.Path.{ap}
 use mathlib.Core.Bool.{not}
 use Rattle.order.proofs.placing.check_order.Goals as goal

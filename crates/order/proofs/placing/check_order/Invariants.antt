@@ -1,14 +1,8 @@
-use Prim.Native.Nat.{ℕ, ◌≤◌, ◌<◌, ◌-◌}
-use Rattle.order.specs.Code.{depends_in, Marks}
-use mathlib.Core.Path.{◌≡◌, sym, ap, ◌∙◌}
-use mathlib.Core.Bool.{true}
-use native.Mathlib.Omega.{arith}
-use native.Mathlib.Numerals.{add-one}
-use lib.ListN.{length, take, get_or, length-replicate, length-set}
-use borrow.Author.Rules.{rules}
-use borrow.Author.Tests.{not-true, not-false}
-use Rattle.order.specs.Order.{ready}
-use Rattle.order.proofs.CodeLaws.{marks_start, Checking, checking-start, checking_on, checking-fails, checking_ends, marks_on, ready-low}
+use Prim.Native.Nat.{◌≤◌, ◌-◌}
+use Rattle.order.specs.Code.{Marks}
+use mathlib.Core.Path.{◌≡◌}
+use lib.ListN.{length, take}
+use Rattle.order.proofs.CodeLaws.{Checking}
 use Rattle.order.proofs.placing.check_order.Given as goal
 
 abbrev pub invariant-loop-k : goal.invariant-loop-k

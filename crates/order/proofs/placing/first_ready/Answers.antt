@@ -1,9 +1,7 @@
-use Prim.Native.Nat.{◌≤◌, ◌-◌}
 use mathlib.Core.Path.{◌≡◌, sym, ◌∙◌}
 use native.Mathlib.Omega.{arith}
 use native.Mathlib.Numerals.{add-one}
-use borrow.Author.Rules.{rules}
-use Rattle.order.proofs.CodeLaws.{Searching, search-start, search_on, search-here, search-end}
+use Rattle.order.proofs.CodeLaws.{search-start, search_on, search-here, search-end}
 use Rattle.order.proofs.placing.first_ready.Goals as goal
 
 pub loop-i-init : goal.loop-i-init

@@ -1,9 +1,5 @@
 use Prim.Native.Nat.{◌≤◌, ◌-◌}
-use mathlib.Core.Path.{◌≡◌, sym, ◌∙◌}
-use native.Mathlib.Omega.{arith}
-use native.Mathlib.Numerals.{add-one}
-use borrow.Author.Rules.{rules}
-use Rattle.order.proofs.CodeLaws.{Searching, search-start, search_on, search-here, search-end}
+use Rattle.order.proofs.CodeLaws.{Searching}
 use Rattle.order.proofs.placing.first_ready.Given as goal
 
 abbrev pub invariant-loop-i : goal.invariant-loop-i

@@ -1,7 +1,6 @@
 use mathlib.Core.Path.{ap, sym}
 use mathlib.Core.Bool.{Bool, not, ◌||◌}
 use lib.Dec.{eqb}
-use borrow.Author.Rules.{rules}
 use Rattle.order.proofs.placing.held.Goals as goal
 
 pub returns-then-parent : goal.returns-then-parent

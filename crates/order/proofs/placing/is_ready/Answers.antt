@@ -2,7 +2,6 @@ use native.Mathlib.Omega.{arith}
 use lib.ListN.{get_or}
 use borrow.Author.Tests.{eq-eqb, ne_eqb}
 use Rattle.order.proofs.CodeLaws.{ready-high, ready-placed, ready-rests}
-use borrow.Author.Rules.{rules}
 use Rattle.order.proofs.placing.is_ready.Goals as goal
 
 pub returns-then-i-n : goal.returns-then-i-n

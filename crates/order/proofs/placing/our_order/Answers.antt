@@ -1,11 +1,9 @@
-use Prim.Native.Nat.{ℕ, ◌≤◌, ◌-◌}
-use Rattle.order.specs.Code.{Marks}
+use Prim.Native.Nat.{ℕ}
 use mathlib.Core.Path.{◌≡◌, refl, ap, ◌∙◌}
 use native.Mathlib.Omega.{arith}
 use native.Mathlib.Numerals.{add-one}
-use lib.ListN.{length, take, drop, replicate, length-replicate, length-set}
-use borrow.Author.Rules.{rules}
-use Rattle.order.proofs.CodeLaws.{marks_start, marks_placed, Placing, placing-start, placing_on, placing_stops, answer_none, answer_some, rest_on}
+use lib.ListN.{length, replicate, length-replicate, length-set}
+use Rattle.order.proofs.CodeLaws.{marks_start, marks_placed, placing-start, placing_on, placing_stops, answer_none, answer_some, rest_on}
 use Rattle.order.proofs.placing.our_order.Goals as goal
 
 pub loop-k-init : goal.loop-k-init

@@ -1,11 +1,8 @@
-use Prim.Native.Nat.{ℕ, ◌≤◌, ◌-◌}
+use Prim.Native.Nat.{◌≤◌, ◌-◌}
 use Rattle.order.specs.Code.{Marks}
-use mathlib.Core.Path.{◌≡◌, refl, ap, ◌∙◌}
-use native.Mathlib.Omega.{arith}
-use native.Mathlib.Numerals.{add-one}
-use lib.ListN.{length, take, drop, replicate, length-replicate, length-set}
-use borrow.Author.Rules.{rules}
-use Rattle.order.proofs.CodeLaws.{marks_start, marks_placed, Placing, placing-start, placing_on, placing_stops, answer_none, answer_some, rest_on}
+use mathlib.Core.Path.{◌≡◌}
+use lib.ListN.{length, take, drop}
+use Rattle.order.proofs.CodeLaws.{Placing}
 use Rattle.order.proofs.placing.our_order.Given as goal
 
 abbrev pub invariant-loop-k : goal.invariant-loop-k

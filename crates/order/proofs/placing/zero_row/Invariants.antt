@@ -1,9 +1,6 @@
 use Prim.Native.Nat.{◌≤◌, ◌-◌}
-use mathlib.Core.Path.{◌≡◌, refl, ◌∙◌}
-use native.Mathlib.Omega.{arith}
-use native.Mathlib.Numerals.{add-one}
-use lib.ListN.{length, take, replicate, length-set}
-use Rattle.order.proofs.CodeLaws.{zero_on, zero-end}
+use mathlib.Core.Path.{◌≡◌}
+use lib.ListN.{length, take, replicate}
 use Rattle.order.proofs.placing.zero_row.Given as goal
 
 abbrev pub invariant-loop-k : goal.invariant-loop-k

@@ -1,6 +1,5 @@
 use native.Mathlib.Numerals.{add-one}
 use Rattle.order.specs.SetRead.{between}
-use borrow.Author.Rules.{rules}
 use Rattle.order.proofs.set.between.Goals as goal
 
 pub returns : goal.returns

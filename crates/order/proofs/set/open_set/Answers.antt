@@ -1,9 +1,7 @@
 use mathlib.Core.Path.{sym, ◌∙◌}
 use native.Mathlib.Omega.{arith}
-use borrow.Author.Tests.{not-true, not-false}
 use Rattle.order.specs.SetRead.{read_by}
 use Rattle.order.proofs.SetReadLaws.{opened_over, opened-long, answers-refused, answers-again, answers_new}
-use borrow.Author.Rules.{rules}
 use Rattle.order.proofs.set.open_set.Goals as goal
 
 pub returns-then-count-gt-MOST : goal.returns-then-count-gt-MOST

@@ -1,6 +1,5 @@
 use mathlib.Core.Path.{sym}
 use lib.ListN.{get_or-eq_default}
-use borrow.Author.Rules.{rules}
 use Rattle.order.proofs.set.place_at.Goals as goal
 
 pub returns-then-places-i : goal.returns-then-places-i

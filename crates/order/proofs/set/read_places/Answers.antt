@@ -1,12 +1,10 @@
-use Prim.Native.Nat.{◌-◌}
-use mathlib.Core.Path.{◌≡◌, refl, sym, ◌∙◌}
+use mathlib.Core.Path.{refl, sym}
 use native.Mathlib.Omega.{arith}
 use borrow.Author.Rules.{rules}
-use lib.ListN.{length}
 use Rattle.format.proofs.ParseLaws.{answered}
 use Rattle.format.specs.TransactionAnswer.{tx_answer}
 use Rattle.order.specs.SetRead.{placed_by}
-use Rattle.order.proofs.SetTurns.{Reading, reading-start, reading-refused, reading_on, reading_extra, reading-end}
+use Rattle.order.proofs.SetTurns.{reading-start, reading-refused, reading_on, reading_extra, reading-end}
 use Rattle.order.proofs.set.read_places.Goals as goal
 
 pub loop-i-init : goal.loop-i-init

@@ -1,12 +1,7 @@
 use Prim.Native.Nat.{◌-◌}
-use mathlib.Core.Path.{◌≡◌, refl, sym, ◌∙◌}
-use native.Mathlib.Omega.{arith}
-use borrow.Author.Rules.{rules}
+use mathlib.Core.Path.{◌≡◌}
 use lib.ListN.{length}
-use Rattle.format.proofs.ParseLaws.{answered}
-use Rattle.format.specs.TransactionAnswer.{tx_answer}
-use Rattle.order.specs.SetRead.{placed_by}
-use Rattle.order.proofs.SetTurns.{Reading, reading-start, reading-refused, reading_on, reading_extra, reading-end}
+use Rattle.order.proofs.SetTurns.{Reading}
 use Rattle.order.proofs.set.read_places.Given as goal
 
 abbrev pub invariant-loop-i : goal.invariant-loop-i
