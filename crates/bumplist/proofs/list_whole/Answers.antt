@@ -1,6 +1,5 @@
 use native.Mathlib.Omega.{arith}
 use Rattle.listing.proofs.Room.{listing-written}
-use borrow.Author.Rules.{rules}
 use Rattle.bumplist.proofs.list_whole.Goals as goal
 
 pub returns : goal.returns
