@@ -297,7 +297,10 @@ fn wrong_programs() {
     let rests = |function: &str| {
         let why = "was not admitted (it has holes or undetermined implicits, or was rejected)";
         let path = format!("./proofs/{function}/Answers.antt:3:4");
+        let depends =
+            "error: 1 declaration that depends on `g`, which was not admitted, was not checked";
         format!("{path}: error: `spec`: `returns` {why}, so this cannot be checked\n")
+            + &format!("{path}: {depends}: returns\n")
     };
     let shapes = |function: &str| {
         let path = format!("./proofs/{function}/Answers.antt:1:2");
@@ -306,6 +309,12 @@ fn wrong_programs() {
     };
     let calls = |function: &str| {
         format!("fn hash::{function}: no proof: it calls `hash::f`, which is not proved\n")
+    };
+    let open = |function: &str| {
+        let why = "it is not proved that what the function ensures holds when it returns";
+        format!(
+            "note: src/lib.rt:1:2: {why} (`returns`)\nhelp: if\nfn hash::{function}: not proved\n"
+        )
     };
     // What the prover says of both programs, and of each alone.
     let look = |both: &str, first: &str, second: &str| {
@@ -330,6 +339,8 @@ fn wrong_programs() {
         own("+all+join") + &own("rounds/+back"),
         found.to_owned() + &own("rounds/back"),
         own("join").replace("Answers", "Invariants") + &own("rounds/back"),
+        // A goal of another name, that is open.
+        own("join") + &shapes("rounds/back") + &open("rounds::back") + &calls("all"),
     ] {
         assert_eq!(look(&log, "", ""), (true, good.into()));
     }
@@ -350,6 +361,7 @@ fn wrong_programs() {
             "hash/turned: no program is said to be wrong there: all",
         ),
         (both.clone() + &own("all"), String::new(), "no program is said to be wrong there: all"),
+        (both.clone() + &open("all"), String::new(), "no program is said to be wrong there: all"),
     ] {
         let (fine, words) = look(&log, "", &alone);
         assert!(!fine && words.contains(said), "{words}");
