@@ -1,7 +1,7 @@
 // Lists the BUMP on standard input (listing/specs/Listing.antt).
 #![tactic(auto)]
 
-ghost use Rattle.std.specs.Prelude.{◌≡◌, ◌≤◌, length, take};
+ghost use Rattle.std.specs.Prelude.{◌≡◌, ◌≤◌, length, take, OnErr};
 ghost use Rattle.std.specs.Io.{ReadsAtMost};
 ghost use Rattle.listing.specs.Listing.{LISTING_ROOM, listing};
 
@@ -29,9 +29,10 @@ fn list_whole(s: &[u8], out: &mut [u8]) -> usize
     listing::list(s, out)
 }
 
-// Reads until the room is full or the input ends, and answers how many bytes stand at the start of the room.
+// Reads until the room is full or the input ends, and answers how many bytes stand at the start of the room. An error is the input's own.
 fn read_full<R: Read>(input: &mut R, room: &mut [u8]) -> io::Result<usize>
-    ensures { ReadsAtMost result room.new }
+    ensures read { ReadsAtMost result room.new }
+    ensures err { OnErr result (length room.new ≡ length room.old) }
 {
     let mut done = 0;
     while done < room.len() {

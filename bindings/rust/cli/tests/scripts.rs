@@ -339,8 +339,8 @@ fn wrong_programs() {
         own("+all+join") + &own("rounds/+back"),
         found.to_owned() + &own("rounds/back"),
         own("join").replace("Answers", "Invariants") + &own("rounds/back"),
-        // A goal of another name, that is open.
-        own("join") + &shapes("rounds/back") + &open("rounds::back") + &calls("all"),
+        // A goal that is open.
+        own("join") + &open("rounds::back") + &calls("all"),
     ] {
         assert_eq!(look(&log, "", ""), (true, good.into()));
     }
@@ -353,6 +353,12 @@ fn wrong_programs() {
         (own("join"), String::new(), none),
         (own("join") + &rests("rounds/back"), rests("rounds/back"), none),
         (own("join") + &shapes("rounds/back"), shapes("rounds/back"), none),
+        // One that may be open only since an answer has a name that is gone.
+        (
+            own("join") + &shapes("rounds/back") + &open("rounds::back"),
+            shapes("rounds/back") + &open("rounds::back"),
+            none,
+        ),
         (own("join"), calls("rounds::back"), none),
         (own("join") + &own("back"), own("back"), none),
         (
