@@ -4,12 +4,12 @@
 #[path = "common/program.rs"]
 mod program;
 
+use std::env;
 use std::ffi::{OsStr, OsString};
 use std::fs::{self, File};
 use std::io::Write;
 use std::os::unix::fs::symlink;
-use std::path::PathBuf;
-use std::process::{Command, Stdio};
+use std::process::{self, Command, Stdio};
 
 use barrowtide::{join, Hash, Reason};
 use program::{
@@ -1128,9 +1128,9 @@ fn help() {
 /// The examples of the help, as printed. Only comparing can't show an acceptance.
 #[test]
 fn examples() {
-    // As at the top of a fresh clone, where nothing was built; what they write stays in here.
-    let top = PathBuf::from(env!("CARGO_TARGET_TMPDIR")).join("top");
-    let _ = fs::remove_dir_all(&top);
+    // As at the top of a fresh clone, where nothing was built; what they write stays in here. Outside the checkout, where
+    // rt ci takes no link.
+    let top = env::temp_dir().join(format!("barrowtide-examples-{}", process::id()));
     fs::create_dir(&top).expect("a folder");
     let bindings = concat!(env!("CARGO_MANIFEST_DIR"), "/../..");
     symlink(bindings, top.join("bindings")).expect("a link");
@@ -1146,6 +1146,7 @@ fn examples() {
         let expected = if name == "compare" { 1 } else { 0 };
         assert_eq!(status, Some(expected), "{script}\n{text}{error}");
     }
+    fs::remove_dir_all(&top).expect("it is removed");
 }
 
 /// Support staff find each refusal in the document, and no other.
