@@ -2,10 +2,11 @@
 """Brings the repository's own names in specs/, proofs/ and clauses to one spelling: words in snake case (`bigEndian` is `big_endian`), constants as in
 Rust (`MAX-INPUT` is `MAX_INPUT`), and in a lemma's name a dash only between two names (`length-pad`), with `_` before a plain word (`pad_front`).
 
-usage: tools/respell.py [--check] FOLDER      FOLDER holds crates/, and was turned by the kit's port.py; a second run changes nothing
+usage: tools/respell.py [--check] [--force] FOLDER      once, where FOLDER holds crates/ and was just turned by the kit's port.py
 
 Names of Rust code, names that the prover makes (after a dot, or answered as a goal), and names of the kit's library stay.
-It stops, and writes nothing, where two names of one file would fall together."""
+It stops, and writes nothing, where two names of one file would fall together; with --force it writes, once a reader has seen that
+these are fields of different records. --check writes nothing at all."""
 import collections
 import os
 import re
@@ -179,7 +180,6 @@ def main(argv):
                 # a function or a constant and its definition have one name
                 continue
             bad.append(f"{path}: {b} <- {sorted(froms)}")
-    # two definitions of one crate's one folder that were two names
     print(f"{len(new)} names, {len(changed)} files of {len(texts)}")
     for b in bad:
         print("together:", b)
