@@ -8,31 +8,11 @@ use borrow.Author.Tests.{eq-eqb, ne_eqb}
 use denote.Ref.{Bor}
 use Rattle.spv.specs.declared.rejection.Rejection.{Rejection}
 use Rattle.spv.specs.Result.{Result, accepted, refused}
-use Rattle.difference.specs.declared.listing.Listed.{Listed}
-use Rattle.difference.specs.Differences.{Difference}
-use Rattle.difference.specs.Listing.{listed_of}
 use Rattle.difference.specs.Shorter.{Choice, first, second, handed, why_of}
 use Rattle.difference.proofs.ShorterLaws.{Weighs, the_first, the_second, neither}
 use Rattle.barrowtide.specs.Interface.{refusal, blame}
 use Rattle.barrowtide.proofs.InterfaceLaws.{given-number, given-blame}
 use Rattle.barrowtide.specs.Choices.{which_of, which_by}
-
-module _ (v : Result (List Difference)) where
-  pub listed-refused : (why : Rejection) → Listed.Refused why ≡ listed_of v → v ≡ refused why
-  unfolding listed_of
-  listed-refused why e = go v e
-    where
-      go : (x : Result (List Difference)) → Listed.Refused why ≡ listed_of x → x ≡ refused why
-      go (refused x) f = cc
-      go (accepted l) f = let z : ◌≡◌ {A = ℕ} 0 1 = cc in absurd (omega arith)
-
-  pub listed-accepted : (n : ℕ) → Listed.Entries n ≡ listed_of v → (l : List Difference) × (v ≡ accepted l) × (length l ≡ n)
-  unfolding listed_of
-  listed-accepted n e = go v e
-    where
-      go : (x : Result (List Difference)) → Listed.Entries n ≡ listed_of x → (l : List Difference) × (x ≡ accepted l) × (length l ≡ n)
-      go (refused x) f = let z : ◌≡◌ {A = ℕ} 0 1 = cc in absurd (omega arith)
-      go (accepted l) f = (l, refl, cc)
 
 -- ---- what a part that is handed back tells
 

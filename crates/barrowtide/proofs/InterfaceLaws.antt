@@ -1,5 +1,6 @@
 -- Laws of what a call returns and leaves in lent memory.
-use mathlib.Core.Path.{◌≡◌}
+use Rattle.std.specs.Prelude.{Result as Answer}
+use mathlib.Core.Path.{◌≡◌, refl}
 use Prim.Native.Nat.{ℕ, ◌≤◌, ◌<◌}
 use mathlib.Core.List.{List}
 use lib.ListN.{length}
@@ -9,8 +10,8 @@ use Rattle.format.proofs.ParseLaws.{each-ok}
 use Rattle.format.specs.Field.{varint}
 use Rattle.format.specs.Refusals.{TOO_LONG, MAX_INPUT}
 use Rattle.spv.specs.declared.rejection.Rejection.{Rejection}
-use Rattle.spv.specs.Result.{Result, accepted, refused, carrying}
-use Rattle.barrowtide.specs.Interface.{refusal, blamed, blame, taken, of_reading, of_reading_to, first_varint}
+use Rattle.spv.specs.Result.{Result, accepted, refused, carrying, answer_of}
+use Rattle.barrowtide.specs.Interface.{refusal, blamed, blame, taken, number_told, blame_told, told, of_reading, of_reading_to, first_varint}
 
 module _ {A : Type 0} (v : Result A) where
   pub refused-number : {why : Rejection} → v ≡ refused why → why.number ≡ refusal v
@@ -36,6 +37,32 @@ module _ {A : Type 0} (v : Result A) where
   pub given-taken : {B : Type 0} (f : A → B) {a : A} (old : B) → v ≡ accepted a → f a ≡ taken f v old
   unfolding taken
   given-taken f old e = rw e
+
+-- what an answer tells is what its result tells
+module _ {A B : Type 0} (f : A → B) (v : Result A) {answer : Answer B Rejection} (e : answer ≡ answer_of f v) where
+  pub told_number : number_told answer ≡ refusal v
+  unfolding number_told refusal
+  told_number = rw e (go v)
+    where
+      go : (v : Result A) → number_told (answer_of f v) ≡ refusal v
+      go (accepted a) = refl
+      go (refused why) = refl
+
+  pub told_blame : (old : List ℕ) → blame_told answer old ≡ blame v old
+  unfolding blame_told blame
+  told_blame old = rw e (go v)
+    where
+      go : (v : Result A) → blame_told (answer_of f v) old ≡ blame v old
+      go (accepted a) = refl
+      go (refused why) = refl
+
+  pub told_value : {C : Type 0} (g : B → C) (old : C) → told g answer old ≡ taken (λ a. g (f a)) v old
+  unfolding told taken
+  told_value g old = rw e (go v)
+    where
+      go : (v : Result A) → told g (answer_of f v) old ≡ taken (λ a. g (f a)) v old
+      go (accepted a) = refl
+      go (refused why) = refl
 
 module _ {A : Type 0} (p : Parse A) where
   pub reading-ok : {a : A} {q : ℕ} → p ≡ ok a q → of_reading p ≡ accepted a

@@ -1,9 +1,9 @@
 -- What the other crates' answers say, as results.
-use Rattle.std.specs.Prelude.{List, eqb, ℕ}
-use Rattle.hash.specs.declared.Hashed.{Hashed}
-use Rattle.format.specs.Parse.{pick}
+use Rattle.std.specs.Prelude.{Option, Some, None, List, ℕ}
+use Rattle.format.specs.Refusals.{TOO_LONG}
 use Rattle.spv.specs.Result.{Result, accepted, refused, carrying}
 
--- The digest, where the number is 0.
-unfoldable pub of_hashed : Hashed → Result (List ℕ)
-of_hashed h = pick (eqb h.number 0) (accepted h.digest) (refused (carrying h.number h.place))
+-- The digest, or that the message is over the input size.
+abbrev pub of_hashed : Option (List ℕ) → Result (List ℕ)
+of_hashed (Some digest) = accepted digest
+of_hashed None = refused (carrying TOO_LONG 0)

@@ -1,5 +1,6 @@
 -- What a call returns and leaves in memory that C lends, by what it comes to.
 use Rattle.std.specs.Prelude.{ℕ, ◌+◌, ◌*◌, List, [], ◌∷◌, leb, length}
+use Rattle.std.specs.Prelude.{Result as Answer, Ok, Err}
 use Rattle.format.specs.Parse.{Parse, ok, fault, pick}
 use Rattle.format.specs.Field.{varint}
 use Rattle.format.specs.Refusals.{TOO_LONG, MAX_INPUT}
@@ -27,6 +28,19 @@ blame (refused why) old = blamed why
 unfoldable pub taken : {A B : Type 0} → (A → B) → Result A → B → B
 taken f (accepted a) old = f a
 taken f (refused why) old = old
+
+-- The same by an answer.
+unfoldable pub number_told : {A : Type 0} → Answer A Rejection → ℕ
+number_told (Ok a) = 0
+number_told (Err why) = why.number
+
+unfoldable pub blame_told : {A : Type 0} → Answer A Rejection → List ℕ → List ℕ
+blame_told (Ok a) old = old
+blame_told (Err why) old = blamed why
+
+unfoldable pub told : {A B : Type 0} → (A → B) → Answer A Rejection → B → B
+told f (Ok a) old = f a
+told f (Err why) old = old
 
 -- What was read, and what was read with the place after it.
 unfoldable pub of_reading : {A : Type 0} → Parse A → Result A

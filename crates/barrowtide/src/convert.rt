@@ -4,7 +4,7 @@ ghost use Rattle.block.specs.Output.{output_after};
 ghost use Rattle.conversion.specs.Convert.{tsc_to_bump, bump_to_tsc};
 ghost use Rattle.barrowtide.specs.Interface as I;
 
-use super::write::tell;
+use super::blame::tell_count;
 
 #[unsafe(no_mangle)]
 pub extern "C" fn barrowtide_tsc_to_bump(
@@ -21,7 +21,7 @@ pub extern "C" fn barrowtide_tsc_to_bump(
         × (written.new ≡ I.taken length v written.old) }
 {
     let answer = conversion::tsc_to_bump(message, block, out);
-    tell(answer, blame, written)
+    tell_count(answer, blame, written)
 }
 
 #[unsafe(no_mangle)]
@@ -39,5 +39,5 @@ pub extern "C" fn barrowtide_bump_to_tsc(
         × (written.new ≡ I.taken length v written.old) }
 {
     let answer = conversion::bump_to_tsc(message, *id, out);
-    tell(answer, blame, written)
+    tell_count(answer, blame, written)
 }

@@ -1,33 +1,11 @@
 // Two BUMPs side by side (difference/specs/Listing.antt, Shorter.antt).
-ghost use Rattle.std.specs.Prelude.{◌≡◌, List, length};
-ghost use Rattle.spv.specs.Result.{Result};
-ghost use Rattle.difference.specs.Differences.{Difference};
-ghost use Rattle.difference.specs.Listing.{list_differences, listed_of, words_in, room_in};
+ghost use Rattle.std.specs.Prelude.{◌≡◌, length};
+ghost use Rattle.difference.specs.Listing.{list_differences, words_in, room_in};
 ghost use Rattle.difference.specs.Shorter.{shorter, handed};
 ghost use Rattle.barrowtide.specs.Interface as I;
 ghost use Rattle.barrowtide.specs.Choices.{which_of, which_by};
 
-use super::blame::blame_of;
-use difference::Listed;
-
-// The number of an answer; what a refusal blames, or how many entries there are, is written.
-fn tell(answer: Listed, blame: &mut [u64; 3], entries: &mut u64) -> u32
-    ensures { (v : Result (List Difference)) → answer ≡ listed_of v →
-        (result ≡ I.refusal v)
-        × (blame.new ≡ I.blame v blame.old)
-        × (entries.new ≡ I.taken length v entries.old) }
-{
-    match answer {
-        Listed::Entries(count) => {
-            *entries = count as u64;
-            0
-        }
-        Listed::Refused(rejection) => {
-            *blame = blame_of(rejection);
-            rejection.number as u32
-        }
-    }
-}
+use super::blame::tell_count;
 
 #[unsafe(no_mangle)]
 pub extern "C" fn barrowtide_differences(
@@ -44,7 +22,7 @@ pub extern "C" fn barrowtide_differences(
         × (entries.new ≡ I.taken length v entries.old) }
 {
     let answer = difference::list_differences(first, second, list);
-    tell(answer, blame, entries)
+    tell_count(answer, blame, entries)
 }
 
 // Which of two is handed back, by the part's length and the first one's: a refusal hands back nothing, and the second is handed back where it is shorter.

@@ -1,31 +1,21 @@
 // Judging a BEEF bundle (bundle/specs/Bundle.antt).
 ghost use Rattle.std.specs.Prelude.{◌≡◌, length};
-ghost use Rattle.bundle.specs.Bundle.{Judgement, judge_beef, verdict_of, table_of};
+ghost use Rattle.bundle.specs.Bundle.{judge_beef, table_of};
 ghost use Rattle.bundle.specs.Work.{judge_work};
 ghost use Rattle.barrowtide.specs.Interface as I;
 
-use super::blame::blame_of;
-use bundle::{Judged, Record, Verdict};
+use super::blame::tell_count;
+use bundle::{Judged, Record};
 
 // The number of a verdict; what a refusal blames, or how many transactions were accepted, is written, and the hash work in any case.
 fn tell(judged: Judged, blame: &mut [u64; 3], transactions: &mut u64, work: &mut u64) -> u32
-    ensures { (work.new ≡ judged.work) × ((v : Judgement) → judged.verdict ≡ verdict_of v →
-        (result ≡ I.refusal v)
-        × (blame.new ≡ I.blame v blame.old)
-        × (transactions.new ≡ I.taken length v transactions.old)) }
+    ensures { (work.new ≡ judged.work)
+        × (result ≡ I.number_told judged.verdict)
+        × (blame.new ≡ I.blame_told judged.verdict blame.old)
+        × (transactions.new ≡ I.told (λ n. n) judged.verdict transactions.old) }
 {
     *work = judged.work;
-    let verdict = judged.verdict;
-    match verdict {
-        Verdict::Accepted(count) => {
-            *transactions = count as u64;
-            0
-        }
-        Verdict::Refused(rejection) => {
-            *blame = blame_of(rejection);
-            rejection.number as u32
-        }
-    }
+    tell_count(judged.verdict, blame, transactions)
 }
 
 #[unsafe(no_mangle)]

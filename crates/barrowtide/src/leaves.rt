@@ -2,36 +2,14 @@
 ghost use Rattle.std.specs.Prelude.{◌≡◌, List, ℕ, length};
 ghost use Rattle.format.specs.Parse.{ok};
 ghost use Rattle.format.specs.Bump.{Bump, bump_whole};
-ghost use Rattle.encoding.specs.BumpBytes.{Content};
-ghost use Rattle.spv.specs.Result.{Result};
-ghost use Rattle.leaflist.specs.LeafList.{Row, leaf_list, words_of, building, built_of, words_in, room_in, place_in};
-ghost use Rattle.merging.specs.Merging.{merging, merged_of, bytes_in, list_in};
+ghost use Rattle.leaflist.specs.LeafList.{leaf_list, words_of, building, words_in, room_in, place_in};
+ghost use Rattle.merging.specs.Merging.{merging, bytes_in, list_in};
 ghost use Rattle.barrowtide.specs.Interface as I;
 ghost use Rattle.barrowtide.specs.Leaves.{found_of, place_after, bytes_of, leaves_of};
 
-use super::blame::blame_of;
-use leaflist::Built;
-use levels::Place;
+use super::blame::{refuse, tell_count};
 use merging::Merged;
-
-// The number of an answer; what a refusal blames, or how many leaves there are, is written.
-fn tell_built(answer: Built, blame: &mut [u64; 3], leaves: &mut u64) -> u32
-    ensures { (v : Result (List Row)) → answer ≡ built_of v →
-        (result ≡ I.refusal v)
-        × (blame.new ≡ I.blame v blame.old)
-        × (leaves.new ≡ I.taken length v leaves.old) }
-{
-    match answer {
-        Built::Leaves(count) => {
-            *leaves = count as u64;
-            0
-        }
-        Built::Refused(rejection) => {
-            *blame = blame_of(rejection);
-            rejection.number as u32
-        }
-    }
-}
+use spv::Rejection;
 
 #[unsafe(no_mangle)]
 pub extern "C" fn barrowtide_list_leaves(
@@ -47,18 +25,18 @@ pub extern "C" fn barrowtide_list_leaves(
         × (leaves.new ≡ I.taken length v leaves.old) }
 {
     let answer = leaflist::build(input, list);
-    tell_built(answer, blame, leaves)
+    tell_count(answer, blame, leaves)
 }
 
-fn tell_place(found: Place, place: &mut u64) -> u32
+fn tell_place(found: Option<usize>, place: &mut u64) -> u32
     ensures { (result ≡ found_of found) × (place.new ≡ place_after found place.old) }
 {
     match found {
-        Place::At(at) => {
+        Some(at) => {
             *place = at as u64;
             1
         }
-        Place::Nowhere => 0,
+        None => 0,
     }
 }
 
@@ -77,23 +55,24 @@ pub extern "C" fn barrowtide_search_leaves(
 }
 
 // The number of an answer; what a refusal blames, or how many bytes and leaves there are, is written.
-fn tell_merged(answer: Merged, blame: &mut [u64; 3], written: &mut u64, leaves: &mut u64) -> u32
-    ensures { (v : Result Content) → answer ≡ merged_of v →
-        (result ≡ I.refusal v)
-        × (blame.new ≡ I.blame v blame.old)
-        × (written.new ≡ I.taken bytes_of v written.old)
-        × (leaves.new ≡ I.taken leaves_of v leaves.old) }
+fn tell_merged(
+    answer: Result<Merged, Rejection>,
+    blame: &mut [u64; 3],
+    written: &mut u64,
+    leaves: &mut u64,
+) -> u32
+    ensures { (result ≡ I.number_told answer)
+        × (blame.new ≡ I.blame_told answer blame.old)
+        × (written.new ≡ I.told (λ m. m.bytes) answer written.old)
+        × (leaves.new ≡ I.told (λ m. m.leaves) answer leaves.old) }
 {
     match answer {
-        Merged::Written(n, count) => {
-            *written = n as u64;
-            *leaves = count as u64;
+        Ok(merged) => {
+            *written = merged.bytes as u64;
+            *leaves = merged.leaves as u64;
             0
         }
-        Merged::Refused(rejection) => {
-            *blame = blame_of(rejection);
-            rejection.number as u32
-        }
+        Err(rejection) => refuse(rejection, blame),
     }
 }
 

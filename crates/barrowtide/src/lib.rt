@@ -19,6 +19,9 @@ ghost use Rattle.hash.specs.Sha256 as S;
 ghost use Rattle.barrowtide.specs.Interface as I;
 ghost use Rattle.barrowtide.specs.Answers.{of_hashed};
 
+use blame::refuse;
+use format::Refusal;
+
 // The header has the same three numbers.
 #[unsafe(no_mangle)]
 pub extern "C" fn barrowtide_version() -> u32
@@ -38,15 +41,13 @@ pub extern "C" fn barrowtide_sha256d(
         × (blame.new ≡ I.blame v blame.old)
         × (digest.new ≡ I.taken (λ d. d) v digest.old) }
 {
-    let hashed = hash::sha256d(message);
-    let number = hashed.number as u32;
-    if number == 0 {
-        let bytes = hashed.digest;
-        *digest = bytes;
-    } else {
-        *blame = [hashed.place as u64, 0, 0];
+    match hash::sha256d(message) {
+        Some(bytes) => {
+            *digest = bytes;
+            0
+        }
+        None => refuse(spv::reject(Refusal::TooLong), blame),
     }
-    number
 }
 
 #[unsafe(no_mangle)]

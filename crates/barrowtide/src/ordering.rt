@@ -3,22 +3,21 @@ ghost use Rattle.std.specs.Prelude.{◌≡◌, List, ℕ, length};
 ghost use Rattle.order.specs.Set.{SetResult, order_set, check_set, ordered_of, result_of, transaction_of, row_after};
 ghost use Rattle.barrowtide.specs.Interface as I;
 
-use super::blame::blame_of;
-use order::Ordered;
+use super::blame::refuse;
+use order::SetRefusal;
 
 // The number of an answer; what a refusal blames is written, and the transaction's number beside it.
-fn tell(answer: Ordered, blame: &mut [u64; 3], transaction: &mut u64) -> u32
+fn tell(answer: Result<(), SetRefusal>, blame: &mut [u64; 3], transaction: &mut u64) -> u32
     ensures { (v : SetResult (List ℕ)) → answer ≡ ordered_of v →
         (result ≡ I.refusal (result_of v))
         × (blame.new ≡ I.blame (result_of v) blame.old)
         × (transaction.new ≡ transaction_of v transaction.old) }
 {
     match answer {
-        Ordered::Accepted => 0,
-        Ordered::Refused(rejection, number) => {
-            *blame = blame_of(rejection);
-            *transaction = number as u64;
-            rejection.number as u32
+        Ok(()) => 0,
+        Err(refusal) => {
+            *transaction = refusal.transaction as u64;
+            refuse(refusal.rejection, blame)
         }
     }
 }

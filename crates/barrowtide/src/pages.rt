@@ -1,24 +1,10 @@
 // Proving a page of ids by one BUMP (page/specs/Page.antt).
-ghost use Rattle.std.specs.Prelude.{◌≡◌, List, length};
-ghost use Rattle.spv.specs.Result.{Result};
+ghost use Rattle.std.specs.Prelude.{◌≡◌, length};
 ghost use Rattle.page.specs.Page as P;
 ghost use Rattle.barrowtide.specs.Interface as I;
 
-use super::blame::blame_of;
-use page::{Answer, Paged};
-
-// The number of a page's answer; what a refusal blames is written.
-fn tell(paged: Paged, blame: &mut [u64; 3]) -> u32
-    ensures { (v : Result (List Answer)) → paged ≡ P.paged_of v → (result ≡ I.refusal v) × (blame.new ≡ I.blame v blame.old) }
-{
-    match paged {
-        Paged::Answered(_) => 0,
-        Paged::Refused(rejection) => {
-            *blame = blame_of(rejection);
-            rejection.number as u32
-        }
-    }
-}
+use super::blame::refuse;
+use page::Answer;
 
 #[unsafe(no_mangle)]
 pub extern "C" fn barrowtide_prove_page(
@@ -32,6 +18,8 @@ pub extern "C" fn barrowtide_prove_page(
         × (row.new ≡ P.row_of v (length row.old))
         × (blame.new ≡ I.blame v blame.old) }
 {
-    let paged = page::prove_page(message, ids, row);
-    tell(paged, blame)
+    match page::prove_page(message, ids, row) {
+        Ok(_) => 0,
+        Err(rejection) => refuse(rejection, blame),
+    }
 }

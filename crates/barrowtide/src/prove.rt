@@ -11,14 +11,13 @@ ghost use Rattle.barrowtide.specs.Depths.{is_transaction, first_string_of};
 ghost use Rattle.barrowtide.specs.Forms.{form_of};
 ghost use Rattle.spv.specs.Prove.{Proof, prove};
 
-use super::blame::blame_of;
-use climbs::Agreement;
+use super::blame::refuse;
 use path::Form;
-use spv::{Comparison, DepthComparison, Outcome, Proved};
+use spv::{DepthPair, Proved, Rejection};
 
 // Gives what a proof proves to the memory lent for it.
 fn give(
-    proved: Proved,
+    proved: Result<Proved, Rejection>,
     blame: &mut [u64; 3],
     position: &mut u64,
     layers: &mut u64,
@@ -31,22 +30,15 @@ fn give(
         × (layers.new ≡ I.taken (λ p. p.layers) v layers.old)
         × (root.new ≡ I.taken (λ p. p.root) v root.old) }
 {
-    let outcome = proved.outcome;
-    let bytes = proved.root;
-    match outcome {
-        Outcome::Refused(rejection) => {
-            *blame = blame_of(rejection);
-            rejection.number as u32
-        }
-        Outcome::Accepted {
-            position: i,
-            layers: h,
-        } => {
-            *position = i;
-            *layers = h as u64;
+    match proved {
+        Ok(p) => {
+            let bytes = p.root;
+            *position = p.position;
+            *layers = p.layers as u64;
             *root = bytes;
             0
         }
+        Err(rejection) => refuse(rejection, blame),
     }
 }
 
@@ -105,25 +97,17 @@ pub extern "C" fn barrowtide_prove_tsc(
         × (layers.new ≡ I.taken (λ p. p.layers) v layers.old)
         × (root.new ≡ I.taken (λ p. p.root) v root.old) }
 {
-    let proved = spv::prove_tsc(message);
-    let outcome = proved.outcome;
-    let subject = proved.id;
-    let bytes = proved.root;
-    match outcome {
-        Outcome::Refused(rejection) => {
-            *blame = blame_of(rejection);
-            rejection.number as u32
-        }
-        Outcome::Accepted {
-            position: i,
-            layers: h,
-        } => {
+    match spv::prove_tsc(message) {
+        Ok(p) => {
+            let subject = p.id;
+            let bytes = p.root;
             *id = subject;
-            *position = i;
-            *layers = h as u64;
+            *position = p.position;
+            *layers = p.layers as u64;
             *root = bytes;
             0
         }
+        Err(rejection) => refuse(rejection, blame),
     }
 }
 
@@ -138,18 +122,12 @@ pub extern "C" fn barrowtide_check_clients(
         × (blame.new ≡ I.blame v blame.old)
         × (root.new ≡ I.taken (λ r. r) v root.old)) }
 {
-    let checked = climbs::check_clients(message);
-    let agreement = checked.agreement;
-    let bytes = checked.root;
-    match agreement {
-        Agreement::Refused(rejection) => {
-            *blame = blame_of(rejection);
-            rejection.number as u32
-        }
-        Agreement::Agreed => {
-            *root = bytes;
+    match climbs::check_clients(message) {
+        Ok(agreed) => {
+            *root = agreed;
             0
         }
+        Err(rejection) => refuse(rejection, blame),
     }
 }
 
@@ -192,19 +170,15 @@ pub extern "C" fn barrowtide_compare(
         form_of(second_form),
         *second_id,
     );
-    let comparison = compared.comparison;
-    let t = compared.first;
-    let u = compared.second;
-    match comparison {
-        Comparison::Refused(rejection) => {
-            *blame = blame_of(rejection);
-            rejection.number as u32
-        }
-        Comparison::Pair => {
+    match compared {
+        Ok(pair) => {
+            let t = pair.first;
+            let u = pair.second;
             *first_string = t;
             *second_string = u;
             0
         }
+        Err(rejection) => refuse(rejection, blame),
     }
 }
 
@@ -238,24 +212,22 @@ pub extern "C" fn barrowtide_compare_depths(
         *second_id,
         transaction,
     );
-    let comparison = compared.comparison;
-    let t = compared.first;
-    let u = compared.second;
-    match comparison {
-        DepthComparison::Refused(rejection) => {
-            *blame = blame_of(rejection);
-            rejection.number as u32
-        }
-        DepthComparison::Transaction => {
-            *first_is_transaction = 1;
-            *second_string = u;
-            0
-        }
-        DepthComparison::Strings => {
-            *first_is_transaction = 0;
-            *first_string = t;
-            *second_string = u;
-            0
-        }
+    match compared {
+        Ok(found) => match found {
+            DepthPair::Transaction(u) => {
+                *first_is_transaction = 1;
+                *second_string = u;
+                0
+            }
+            DepthPair::Strings(pair) => {
+                let t = pair.first;
+                let u = pair.second;
+                *first_is_transaction = 0;
+                *first_string = t;
+                *second_string = u;
+                0
+            }
+        },
+        Err(rejection) => refuse(rejection, blame),
     }
 }

@@ -10,8 +10,8 @@ ghost use Rattle.format.specs.Tsc.{tsc_whole};
 ghost use Rattle.format.specs.Beef.{beef_whole};
 ghost use Rattle.barrowtide.specs.Interface as I;
 
-use format::refusal::TOO_LONG;
-use format::{BeefAnswer, BumpAnswer, CmpAnswer, Cursor, Number, TscAnswer, TxAnswer};
+use super::blame::refuse_reading;
+use format::{Cursor, Refusal};
 use hash::MAX_INPUT;
 
 #[unsafe(no_mangle)]
@@ -29,17 +29,16 @@ pub extern "C" fn barrowtide_read_varint(
 {
     if MAX_INPUT < message.len() {
         *blame = [0, 0, 0];
-        return TOO_LONG as u32;
+        return Refusal::TooLong.number() as u32;
     }
-    let answer = format::read_varint(message, Cursor { at: 0 });
-    let Number::Value(v, c) = answer else {
-        let refusal = answer.refusal();
-        *blame = [refusal.place as u64, 0, 0];
-        return refusal.number as u32;
-    };
-    *value = v;
-    *width = c.at as u64;
-    0
+    match format::read_varint(message, Cursor::START) {
+        Ok((v, c)) => {
+            *value = v;
+            *width = c.at as u64;
+            0
+        }
+        Err(refusal) => refuse_reading(refusal, blame),
+    }
 }
 
 #[unsafe(no_mangle)]
@@ -57,16 +56,15 @@ pub extern "C" fn barrowtide_read_bump(
         × (height.new ≡ I.taken (λ b. b.height) v height.old)
         × (leaves.new ≡ I.taken (λ b. total b.levels) v leaves.old) }
 {
-    let answer = format::read_bump(message);
-    let BumpAnswer::Value(head, _) = answer else {
-        let refusal = answer.refusal();
-        *blame = [refusal.place as u64, 0, 0];
-        return refusal.number as u32;
-    };
-    *block = head.block;
-    *height = head.height;
-    *leaves = head.leaves;
-    0
+    match format::read_bump(message) {
+        Ok((head, _)) => {
+            *block = head.block;
+            *height = head.height;
+            *leaves = head.leaves;
+            0
+        }
+        Err(refusal) => refuse_reading(refusal, blame),
+    }
 }
 
 #[unsafe(no_mangle)]
@@ -82,15 +80,14 @@ pub extern "C" fn barrowtide_read_cmp(
         × (height.new ≡ I.taken (λ p. p.height) v height.old)
         × (leaves.new ≡ I.taken (λ p. total p.levels) v leaves.old) }
 {
-    let answer = format::read_cmp(message);
-    let CmpAnswer::Value(head, _) = answer else {
-        let refusal = answer.refusal();
-        *blame = [refusal.place as u64, 0, 0];
-        return refusal.number as u32;
-    };
-    *height = head.height;
-    *leaves = head.leaves;
-    0
+    match format::read_cmp(message) {
+        Ok((head, _)) => {
+            *height = head.height;
+            *leaves = head.leaves;
+            0
+        }
+        Err(refusal) => refuse_reading(refusal, blame),
+    }
 }
 
 #[unsafe(no_mangle)]
@@ -108,20 +105,15 @@ pub extern "C" fn barrowtide_read_transaction(
         × (outputs.new ≡ I.taken (λ t. length t.outputs) v outputs.old)
         × (id.new ≡ I.taken (λ _. sha256d message.now) v id.old) }
 {
-    let answer = format::read_transaction(message);
-    let TxAnswer::Value(head, _) = answer else {
-        let refusal = answer.refusal();
-        *blame = [refusal.place as u64, 0, 0];
-        return refusal.number as u32;
-    };
-    let hashed = hash::sha256d(message);
-    let digest = hashed.digest;
-    let ins = head.inputs;
-    let outs = head.outputs;
-    *inputs = ins.count;
-    *outputs = outs.count;
-    *id = digest;
-    0
+    match format::read_transaction(message) {
+        Ok((head, _)) => {
+            *inputs = head.inputs.count;
+            *outputs = head.outputs.count;
+            *id = hash::sha256d(message).unwrap_or([0; 32]);
+            0
+        }
+        Err(refusal) => refuse_reading(refusal, blame),
+    }
 }
 
 #[unsafe(no_mangle)]
@@ -139,16 +131,15 @@ pub extern "C" fn barrowtide_read_tsc(
         × (index.new ≡ I.taken (λ t. t.index) v index.old)
         × (nodes.new ≡ I.taken (λ t. length t.nodes) v nodes.old) }
 {
-    let answer = format::read_tsc(message);
-    let TscAnswer::Value(head, _) = answer else {
-        let refusal = answer.refusal();
-        *blame = [refusal.place as u64, 0, 0];
-        return refusal.number as u32;
-    };
-    *flags = head.flags;
-    *index = head.index;
-    *nodes = head.nodes;
-    0
+    match format::read_tsc(message) {
+        Ok((head, _)) => {
+            *flags = head.flags;
+            *index = head.index;
+            *nodes = head.nodes;
+            0
+        }
+        Err(refusal) => refuse_reading(refusal, blame),
+    }
 }
 
 #[unsafe(no_mangle)]
@@ -164,13 +155,12 @@ pub extern "C" fn barrowtide_read_beef(
         × (bumps.new ≡ I.taken (λ b. length b.bumps) v bumps.old)
         × (transactions.new ≡ I.taken (λ b. length b.entries) v transactions.old) }
 {
-    let answer = format::read_beef(message);
-    let BeefAnswer::Value(head, _) = answer else {
-        let refusal = answer.refusal();
-        *blame = [refusal.place as u64, 0, 0];
-        return refusal.number as u32;
-    };
-    *bumps = head.bumps as u64;
-    *transactions = head.transactions as u64;
-    0
+    match format::read_beef(message) {
+        Ok((head, _)) => {
+            *bumps = head.bumps as u64;
+            *transactions = head.transactions as u64;
+            0
+        }
+        Err(refusal) => refuse_reading(refusal, blame),
+    }
 }

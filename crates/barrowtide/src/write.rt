@@ -1,31 +1,10 @@
 // Writing the BUMP of chosen positions of a block (block/specs/BlockBump.antt).
-ghost use Rattle.std.specs.Prelude.{◌≡◌, List, ℕ, length};
-ghost use Rattle.spv.specs.Result.{Result};
+ghost use Rattle.std.specs.Prelude.{◌≡◌, length};
 ghost use Rattle.block.specs.BlockBump.{writing};
-ghost use Rattle.block.specs.Output.{written_of, output_after};
+ghost use Rattle.block.specs.Output.{output_after};
 ghost use Rattle.barrowtide.specs.Interface as I;
 
-use super::blame::blame_of;
-use block::Written;
-
-// The number of an answer; what a refusal blames, or how many bytes were written, is written.
-pub(crate) fn tell(answer: Written, blame: &mut [u64; 3], written: &mut u64) -> u32
-    ensures { (v : Result (List ℕ)) → answer ≡ written_of v →
-        (result ≡ I.refusal v)
-        × (blame.new ≡ I.blame v blame.old)
-        × (written.new ≡ I.taken length v written.old) }
-{
-    match answer {
-        Written::Bytes(count) => {
-            *written = count as u64;
-            0
-        }
-        Written::Refused(rejection) => {
-            *blame = blame_of(rejection);
-            rejection.number as u32
-        }
-    }
-}
+use super::blame::tell_count;
 
 #[unsafe(no_mangle)]
 pub extern "C" fn barrowtide_write_bump(
@@ -43,5 +22,5 @@ pub extern "C" fn barrowtide_write_bump(
         × (written.new ≡ I.taken length v written.old) }
 {
     let answer = block::write_bump(block, ids, chosen, out);
-    tell(answer, blame, written)
+    tell_count(answer, blame, written)
 }

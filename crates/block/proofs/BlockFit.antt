@@ -2,7 +2,7 @@
 use mathlib.Core.Path.{◌≡◌, refl, sym, ap, ◌∙◌}
 use mathlib.Core.Bool.{Bool, true, false, ◌&&◌, ◌||◌, not}
 use mathlib.Core.List.{List, [], ◌∷◌, ◌++◌}
-use mathlib.Core.Option.{Option, none, some}
+use Rattle.std.specs.Prelude.{Option, Some, None}
 use Prim.Native.Nat.{ℕ, zero, suc, ◌+◌, ◌-◌, ◌^◌, ◌/◌, ◌%◌, ◌≤◌, ◌<◌}
 use lib.ListN.{length}
 use lib.Dec.{ltb, eqb}
@@ -70,17 +70,17 @@ pub data Asking (ids : List (List ℕ)) (chosen : List ℕ) (k o : ℕ) (c : Car
   as_client : k ≡ 0 → under chosen 0 o ≡ true → client (node ids 0 o) ≡ c → Asking ids chosen k o c
   as_sibling : under chosen k (sibling_position o) ≡ true → sibling_at ids k o ≡ c → Asking ids chosen k o c
 
-pub asked-told : (ids : List (List ℕ)) (chosen : List ℕ) (k o : ℕ) (c : Carried) → asked ids chosen k o ≡ some c → Asking ids chosen k o c
+pub asked-told : (ids : List (List ℕ)) (chosen : List ℕ) (k o : ℕ) (c : Carried) → asked ids chosen k o ≡ Some c → Asking ids chosen k o c
 unfolding asked
 asked-told ids chosen k o c e = go (eqb k 0) refl (under chosen 0 o) refl (under chosen k (sibling_position o)) refl (left_out chosen k o) e
   where
-    sib : (n : Bool) → under chosen k (sibling_position o) ≡ n → (l : Bool) → pick (n && not l) (some (sibling_at ids k o)) none ≡ some c → Asking ids chosen k o c
+    sib : (n : Bool) → under chosen k (sibling_position o) ≡ n → (l : Bool) → pick (n && not l) (Some (sibling_at ids k o)) None ≡ Some c → Asking ids chosen k o c
     sib true h true e = absurd (let z : ◌≡◌ {A = ℕ} 0 1 = cc in omega arith)
     sib true h false e = as_sibling h cc
     sib false h l e = absurd (let z : ◌≡◌ {A = ℕ} 0 1 = cc in omega arith)
 
     go : (a : Bool) → eqb k 0 ≡ a → (b : Bool) → under chosen 0 o ≡ b → (n : Bool) → under chosen k (sibling_position o) ≡ n → (l : Bool)
-        → pick (a && b) (some (client (node ids 0 o))) (pick (n && not l) (some (sibling_at ids k o)) none) ≡ some c → Asking ids chosen k o c
+        → pick (a && b) (Some (client (node ids 0 o))) (pick (n && not l) (Some (sibling_at ids k o)) None) ≡ Some c → Asking ids chosen k o c
     go true ea true eb n en l e = as_client (eqb-true k 0 ea) eb cc
     go true ea false eb n en l e = sib n en l e
     go false ea b eb n en l e = sib n en l e
@@ -105,7 +105,7 @@ module _ {block : ℕ} {ids : List (List ℕ)} {chosen : List ℕ} (g : Sizes bl
       go true h = layer-hashes ids g.hashes k o (ltb-true _ _ h)
       go false h = odd-one (eqb (o % 2) 1) refl (ltb-false _ _ h)
 
-  asked-fits : (k o : ℕ) (c : Carried) → asked ids chosen k o ≡ some c → CarriedFit k o c
+  asked-fits : (k o : ℕ) (c : Carried) → asked ids chosen k o ≡ Some c → CarriedFit k o c
   unfolding CarriedFit Hashes
   asked-fits k o c e = go (asked-told ids chosen k o c e)
     where
@@ -126,8 +126,8 @@ module _ {block : ℕ} {ids : List (List ℕ)} {chosen : List ℕ} (g : Sizes bl
 
       go : (v : Option Carried) → f o ≡ v → ((s : List ℕ) → ((x : ℕ) → o + 1 ≤ x → holds x s ≡ false) → Fits (EntryFit limit k) and_entry s (rising f (o + 1) n))
           → Fits (EntryFit limit k) and_entry seen (rising f o (suc n))
-      go none e ih = rw (rising_none f o n e) (ih seen (λ x l. h x (omega arith)))
-      go (some c) e ih =
+      go None e ih = rw (rising_none f o n e) (ih seen (λ x l. h x (omega arith)))
+      go (Some c) e ih =
           rw (rising-some f o n c e)
           ((omega arith, h o (omega arith), asked-fits k o c e), ih (seen ++ (o ∷ [])) (λ x l. holds_snoc x seen o ∙ rw (h x (omega arith)) (ne_eqb x o (λ q. omega arith))))
 
@@ -137,8 +137,8 @@ rising-length f zero o = omega arith
 rising-length f (suc n) o = go (f o) refl (rising-length f n (o + 1))
   where
     go : (v : Option Carried) → f o ≡ v → length (rising f (o + 1) n) ≤ n → length (rising f o (suc n)) ≤ suc n
-    go none e r = rw (rising_none f o n e) (omega arith)
-    go (some c) e r = rw (rising-some f o n c e) (omega arith)
+    go None e r = rw (rising_none f o n e) (omega arith)
+    go (Some c) e r = rw (rising-some f o n c e) (omega arith)
 
 pub levels-length : (ids : List (List ℕ)) (chosen : List ℕ) (h k n : ℕ) → length (levels_for ids chosen h k n) ≡ n
 unfolding levels_for

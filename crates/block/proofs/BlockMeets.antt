@@ -2,7 +2,7 @@
 use mathlib.Core.Path.{◌≡◌, refl, sym, ap, ◌∙◌}
 use mathlib.Core.Bool.{Bool, true, false}
 use mathlib.Core.List.{List, [], ◌∷◌, map}
-use mathlib.Core.Option.{Option, none, some}
+use Rattle.std.specs.Prelude.{Option, Some, None}
 use Prim.Native.Nat.{ℕ, zero, suc, ◌+◌, ◌-◌, ◌^◌, ◌≤◌, ◌<◌}
 use lib.ListN.{length, get_or, get_or-map}
 use lib.Dec.{eqb}
@@ -28,8 +28,8 @@ rising-rises f zero o m l = tt
 rising-rises f (suc n) o m l = go (f o) refl (λ d k. rising-rises f n (o + 1) d k)
   where
     go : (v : Option Carried) → f o ≡ v → ((d : ℕ) → d ≤ o + 1 → From d (rising f (o + 1) n)) → From m (rising f o (suc n))
-    go none e r = rw (rising_none f o n e) (r m (omega arith))
-    go (some c) e r = rw (rising-some f o n c e) (l, r (o + 1) (omega arith))
+    go None e r = rw (rising_none f o n e) (r m (omega arith))
+    go (Some c) e r = rw (rising-some f o n c e) (l, r (o + 1) (omega arith))
 
 pub rising-at : (f : ℕ → Option Carried) (n o x : ℕ) → o ≤ x → x < o + n → at_offset x (rising f o n) ≡ f x
 unfolding rising
@@ -37,14 +37,14 @@ rising-at f zero o x a b = absurd (omega arith)
 rising-at f (suc n) o x a b = go (f o) refl (eqb o x) refl (λ k. rising-at f n (o + 1) x k (omega arith))
   where
     go : (v : Option Carried) → f o ≡ v → (t : Bool) → eqb o x ≡ t → (o + 1 ≤ x → at_offset x (rising f (o + 1) n) ≡ f x) → at_offset x (rising f o (suc n)) ≡ f x
-    go none e true h r =
+    go None e true h r =
         let d : o ≡ x = eqb-true o x h in
         rw (rising_none f o n e) (before-none (o + 1) x (rising f (o + 1) n) (rising-rises f n (o + 1) (o + 1) (omega arith)) (omega arith) ∙ sym e ∙ ap f d)
-    go none e false h r = let d = eqb-false o x h in rw (rising_none f o n e) (r (omega arith))
-    go (some c) e true h r =
+    go None e false h r = let d = eqb-false o x h in rw (rising_none f o n e) (r (omega arith))
+    go (Some c) e true h r =
         let d : o ≡ x = eqb-true o x h in
         rw (rising-some f o n c e) (at_first (record { offset = o; carried = c }) (rising f (o + 1) n) x d ∙ sym e ∙ ap f d)
-    go (some c) e false h r =
+    go (Some c) e false h r =
         let d = eqb-false o x h in
         rw (rising-some f o n c e) (at_later (record { offset = o; carried = c }) (rising f (o + 1) n) x d ∙ r (omega arith))
 

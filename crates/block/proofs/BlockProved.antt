@@ -2,7 +2,7 @@
 use mathlib.Core.Path.{◌≡◌, refl, sym, ap, ap₂, ◌∙◌}
 use mathlib.Core.Bool.{Bool, true, false, ◌&&◌, ◌||◌, not, true≢false, false≢true}
 use mathlib.Core.List.{List, [], ◌∷◌, map}
-use mathlib.Core.Option.{Option, none, some}
+use Rattle.std.specs.Prelude.{Option, Some, None}
 use Prim.Native.Nat.{ℕ, zero, suc, ◌+◌, ◌-◌, ◌^◌, ◌/◌, ◌≤◌, ◌<◌}
 use lib.ListN.{length, get_or}
 use lib.Dec.{ltb, eqb}
@@ -14,8 +14,6 @@ use Rattle.format.proofs.Basics.{or_true}
 use Rattle.format.specs.declared.leaf.Kind.{Kind}
 use Rattle.format.specs.declared.leaf.Kind.TheVariants.{Plain, Copy, Client}
 use Rattle.format.specs.declared.leaf.Leaf.{Leaf}
-use Rattle.path.specs.declared.path.Start.{Start}
-use Rattle.path.specs.declared.path.Start.TheVariants.{At, Nowhere}
 use Rattle.format.specs.Parse.{pick}
 use Rattle.format.specs.Bytes.{same}
 use Rattle.format.proofs.BytesLaws.{same_eq, same_refl, eq_same}
@@ -57,8 +55,8 @@ carries_as id copy = false
 carries_as id (client h) = same h id
 
 unfoldable carries_any : List ℕ → Option Carried → Bool
-carries_any id none = false
-carries_any id (some c) = carries_as id c
+carries_any id None = false
+carries_any id (Some c) = carries_as id c
 
 unfoldable pub carried_in : List ℕ → ℕ → List Entry → Bool
 carried_in id o [] = false
@@ -81,15 +79,15 @@ unfolding rising carried_in carries_any
 carried-asked id f zero o x e = absurd (false≢true e)
 carried-asked id f (suc n) o x e = go (f o) refl (λ k. carried-asked id f n (o + 1) x k)
   where
-    first : (c : Carried) → f o ≡ some c → (a : Bool) → eqb o x ≡ a → (b : Bool) → carries_as id c ≡ b → ((a && b) || carried_in id x (rising f (o + 1) n)) ≡ true
+    first : (c : Carried) → f o ≡ Some c → (a : Bool) → eqb o x ≡ a → (b : Bool) → carries_as id c ≡ b → ((a && b) || carried_in id x (rising f (o + 1) n)) ≡ true
         → (carried_in id x (rising f (o + 1) n) ≡ true → carries_any id (f x) ≡ true) → carries_any id (f x) ≡ true
     first c q true ea true eb m r = rw (← (eqb-true o x ea), q) eb
     first c q true ea false eb m r = r m
     first c q false ea b eb m r = r m
 
     go : (v : Option Carried) → f o ≡ v → (carried_in id x (rising f (o + 1) n) ≡ true → carries_any id (f x) ≡ true) → carries_any id (f x) ≡ true
-    go none q r = r (rw (rising_none f o n q) at e)
-    go (some c) q r = first c q (eqb o x) refl (carries_as id c) refl (rw (rising-some f o n c q) at e) r
+    go None q r = r (rw (rising_none f o n q) at e)
+    go (Some c) q r = first c q (eqb o x) refl (carries_as id c) refl (rw (rising-some f o n c q) at e) r
 
 asked-carried : (id : List ℕ) (f : ℕ → Option Carried) (n o x : ℕ) → o ≤ x → x < o + n → carries_any id (f x) ≡ true → carried_in id x (rising f o n) ≡ true
 unfolding rising carried_in carries_any
@@ -97,14 +95,14 @@ asked-carried id f zero o x a b e = absurd (omega arith)
 asked-carried id f (suc n) o x a b e = go (eqb o x) refl (f o) refl (λ k. asked-carried id f n (o + 1) x k (omega arith) e)
   where
     go : (t : Bool) → eqb o x ≡ t → (v : Option Carried) → f o ≡ v → (o + 1 ≤ x → carried_in id x (rising f (o + 1) n) ≡ true) → carried_in id x (rising f o (suc n)) ≡ true
-    go true h none q r =
-        let d : carries_any id none ≡ true = rw (← (eqb-true o x h), q) at e in
+    go true h None q r =
+        let d : carries_any id None ≡ true = rw (← (eqb-true o x h), q) at e in
         absurd (false≢true d)
-    go true h (some c) q r =
+    go true h (Some c) q r =
         let d : carries_as id c ≡ true = rw (← (eqb-true o x h), q) at e in
         rw (rising-some f o n c q) (rw (h, d))
-    go false h none q r = let d = eqb-false o x h in rw (rising_none f o n q) (r (omega arith))
-    go false h (some c) q r =
+    go false h None q r = let d = eqb-false o x h in rw (rising_none f o n q) (r (omega arith))
+    go false h (Some c) q r =
         let d = eqb-false o x h in
         rw (rising-some f o n c q) (rw (r (omega arith)) (or_true (eqb o x && carries_as id c)))
 
@@ -154,15 +152,15 @@ carried_own {block} {ids} {chosen} g d i o b e = go (asked ids chosen 0 o) refl 
     way c (as_sibling u is) f = of_sibling (ltb o (size ids 0)) refl (rw (← is) at f)
 
     go : (v : Option Carried) → asked ids chosen 0 o ≡ v → carries_any (node ids 0 i) v ≡ true → o ≡ i
-    go none q f = absurd (false≢true f)
-    go (some c) q f = way c (asked-told ids chosen 0 o c q) f
+    go None q f = absurd (false≢true f)
+    go (Some c) q f = way c (asked-told ids chosen 0 o c q) f
 
 module _ {block : ℕ} {ids : List (List ℕ)} {chosen s : List ℕ} (g : Sizes block ids chosen) (r : ReadBack block ids chosen s) (i : ℕ) (m : holds i chosen ≡ true) where
   agrees : (k : ℕ) → k < height ids → level_siblings s r.bump.levels k (sibling_position (i / 2 ^ k)) ≡ tree_siblings ids k (sibling_position (i / 2 ^ k))
   agrees k b = needed_value g r k (sibling_position (i / 2 ^ k)) b (rw (sibling-twice (i / 2 ^ k)) (under-chosen chosen i k m))
 
   -- the id starts at its position
-  starts : distinct ids ≡ true → least_offset s (node ids 0 i) (get_or r.bump.levels 0 []) ≡ At i
+  starts : distinct ids ≡ true → least_offset s (node ids 0 i) (get_or r.bump.levels 0 []) ≡ Some i
   unfolding Least asked carries_any carries_as
   starts d = go (least_offset s (node ids 0 i) (get_or r.bump.levels 0 [])) (least-is s (node ids 0 i) (get_or r.bump.levels 0 []))
     where
@@ -186,9 +184,9 @@ module _ {block : ℕ} {ids : List (List ℕ)} {chosen s : List ℕ} (g : Sizes 
           same-carrying i
           ∙ asked-carried id (asked ids chosen 0) (2 ^ (height ids - 0)) 0 i (omega arith) range (rw (rw (div-one i) at (under-chosen chosen i 0 m)) (same_refl (node ids 0 i)))
 
-      go : (x : Start) → Least s id l x → x ≡ At i
-      go Nowhere f = absurd (true≢false (sym here ∙ f i))
-      go (At j) f = ap At (carried_own g d i j inside (carried-asked id (asked ids chosen 0) (2 ^ (height ids - 0)) 0 j (sym (same-carrying j) ∙ f.0)))
+      go : (x : Option ℕ) → Least s id l x → x ≡ Some i
+      go None f = absurd (true≢false (sym here ∙ f i))
+      go (Some j) f = ap Some (carried_own g d i j inside (carried-asked id (asked ids chosen 0) (2 ^ (height ids - 0)) 0 j (sym (same-carrying j) ∙ f.0)))
 
   -- the bytes prove the id at its position, over the least height, to the list's root
   pub chosen-proved : distinct ids ≡ true → reaches (tree_climb ids i) ≡ true
@@ -198,7 +196,7 @@ module _ {block : ℕ} {ids : List (List ℕ)} {chosen s : List ℕ} (g : Sizes 
       let id : List ℕ = node ids 0 i in
       let σ : Siblings = level_siblings s r.bump.levels in
       ap prove (bump-read s id r.bump r.end r.read)
-      ∙ ap (λ (x : Start). prove (starting σ r.bump.height id x)) (starts d)
+      ∙ ap (λ (x : Option ℕ). prove (starting σ r.bump.height id x)) (starts d)
       ∙ ap (λ (n : ℕ). prove (read σ n i id any)) (height_back r)
       ∙ prove_climb σ (tree_siblings ids) (height ids) i id any
       (ascend-agree σ (tree_siblings ids) 0 (height ids) i id (λ k b. rw (zero-add k, sibling_positions_at (height ids) i k b) (agrees k b)))

@@ -3,7 +3,8 @@
 use mathlib.Core.Path.{◌≡◌, refl, sym, ap, ap₂, ◌∙◌}
 use mathlib.Core.Bool.{Bool, true, false, ◌&&◌, ◌||◌, not}
 use mathlib.Core.List.{List, [], ◌++◌}
-use mathlib.Core.Option.{Option, none, some}
+use Rattle.std.specs.Prelude.{Option, Some, None}
+use Rattle.format.specs.declared.leaf.Kind.{Kind}
 use Prim.Native.Nat.{ℕ, zero, suc, ◌+◌, ◌-◌, ◌*◌, ◌^◌, ◌/◌, ◌%◌, ◌<◌}
 use lib.ListN.{length, get_or}
 use lib.Dec.{ltb, eqb}
@@ -15,8 +16,6 @@ use borrow.Author.Tests.{eqb-true, eqb-false, ne_eqb, lt-ltb, ltb-true, ltb-fals
 use Rattle.format.proofs.Basics.{or_true, or_comm}
 use Rattle.hash.specs.Sha256.{sha256d}
 use Rattle.format.specs.declared.leaf.Kind.TheVariants.{Plain, Copy, Client}
-use Rattle.path.specs.declared.path.Found.{Found}
-use Rattle.path.specs.declared.path.Found.TheVariants.{Here, Missing}
 use Rattle.format.specs.Parse.{pick}
 use Rattle.format.specs.Level.{holds}
 use Rattle.path.specs.Search.{lookup}
@@ -49,17 +48,17 @@ sibling-below j n b = go (eqb (j % 2) 1) refl
 
 -- what a leaf asked for gives a climb
 unfoldable pub as_sibling : Option Carried → Sibling
-as_sibling none = absent
-as_sibling (some (plain h)) = value h
-as_sibling (some copy) = copied
-as_sibling (some (client h)) = value h
+as_sibling None = absent
+as_sibling (Some (plain h)) = value h
+as_sibling (Some copy) = copied
+as_sibling (Some (client h)) = value h
 
-pub found-sibling : (s : List ℕ) (x : Found) → sibling s x ≡ as_sibling (found_as s x)
+pub found-sibling : (s : List ℕ) (x : Option Kind) → sibling s x ≡ as_sibling (found_as s x)
 unfolding found_as sibling written as_sibling carried_of
-found-sibling s (Here (Plain p)) = refl
-found-sibling s (Here Copy) = refl
-found-sibling s (Here (Client p)) = refl
-found-sibling s Missing = refl
+found-sibling s (Some (Plain p)) = refl
+found-sibling s (Some Copy) = refl
+found-sibling s (Some (Client p)) = refl
+found-sibling s None = refl
 
 -- a chosen climb passes the node or its sibling
 unfoldable near : List ℕ → ℕ → ℕ → Bool
@@ -103,28 +102,28 @@ module _ (chosen : List ℕ) (k o : ℕ) (u : under chosen (suc k) o ≡ true) w
 -- ---- what is asked for near a chosen climb
 
 module _ (ids : List (List ℕ)) (chosen : List ℕ) (o : ℕ) where
-  pub asked-client : under chosen 0 o ≡ true → asked ids chosen 0 o ≡ some (client (node ids 0 o))
+  pub asked-client : under chosen 0 o ≡ true → asked ids chosen 0 o ≡ Some (client (node ids 0 o))
   unfolding asked
   asked-client u = rw u
 
   -- over a chosen position it is left out
-  pub asked_over : (k : ℕ) → under chosen (suc k) o ≡ true → asked ids chosen (suc k) o ≡ none
+  pub asked_over : (k : ℕ) → under chosen (suc k) o ≡ true → asked ids chosen (suc k) o ≡ None
   unfolding asked left_out
   asked_over k u = rw (ne_eqb (suc k) 0 (λ q. omega arith), u, lt-ltb 0 (suc k) (zero-lt-suc k)) (go (under chosen (suc k) (sibling_position o)))
     where
-      go : (b : Bool) → pick (b && false) (some (sibling_at ids (suc k) o)) none ≡ none
+      go : (b : Bool) → pick (b && false) (Some (sibling_at ids (suc k) o)) None ≡ None
       go true = refl
       go false = refl
 
-  pub asked-sibling : (k : ℕ) → under chosen k o ≡ false → under chosen k (sibling_position o) ≡ true → asked ids chosen k o ≡ some (sibling_at ids k o)
+  pub asked-sibling : (k : ℕ) → under chosen k o ≡ false → under chosen k (sibling_position o) ≡ true → asked ids chosen k o ≡ Some (sibling_at ids k o)
   unfolding asked left_out
   asked-sibling k u v = go (eqb k 0) refl (ltb 0 k)
     where
-      at : (b : Bool) → pick (true && not (b && false)) (some (sibling_at ids k o)) none ≡ some (sibling_at ids k o)
+      at : (b : Bool) → pick (true && not (b && false)) (Some (sibling_at ids k o)) None ≡ Some (sibling_at ids k o)
       at true = refl
       at false = refl
 
-      go : (a : Bool) → eqb k 0 ≡ a → (b : Bool) → pick (a && under chosen 0 o) (some (client (node ids 0 o))) (pick (under chosen k (sibling_position o) && not (b && under chosen k o)) (some (sibling_at ids k o)) none) ≡ some (sibling_at ids k o)
+      go : (a : Bool) → eqb k 0 ≡ a → (b : Bool) → pick (a && under chosen 0 o) (Some (client (node ids 0 o))) (pick (under chosen k (sibling_position o) && not (b && under chosen k o)) (Some (sibling_at ids k o)) None) ≡ Some (sibling_at ids k o)
       go true e b = let z : under chosen 0 o ≡ false = rw (eqb-true k 0 e) at u in rw (z, u, v) (at b)
       go false e b = rw (u, v) (at b)
 
@@ -162,7 +161,7 @@ module _ {block : ℕ} {ids : List (List ℕ)} {chosen s : List ℕ} (g : Sizes 
   unfolding as_sibling sibling_at
   value-sibling k o c b u v = go (ltb o (size ids k)) (stated k o b (sibling_in k o b v) ∙ ap as_sibling (asked-sibling ids chosen o k u v))
     where
-      go : (t : Bool) → w k o ≡ as_sibling (some (pick t (plain (node ids k o)) copy)) → value_of w c k o ≡ pick t (value (node ids k o)) c
+      go : (t : Bool) → w k o ≡ as_sibling (Some (pick t (plain (node ids k o)) copy)) → value_of w c k o ≡ pick t (value (node ids k o)) c
       go true e = value_written w c k o (node ids k o) e
       go false e = value-copied w c k o e
 

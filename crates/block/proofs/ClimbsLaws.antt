@@ -11,7 +11,8 @@ use Rattle.format.proofs.Basics.{one_less}
 use Rattle.format.specs.Parse.{pick}
 use Rattle.spv.specs.declared.rejection.Rejection.{Rejection}
 use Rattle.spv.specs.Result.{Result, accepted, refused, follow}
-use Rattle.block.specs.declared.tree.Climb.TheVariants.{Free, Twin}
+use Rattle.std.specs.Prelude.{Ok, Err}
+use Rattle.spv.proofs.ResultLaws.{answered-ok, answered-err}
 use Rattle.block.specs.Tree.{tree_climb, reaches}
 use Rattle.block.specs.BlockBump.{under, climbs_from}
 use Rattle.block.specs.Heap.{climb_of}
@@ -25,25 +26,18 @@ mark-chosen marks chosen h top i m one e b =
 
 -- ---- what an answer tells
 
-pub told_free : (x : Result (Unit {0})) → climb_of x ≡ Free → x ≡ accepted tt
-unfolding climb_of
-told_free (accepted a) e = refl
-told_free (refused why) e = absurd (let z : ◌≡◌ {A = ℕ} 0 1 = cc in omega arith)
-
-pub told_twin : {A : Type 0} (x : Result A) (why : Rejection) → climb_of x ≡ Twin why → x ≡ refused why
-unfolding climb_of
-told_twin (accepted a) why e = absurd (let z : ◌≡◌ {A = ℕ} 0 1 = cc in omega arith)
-told_twin (refused w) why e = cc
+pub told_free : (x : Result (Unit {0})) → Ok tt ≡ climb_of x → x ≡ accepted tt
+told_free x e = (answered-ok (λ a. tt) x tt e).1
 
 -- ---- one position
 
 module _ (ids : List (List ℕ)) (chosen : List ℕ) (i : ℕ) where
-  pub one-passed : under chosen 0 i ≡ false → Free ≡ climb_of (climbs_from ids chosen i 1)
-  unfolding climbs_from climb_of
+  pub one-passed : under chosen 0 i ≡ false → Ok tt ≡ climb_of (climbs_from ids chosen i 1)
+  unfolding climbs_from
   one-passed e = rw e
 
   pub one-chosen : under chosen 0 i ≡ true → climb_of (tree_climb ids i) ≡ climb_of (climbs_from ids chosen i 1)
-  unfolding climbs_from climb_of
+  unfolding climbs_from
   one-chosen e = rw e (go (tree_climb ids i))
     where
       go : (x : Result (List ℕ)) → climb_of x ≡ climb_of (follow x (λ _. climbs_from ids chosen (i + 1) 0))
@@ -63,19 +57,18 @@ module _ (ids : List (List ℕ)) (chosen : List ℕ) (i : ℕ) where
 
   -- a loop over n positions that has come to i
   module _ (n : ℕ) (more : i < n) where
-    pub climbs-stop : (why : Rejection) → Twin why ≡ climb_of (climbs_from ids chosen i 1) → Twin why ≡ climb_of (climbs_from ids chosen i (n - i))
-    unfolding climb_of
+    pub climbs-stop : (why : Rejection) → Err why ≡ climb_of (climbs_from ids chosen i 1) → Err why ≡ climb_of (climbs_from ids chosen i (n - i))
     climbs-stop why e =
-        let f : climbs_from ids chosen i 1 ≡ refused why = told_twin (climbs_from ids chosen i 1) why (sym e) in
+        let f : climbs_from ids chosen i 1 ≡ refused why = answered-err (λ a. tt) (climbs_from ids chosen i 1) why e in
         rw (one_less n i more, climbs-next (n - (i + 1)), f)
 
-    pub climbs_on : Free ≡ climb_of (climbs_from ids chosen i 1) → climbs_from ids chosen (i + 1) (n - (i + 1)) ≡ climbs_from ids chosen i (n - i)
+    pub climbs_on : Ok tt ≡ climb_of (climbs_from ids chosen i 1) → climbs_from ids chosen (i + 1) (n - (i + 1)) ≡ climbs_from ids chosen i (n - i)
     climbs_on e =
-        let f : climbs_from ids chosen i 1 ≡ accepted tt = told_free (climbs_from ids chosen i 1) (sym e) in
+        let f : climbs_from ids chosen i 1 ≡ accepted tt = told_free (climbs_from ids chosen i 1) e in
         rw (one_less n i more, climbs-next (n - (i + 1)), f)
 
-  pub climbs-end : (n : ℕ) → n ≤ i → Free ≡ climb_of (climbs_from ids chosen i (n - i))
-  unfolding climbs_from climb_of
+  pub climbs-end : (n : ℕ) → n ≤ i → Ok tt ≡ climb_of (climbs_from ids chosen i (n - i))
+  unfolding climbs_from
   climbs-end n l = let z : n - i ≡ 0 = omega arith in rw z
 
 pub climbs-start : (ids : List (List ℕ)) (chosen : List ℕ) (n : ℕ) → climbs_from ids chosen 0 (n - 0) ≡ climbs_from ids chosen 0 n

@@ -28,7 +28,7 @@ use Rattle.block.proofs.TreeLaws.{above-length, above-pair, above_last, height-h
 use Rattle.spv.proofs.HashesLaws.{hashes-length, hashes-at}
 use Rattle.spv.proofs.Stored.{stored_here, stored_other}
 use Rattle.block.proofs.TreeClimb.{twin_at, end_from, from_end, from_twin, from_on, from_all}
-use Rattle.block.specs.declared.tree.Climb.TheVariants.{Free, Twin}
+use Rattle.std.specs.Prelude.{Ok, Err}
 use Rattle.block.specs.Heap.{node_in, right_in, pair_in, set_four, Stored, Heap, Level, twin_in, Grown, climb_of}
 
 -- ---- a level and its places
@@ -319,8 +319,7 @@ module _ {list heap : List ℕ} {h : ℕ} (g : Grown list heap h) where
     one : h - k ≡ suc (h - (k + 1))
     one = omega (arith, add-one (h - (k + 1)))
 
-    pub climb_twin : (i : ℕ) → twin_in list heap (eqb k 0) width j ≡ true → Climbing list h i k j → {q : ℕ} → q ≡ sibling_position j → Twin (at_sibling TWIN k q) ≡ climb_of (tree_climb (hashes_of list) i)
-    unfolding climb_of
+    pub climb_twin : (i : ℕ) → twin_in list heap (eqb k 0) width j ≡ true → Climbing list h i k j → {q : ℕ} → q ≡ sibling_position j → Err (at_sibling TWIN k q) ≡ climb_of (tree_climb (hashes_of list) i)
     climb_twin i e c s =
         rw s
         (ap climb_of
@@ -338,8 +337,7 @@ module _ {list heap : List ℕ} {h : ℕ} (g : Grown list heap h) where
           ∙ c.same_end;
     }
 
-pub climb_end : (list : List ℕ) (h i k j : ℕ) → h ≤ k → Climbing list h i k j → Free ≡ climb_of (tree_climb (hashes_of list) i)
-unfolding climb_of
+pub climb_end : (list : List ℕ) (h i k j : ℕ) → h ≤ k → Climbing list h i k j → Ok tt ≡ climb_of (tree_climb (hashes_of list) i)
 climb_end list h i k j l c =
     let z : h - k ≡ 0 = omega arith in
     ap climb_of (sym (from_end (hashes_of list) k j) ∙ ap (λ (x : ℕ). end_from (hashes_of list) k x j) (sym z) ∙ c.same_end)

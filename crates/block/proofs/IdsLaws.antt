@@ -3,13 +3,14 @@ use mathlib.Core.Path.{◌≡◌, refl, sym, ap, ◌∙◌}
 use mathlib.Core.Bool.{Bool, true, false, ◌&&◌, not}
 use mathlib.Core.List.{List, [], ◌∷◌}
 use Prim.Native.Nat.{ℕ, zero, suc, ◌+◌, ◌-◌, ◌*◌, ◌/◌, ◌≤◌, ◌<◌}
-use lib.ListN.{length, get_or, drop, set, length-set, length-drop, drop_of_length-le}
-use lib.Seq.{length-take-le, drop-drop, drop-cons, get_or-take, get_or-drop, get_or-set_same, get_or-set_other}
+use lib.ListN.{length, get_or, drop, set, length-set, length-drop}
+use lib.Seq.{length-take-le, drop-drop, get_or-take, get_or-drop, get_or-set_same, get_or-set_other}
 use lib.Dec.{ltb, eqb}
 use native.Mathlib.Omega.{arith}
 use native.Mathlib.Nat.{sub-zero, mul-zero, add-zero}
 use native.Mathlib.Numerals.{add-one}
-use borrow.Author.Tests.{lt-ltb, le-ltb, ltb-true, eqb-true, eqb-false}
+use Rattle.std.proofs.Math.Logic.{◌↔◌}
+use borrow.Author.Tests.{lt-ltb, ltb-true, eqb-true, eqb-false}
 use Rattle.format.proofs.Basics.{and-false, one_less}
 use Rattle.format.specs.Bytes.{same, hash_at}
 use Rattle.format.proofs.BytesLaws.{ne_same, hash-there}
@@ -30,19 +31,6 @@ ids_hashes l h j b =
 
 -- ---- positions below the list's length
 
-module _ (n : ℕ) (chosen : List ℕ) (i : ℕ) (more : i < length chosen) where
-  pub below_over : n ≤ get_or chosen i 0 → all_below n (drop i chosen) ≡ false
-  unfolding all_below
-  below_over e = rw (drop-cons chosen i 0 more) (rw (le-ltb (get_or chosen i 0) n e))
-
-  pub below_on : get_or chosen i 0 < n → all_below n (drop i chosen) ≡ all_below n (drop (i + 1) chosen)
-  unfolding all_below
-  below_on e = rw (add-one i, drop-cons chosen i 0 more) (rw (lt-ltb (get_or chosen i 0) n e))
-
-pub below_end : (n : ℕ) (chosen : List ℕ) (i : ℕ) → length chosen ≤ i → all_below n (drop i chosen) ≡ true
-unfolding all_below
-below_end n chosen i e = rw (drop_of_length-le chosen e)
-
 pub below_at : (n : ℕ) (chosen : List ℕ) → all_below n chosen ≡ true → (i : ℕ) → i < length chosen → get_or chosen i 0 < n
 unfolding all_below
 below_at n [] e i h = absurd (omega arith)
@@ -53,6 +41,20 @@ below_at n (x ∷ chosen) e i h = go (ltb x n) refl e (λ m j b. below_at n chos
     go true q m r zero b = ltb-true x n q
     go true q m r (suc i) b = r m i (omega arith)
     go false q m r i b = absurd (let z : ◌≡◌ {A = ℕ} 0 1 = cc in omega arith)
+
+all-below : (n : ℕ) (chosen : List ℕ) → ((i : ℕ) → i < length chosen → get_or chosen i 0 < n) → all_below n chosen ≡ true
+unfolding all_below
+all-below n [] f = refl
+all-below n (x ∷ chosen) f = rw (lt-ltb x n (f 0 (omega arith))) (all-below n chosen (λ i h. f (suc i) (omega arith)))
+
+-- a test of each
+pub below_tested : (n : ℕ) (chosen : List ℕ) (t : Bool) → ((t ≡ true) ↔ ((i : ℕ) → i < length chosen → get_or chosen i 0 < n)) → t ≡ all_below n chosen
+below_tested n chosen true e = sym (all-below n chosen (e.0 refl))
+below_tested n chosen false e = go (all_below n chosen) refl
+  where
+    go : (t : Bool) → all_below n chosen ≡ t → false ≡ all_below n chosen
+    go true f = e.1 (below_at n chosen f) ∙ sym f
+    go false f = sym f
 
 -- ---- ids that are all different
 

@@ -3,7 +3,8 @@ use mathlib.Core.Path.{◌≡◌, refl, sym, ap, ◌∙◌, subst}
 use mathlib.Core.Bool.{Bool, true, false}
 use mathlib.Core.List.{List, []}
 use mathlib.Core.Logic.{◌↔◌}
-use mathlib.Core.Option.{Option, none, some}
+use Rattle.std.specs.Prelude.{Option, Some, None}
+use Rattle.format.specs.declared.leaf.Kind.{Kind}
 use Prim.Native.Nat.{ℕ, zero, suc, ◌+◌, ◌-◌, ◌*◌, ◌^◌, ◌/◌, ◌%◌, ◌<◌}
 use lib.ListN.{get_or}
 use lib.Dec.{eqb}
@@ -12,8 +13,6 @@ use native.Mathlib.Omega.{arith}
 use native.Mathlib.Nat.{div-one}
 use native.Mathlib.Numerals.{add-one}
 use borrow.Author.Tests.{eqb-true, eqb-false}
-use Rattle.path.specs.declared.path.Found.{Found}
-use Rattle.path.specs.declared.path.Found.TheVariants.{Here, Missing}
 use Rattle.format.specs.Parse.{ok}
 use Rattle.format.specs.Level.{holds}
 use Rattle.format.specs.Bump.{Bump, bump_whole}
@@ -80,27 +79,27 @@ over_exactly chosen k o = (
 
 -- ---- what is asked for
 
-found-missing : (s : List ℕ) (x : Found) → found_as s x ≡ none → x ≡ Missing
+found-missing : (s : List ℕ) (x : Option Kind) → found_as s x ≡ None → x ≡ None
 unfolding found_as
-found-missing s (Here kind) e = absurd (let z : ◌≡◌ {A = ℕ} 0 1 = cc in omega arith)
-found-missing s Missing e = refl
+found-missing s (Some kind) e = absurd (let z : ◌≡◌ {A = ℕ} 0 1 = cc in omega arith)
+found-missing s None e = refl
 
-found_none : (s : List ℕ) (x : Found) → x ≡ Missing → found_as s x ≡ none
+found_none : (s : List ℕ) (x : Option Kind) → x ≡ None → found_as s x ≡ None
 unfolding found_as
 found_none s x e = rw e
 
-some-none : (c : Carried) → ◌≡◌ {A = Option Carried} (some c) none → ⊥
+some-none : (c : Carried) → ◌≡◌ {A = Option Carried} (Some c) None → ⊥
 some-none c e = let z : ◌≡◌ {A = ℕ} 0 1 = cc in omega arith
 
-asked-none : (ids : List (List ℕ)) (chosen : List ℕ) (k o : ℕ) → under chosen k (sibling_position o) ≡ true → (asked ids chosen k o ≡ none) ↔ ((0 < k) × (under chosen k o ≡ true))
+asked-none : (ids : List (List ℕ)) (chosen : List ℕ) (k o : ℕ) → under chosen k (sibling_position o) ≡ true → (asked ids chosen k o ≡ None) ↔ ((0 < k) × (under chosen k o ≡ true))
 asked-none ids chosen k o v = (out k v (under chosen k o) refl, λ x. over k x.0 x.1)
   where
-    out : (k : ℕ) → under chosen k (sibling_position o) ≡ true → (t : Bool) → under chosen k o ≡ t → asked ids chosen k o ≡ none → (0 < k) × (under chosen k o ≡ true)
+    out : (k : ℕ) → under chosen k (sibling_position o) ≡ true → (t : Bool) → under chosen k o ≡ t → asked ids chosen k o ≡ None → (0 < k) × (under chosen k o ≡ true)
     out k v false u e = absurd (some-none (sibling_at ids k o) (sym (asked-sibling ids chosen o k u v) ∙ e))
     out zero v true u e = absurd (some-none (client (node ids 0 o)) (sym (asked-client ids chosen o u) ∙ e))
     out (suc k) v true u e = (omega arith, u)
 
-    over : (k : ℕ) → 0 < k → under chosen k o ≡ true → asked ids chosen k o ≡ none
+    over : (k : ℕ) → 0 < k → under chosen k o ≡ true → asked ids chosen k o ≡ None
     over zero h u = absurd (omega arith)
     over (suc k) h u = asked_over ids chosen o k u
 
@@ -109,7 +108,7 @@ asked-none ids chosen k o v = (out k v (under chosen k o) refl, λ x. over k x.0
 module _ (block : ℕ) (list chosen : List ℕ) (room : ℕ) (bytes : List ℕ) (call : writing block list chosen room ≡ accepted bytes) (all : AllBytes list) where
   -- the BUMP that was written has no leaf at a needed sibling's place exactly when that lies above level 0 and over a chosen position
   pub left_out_exactly : (b : Bump) (end : ℕ) → bump_whole bytes ≡ ok b end → (k o : ℕ) → k < b.height → Needed chosen k o
-      → (lookup o (get_or b.levels k []) ≡ Missing) ↔ ((0 < k) × OverChosen chosen k o)
+      → (lookup o (get_or b.levels k []) ≡ None) ↔ ((0 < k) × OverChosen chosen k o)
   left_out_exactly b end e k o low n = (
     (λ h. let x = (asked-none ids chosen k o needed).0 (sym leaf ∙ found_none bytes _ h) in (x.0, (over_exactly chosen k o).0 x.1)),
     (λ x. found-missing bytes _ (leaf ∙ (asked-none ids chosen k o needed).1 (x.0, (over_exactly chosen k o).1 x.1))),

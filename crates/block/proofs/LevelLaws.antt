@@ -2,7 +2,7 @@
 use mathlib.Core.Path.{◌≡◌, refl, sym, ap, ap₂, ◌∙◌}
 use mathlib.Core.Bool.{Bool, true, false, ◌&&◌, not}
 use mathlib.Core.List.{List, [], ◌∷◌, ◌++◌}
-use mathlib.Core.Option.{Option, none, some}
+use Rattle.std.specs.Prelude.{Option, Some, None}
 use Prim.Native.Nat.{ℕ, zero, suc, ◌+◌, ◌-◌, ◌*◌, ◌/◌, ◌%◌, ◌^◌, ◌≤◌, ◌<◌}
 use lib.ListN.{length, length-append}
 use lib.Dec.{ltb, eqb}
@@ -12,7 +12,7 @@ use Rattle.format.specs.Parse.{pick}
 use Rattle.spv.specs.Climb.{sibling_position}
 use Rattle.spv.specs.Hashes.{hashes_of}
 use Rattle.block.specs.declared.level.Asked.{Asked}
-use Rattle.block.specs.declared.level.Asked.TheVariants.{Nothing, Plain, Copy, Client}
+use Rattle.block.specs.declared.level.Asked.TheVariants.{Plain, Copy, Client}
 use Rattle.encoding.specs.Encode.{encode_all}
 use Rattle.encoding.specs.Digits.{varint_bytes}
 use Rattle.encoding.specs.BumpBytes.{Carried, plain, copy, client, carried_bytes, entry_bytes, level_bytes}
@@ -28,13 +28,13 @@ use Rattle.spv.proofs.HashesLaws.{hashes-length}
 use Rattle.block.proofs.TreeLaws.{size-suc}
 use native.Mathlib.Nat.{pow-suc, sub-zero, zero-lt-suc}
 use native.Mathlib.Numerals.{add-one}
-use Rattle.block.specs.Leaves.{Ready, passed_at, form_at, leaf_count, leaf_text, sum_from, text_from, level_leaves, level_size, leaves_text, level_text}
+use Rattle.block.specs.Leaves.{Ready, passed_at, form_at, leaf_count, leaf_text, text_at, sum_from, text_from, level_leaves, level_size, leaves_text, level_text}
 use Rattle.block.proofs.LeavesLaws.{level-size, sibling_in}
 
 -- the text of what is asked for at an offset
 unfoldable pub asked_text : ℕ → Option Carried → List ℕ
-asked_text o none = []
-asked_text o (some c) = varint_bytes o ++ carried_bytes c
+asked_text o None = []
+asked_text o (Some c) = varint_bytes o ++ carried_bytes c
 
 pub level-text : (f : ℕ → Option Carried) (g : ℕ → List ℕ) (n o : ℕ) → ((x : ℕ) → o ≤ x → x < o + n → g x ≡ asked_text x (f x)) → text_from g o n ≡ encode_all entry_bytes (rising f o n)
 unfolding text_from rising encode_all asked_text entry_bytes
@@ -43,12 +43,12 @@ level-text f g (suc n) o e = go (f o) refl (e o (omega arith) (omega arith)) (le
   where
     go : (v : Option Carried) → f o ≡ v → g o ≡ asked_text o (f o) → text_from g (o + 1) n ≡ encode_all entry_bytes (rising f (o + 1) n)
         → g o ++ text_from g (o + 1) n ≡ encode_all entry_bytes (rising f o (suc n))
-    go none q h r = rw (rising_none f o n q) (ap₂ (λ (x y : List ℕ). x ++ y) (h ∙ ap (asked_text o) q) r)
-    go (some c) q h r = rw (rising-some f o n c q) (ap₂ (λ (x y : List ℕ). x ++ y) (h ∙ ap (asked_text o) q) r)
+    go None q h r = rw (rising_none f o n q) (ap₂ (λ (x y : List ℕ). x ++ y) (h ∙ ap (asked_text o) q) r)
+    go (Some c) q h r = rw (rising-some f o n c q) (ap₂ (λ (x y : List ℕ). x ++ y) (h ∙ ap (asked_text o) q) r)
 
 unfoldable pub asked_count : Option Carried → ℕ
-asked_count none = 0
-asked_count (some c) = 1
+asked_count None = 0
+asked_count (Some c) = 1
 
 level-count : (f : ℕ → Option Carried) (g : ℕ → ℕ) (n o : ℕ) → ((x : ℕ) → o ≤ x → x < o + n → g x ≡ asked_count (f x)) → sum_from g o n ≡ length (rising f o n)
 unfolding sum_from rising asked_count
@@ -56,8 +56,8 @@ level-count f g zero o e = refl
 level-count f g (suc n) o e = go (f o) refl (e o (omega arith) (omega arith)) (level-count f g n (o + 1) (λ x a b. e x (omega arith) (omega arith)))
   where
     go : (v : Option Carried) → f o ≡ v → g o ≡ asked_count (f o) → sum_from g (o + 1) n ≡ length (rising f (o + 1) n) → g o + sum_from g (o + 1) n ≡ length (rising f o (suc n))
-    go none q h r = rw (rising_none f o n q) (let z : g o ≡ 0 = h ∙ ap asked_count q in omega arith)
-    go (some c) q h r = rw (rising-some f o n c q) (let z : g o ≡ 1 = h ∙ ap asked_count q in omega arith)
+    go None q h r = rw (rising_none f o n q) (let z : g o ≡ 0 = h ∙ ap asked_count q in omega arith)
+    go (Some c) q h r = rw (rising-some f o n c q) (let z : g o ≡ 1 = h ∙ ap asked_count q in omega arith)
 
 above_zero : (k : ℕ) → ltb 0 k ≡ not (eqb k 0)
 above_zero zero = refl
@@ -71,23 +71,23 @@ module _ (list chosen : List ℕ) (g : Below (hashes_of list) chosen) (heap mark
   even = let e : h - k ≡ suc (h - (k + 1)) = omega (arith, add-one (h - (k + 1))) in let d : 2 ^ (h - k) ≡ 2 ^ (h - (k + 1)) * 2 = ap (λ (x : ℕ). 2 ^ x) e ∙ pow-suc 2 (h - (k + 1)) in omega arith
 
   -- the form that the code sees is what is asked for
-  abbrev form : ℕ → Asked
+  abbrev form : ℕ → Option Asked
   form o = form_at marks (eqb k 0) (2 ^ (h - k)) (size (hashes_of list) k) o
 
-  leaf-text : (o : ℕ) → o < 2 ^ (h - k) → leaf_text list heap (eqb k 0) (2 ^ (h - k)) o (form o) ≡ asked_text o (asked (hashes_of list) chosen k o)
-  unfolding form_at passed_at asked left_out sibling_at leaf_text asked_text carried_bytes
+  leaf-text : (o : ℕ) → o < 2 ^ (h - k) → text_at list heap (eqb k 0) (2 ^ (h - k)) o (form o) ≡ asked_text o (asked (hashes_of list) chosen k o)
+  unfolding form_at passed_at asked left_out sibling_at leaf_text text_at asked_text carried_bytes
   leaf-text o low =
       rw (mk k o more low, mk k (sibling_position o) more (sibling_in (2 ^ (h - k)) o even low), above_zero k) (go (eqb k 0) refl (under chosen k o) refl (under chosen k (sibling_position o)) (ltb o (size (hashes_of list) k)) refl)
     where
       sib : (n : Bool) → (s : Bool) → ltb o (size (hashes_of list) k) ≡ s
-          → leaf_text list heap (eqb k 0) (2 ^ (h - k)) o (pick n (pick s Plain Copy) Nothing) ≡ asked_text o (pick (n && not false) (some (pick s (plain (node (hashes_of list) k o)) copy)) none)
+          → text_at list heap (eqb k 0) (2 ^ (h - k)) o (pick n (Some (pick s Plain Copy)) None) ≡ asked_text o (pick (n && not false) (Some (pick s (plain (node (hashes_of list) k o)) copy)) None)
       sib true true es = ap (λ (x : List ℕ). varint_bytes o ++ (0 ∷ x)) (st o (ltb-true _ _ es))
       sib true false es = refl
       sib false s es = refl
 
       go : (a : Bool) → eqb k 0 ≡ a → (b : Bool) → under chosen k o ≡ b → (n : Bool) → (s : Bool) → ltb o (size (hashes_of list) k) ≡ s
-          → leaf_text list heap (eqb k 0) (2 ^ (h - k)) o (pick b (pick a Client Nothing) (pick n (pick s Plain Copy) Nothing))
-          ≡ asked_text o (pick (a && under chosen 0 o) (some (client (node (hashes_of list) 0 o))) (pick (n && not (not a && b)) (some (pick s (plain (node (hashes_of list) k o)) copy)) none))
+          → text_at list heap (eqb k 0) (2 ^ (h - k)) o (pick b (pick a (Some Client) None) (pick n (Some (pick s Plain Copy)) None))
+          ≡ asked_text o (pick (a && under chosen 0 o) (Some (client (node (hashes_of list) 0 o))) (pick (n && not (not a && b)) (Some (pick s (plain (node (hashes_of list) k o)) copy)) None))
       go true ea true eb n s es =
           let z : k ≡ 0 = eqb-true k 0 ea in
           let u : under chosen 0 o ≡ true = rw z at eb in
@@ -102,13 +102,13 @@ module _ (list chosen : List ℕ) (g : Below (hashes_of list) chosen) (heap mark
   leaf-counted o low =
       rw (mk k o more low, mk k (sibling_position o) more (sibling_in (2 ^ (h - k)) o even low), above_zero k) (go (eqb k 0) refl (under chosen k o) refl (under chosen k (sibling_position o)) (ltb o (size (hashes_of list) k)))
     where
-      sib : (n s : Bool) → leaf_count (pick n (pick s Plain Copy) Nothing) ≡ asked_count (pick (n && not false) (some (sibling_at (hashes_of list) k o)) none)
+      sib : (n s : Bool) → leaf_count (pick n (Some (pick s Plain Copy)) None) ≡ asked_count (pick (n && not false) (Some (sibling_at (hashes_of list) k o)) None)
       sib true true = refl
       sib true false = refl
       sib false s = refl
 
-      go : (a : Bool) → eqb k 0 ≡ a → (b : Bool) → under chosen k o ≡ b → (n s : Bool) → leaf_count (pick b (pick a Client Nothing) (pick n (pick s Plain Copy) Nothing))
-          ≡ asked_count (pick (a && under chosen 0 o) (some (client (node (hashes_of list) 0 o))) (pick (n && not (not a && b)) (some (sibling_at (hashes_of list) k o)) none))
+      go : (a : Bool) → eqb k 0 ≡ a → (b : Bool) → under chosen k o ≡ b → (n s : Bool) → leaf_count (pick b (pick a (Some Client) None) (pick n (Some (pick s Plain Copy)) None))
+          ≡ asked_count (pick (a && under chosen 0 o) (Some (client (node (hashes_of list) 0 o))) (pick (n && not (not a && b)) (Some (sibling_at (hashes_of list) k o)) None))
       go true ea true eb n s = let z : k ≡ 0 = eqb-true k 0 ea in let u : under chosen 0 o ≡ true = rw z at eb in rw u
       go true ea false eb n s = let z : k ≡ 0 = eqb-true k 0 ea in let u : under chosen 0 o ≡ false = rw z at eb in rw u (sib n s)
       go false ea true eb true s = refl
@@ -121,7 +121,7 @@ module _ (list chosen : List ℕ) (g : Below (hashes_of list) chosen) (heap mark
   level-is =
       ap₂ (λ (n : ℕ) (x : List ℕ). varint_bytes n ++ x)
       (level-count (asked (hashes_of list) chosen k) (λ o. leaf_count (form o)) (2 ^ (h - k)) 0 (λ o a b. leaf-counted o (omega arith)))
-      (level-text (asked (hashes_of list) chosen k) (λ o. leaf_text list heap (eqb k 0) (2 ^ (h - k)) o (form o)) (2 ^ (h - k)) 0 (λ o a b. leaf-text o (omega arith)))
+      (level-text (asked (hashes_of list) chosen k) (λ o. text_at list heap (eqb k 0) (2 ^ (h - k)) o (form o)) (2 ^ (h - k)) 0 (λ o a b. leaf-text o (omega arith)))
 
 -- ---- all levels, as a loop goes through them
 

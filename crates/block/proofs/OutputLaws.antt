@@ -14,8 +14,8 @@ use Rattle.format.specs.Parse.{pick}
 use Rattle.format.specs.Refusals.{NO_ROOM}
 use Rattle.spv.specs.declared.rejection.Rejection.{Rejection}
 use Rattle.spv.specs.Result.{Result, accepted, refused, carrying}
-use Rattle.block.specs.declared.block.Written.{Written}
-use Rattle.block.specs.declared.block.Written.TheVariants.{Bytes}
+use Rattle.std.specs.Prelude.{Result as Answer, Ok, Err}
+use Rattle.spv.proofs.ResultLaws.{answered-ok}
 use Rattle.block.specs.Output.{room_for, written_of, output_after}
 
 module _ (room : ℕ) (bytes : List ℕ) where
@@ -37,28 +37,30 @@ room-told room needed bytes e = go (leb (length needed) room) refl e
     go false q f = let z : ◌≡◌ {A = ℕ} 0 1 = cc in absurd (omega arith)
 
 -- nothing is written
-pub refused_so : (out : List ℕ) {w : Result (List ℕ)} {why x : Rejection} {r : Written} → w ≡ refused why → x ≡ why → r ≡ written_of (refused x) → (r ≡ written_of w) × (out ≡ output_after w out)
+pub refused_so : (out : List ℕ) {w : Result (List ℕ)} {why x : Rejection} → w ≡ refused why → x ≡ why → (Err x ≡ written_of w) × (out ≡ output_after w out)
 unfolding output_after
-refused_so out e q f = rw e (f ∙ ap (λ (y : Rejection). written_of (refused y)) q, refl)
+refused_so out e q = rw e (ap Err q, refl)
 
 -- a text that fits is written whole
 pub written-whole : (out text : List ℕ) → length text ≤ length out → {w : Result (List ℕ)} {out' : List ℕ} {next : ℕ} → w ≡ accepted text → buffer out' next ≡ write_on (buffer out 0) text
-    → (Bytes next ≡ written_of w) × (out' ≡ output_after w out)
-unfolding written_of output_after
+    → (Ok next ≡ written_of w) × (out' ≡ output_after w out)
+unfolding output_after
 written-whole out text fits {w} {out'} {next} e f =
     let end : buffer out' next ≡ buffer (filled out text) (min (length out) (length text)) = f ∙ write-whole out text in
-    rw e (ap Bytes (ap (λ (x : Buffer). x.at) end ∙ omega arith), ap (λ (x : Buffer). x.room) end ∙ ap (λ (x : List ℕ). x ++ drop (length text) out) (take_all (length out) text fits))
+    rw e (ap Ok (ap (λ (x : Buffer). x.at) end ∙ omega arith), ap (λ (x : Buffer). x.room) end ∙ ap (λ (x : List ℕ). x ++ drop (length text) out) (take_all (length out) text fits))
 
 -- an answer of n bytes: they stand at the start of what is left in the memory lent
-pub bytes-told : (w : Result (List ℕ)) (out left : List ℕ) (n : ℕ) → Bytes n ≡ written_of w → left ≡ output_after w out → w ≡ accepted (take n left)
-unfolding written_of output_after
-bytes-told (accepted bytes) out left n e f =
-    let l : n ≡ length bytes = cc in
-    ap accepted (sym (take-append_seam bytes (drop (length bytes) out)) ∙ ap (λ (m : ℕ). take m (bytes ++ drop (length bytes) out)) (sym l) ∙ ap (take n) (sym f))
-bytes-told (refused why) out left n e f = absurd (let z : ◌≡◌ {A = ℕ} 0 1 = cc in omega arith)
+pub bytes-told : (w : Result (List ℕ)) (out left : List ℕ) (n : ℕ) → Ok n ≡ written_of w → left ≡ output_after w out → w ≡ accepted (take n left)
+unfolding output_after
+bytes-told w out left n e f = go (answered-ok length w n e)
+  where
+    go : (bytes : List ℕ) × (w ≡ accepted bytes) × (length bytes ≡ n) → w ≡ accepted (take n left)
+    go (bytes, is, l) =
+        is ∙ ap accepted (sym (take-append_seam bytes (drop (length bytes) out)) ∙ ap (λ (m : ℕ). take m (bytes ++ drop (length bytes) out)) l
+        ∙ ap (take n) (sym (f ∙ ap (λ (x : Result (List ℕ)). output_after x out) is)))
 
 -- and where bytes are accepted, the answer and the memory tell them
-pub accepted-told : {w : Result (List ℕ)} {r : Written} {left : List ℕ} (out bytes : List ℕ) → w ≡ accepted bytes → r ≡ written_of w → left ≡ output_after w out → (r ≡ Bytes (length bytes)) × (take (length bytes) left ≡ bytes)
-unfolding written_of output_after
+pub accepted-told : {w : Result (List ℕ)} {r : Answer ℕ Rejection} {left : List ℕ} (out bytes : List ℕ) → w ≡ accepted bytes → r ≡ written_of w → left ≡ output_after w out → (r ≡ Ok (length bytes)) × (take (length bytes) left ≡ bytes)
+unfolding output_after
 accepted-told out bytes e a l =
     (a ∙ ap written_of e, ap (take (length bytes)) (l ∙ ap (λ (x : Result (List ℕ)). output_after x out) e) ∙ take-append_seam bytes (drop (length bytes) out))

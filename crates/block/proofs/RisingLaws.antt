@@ -2,7 +2,7 @@
 use mathlib.Core.Path.{◌≡◌, refl, sym, ap₂, ◌∙◌}
 use mathlib.Core.Bool.{Bool, true, false}
 use mathlib.Core.List.{List, [], ◌∷◌, map}
-use mathlib.Core.Option.{Option, none, some}
+use Rattle.std.specs.Prelude.{Option, Some, None}
 use Prim.Native.Nat.{ℕ, zero, suc, ◌+◌, ◌≤◌, ◌<◌}
 use lib.Dec.{eqb}
 use native.Mathlib.Omega.{arith}
@@ -16,8 +16,8 @@ use Rattle.block.specs.BlockBump.{rising, found_as, Rising}
 
 -- what a level's leaves have at an offset
 unfoldable pub at_offset : ℕ → List Entry → Option Carried
-at_offset o [] = none
-at_offset o (e ∷ l) = pick (eqb e.offset o) (some e.carried) (at_offset o l)
+at_offset o [] = None
+at_offset o (e ∷ l) = pick (eqb e.offset o) (Some e.carried) (at_offset o l)
 
 -- offsets rise, from o on
 unfoldable pub From : ℕ → List Entry → Type 0
@@ -53,27 +53,27 @@ fits_under limit level seen [] f = tt
 fits_under limit level seen (e ∷ l) f = (f.0.0, fits_under limit level (and_entry seen e) l f.1)
 
 -- nothing stands below where a level starts
-pub before-none : (m o : ℕ) (l : List Entry) → From m l → o < m → at_offset o l ≡ none
+pub before-none : (m o : ℕ) (l : List Entry) → From m l → o < m → at_offset o l ≡ None
 unfolding From at_offset
 before-none m o [] f b = refl
 before-none m o (e ∷ l) f b = rw (ne_eqb e.offset o (λ q. omega (arith, f.0))) (before-none (e.offset + 1) o l f.1 (omega (arith, f.0)))
 
 module _ (f : ℕ → Option Carried) (o n : ℕ) where
-  pub rising_none : f o ≡ none → rising f o (suc n) ≡ rising f (o + 1) n
+  pub rising_none : f o ≡ None → rising f o (suc n) ≡ rising f (o + 1) n
   unfolding rising
   rising_none e = rw (rising, e)
 
-  pub rising-some : (c : Carried) → f o ≡ some c → rising f o (suc n) ≡ record { offset = o; carried = c } ∷ rising f (o + 1) n
+  pub rising-some : (c : Carried) → f o ≡ Some c → rising f o (suc n) ≡ record { offset = o; carried = c } ∷ rising f (o + 1) n
   unfolding rising
   rising-some c e = rw (rising, e)
 
-pub at_none : (o : ℕ) → at_offset o [] ≡ none
+pub at_none : (o : ℕ) → at_offset o [] ≡ None
 unfolding at_offset
 at_none o = refl
 
 -- what stands at the offset of the first leaf, and elsewhere
 module _ (y : Entry) (l : List Entry) (o : ℕ) where
-  pub at_first : y.offset ≡ o → at_offset o (y ∷ l) ≡ some y.carried
+  pub at_first : y.offset ≡ o → at_offset o (y ∷ l) ≡ Some y.carried
   unfolding at_offset
   at_first d = rw (eq-eqb y.offset o d)
 
@@ -91,29 +91,29 @@ rising-only f (suc n) o l r u e =
     go : (l : List Entry) → From o l → Under (o + suc n) l → ((x : ℕ) → o ≤ x → x < o + suc n → at_offset x l ≡ f x) → (v : Option Carried) → f o ≡ v
         → ((m : List Entry) → From (o + 1) m → Under (o + suc n) m → ((x : ℕ) → o + 1 ≤ x → x < o + 1 + n → at_offset x m ≡ f x) → m ≡ rising f (o + 1) n)
         → l ≡ rising f o (suc n)
-    go [] r u e none q ih = ih [] tt tt (λ x a b. e x (omega arith) (omega arith)) ∙ sym (rising_none f o n q)
-    go [] r u e (some c) q ih =
-        let m : none ≡ some c = sym (at_none o) ∙ e o (omega arith) (omega arith) ∙ q in
+    go [] r u e None q ih = ih [] tt tt (λ x a b. e x (omega arith) (omega arith)) ∙ sym (rising_none f o n q)
+    go [] r u e (Some c) q ih =
+        let m : None ≡ Some c = sym (at_none o) ∙ e o (omega arith) (omega arith) ∙ q in
         absurd (let z : ◌≡◌ {A = ℕ} 0 1 = cc in omega arith)
-    go (y ∷ l) r u e none q ih =
+    go (y ∷ l) r u e None q ih =
         ih (y ∷ l) (let low = r.0 in later (eqb y.offset o) refl, r.1) u (λ x a b. e x (omega arith) (omega arith)) ∙ sym (rising_none f o n q)
       where
         later : (t : Bool) → eqb y.offset o ≡ t → o + 1 ≤ y.offset
         later true h =
-            let m : some y.carried ≡ none = sym (at_first y l o (eqb-true _ _ h)) ∙ e o (omega arith) (omega arith) ∙ q in
+            let m : Some y.carried ≡ None = sym (at_first y l o (eqb-true _ _ h)) ∙ e o (omega arith) (omega arith) ∙ q in
             absurd (let z : ◌≡◌ {A = ℕ} 0 1 = cc in omega arith)
         later false h = let d = eqb-false y.offset o h in let low = r.0 in omega arith
-    go (y ∷ l) r u e (some c) q ih = here (eqb y.offset o) refl
+    go (y ∷ l) r u e (Some c) q ih = here (eqb y.offset o) refl
       where
         here : (t : Bool) → eqb y.offset o ≡ t → y ∷ l ≡ rising f o (suc n)
         here true h =
             let d : y.offset ≡ o = eqb-true _ _ h in
-            let m : some y.carried ≡ some c = sym (at_first y l o d) ∙ e o (omega arith) (omega arith) ∙ q in
+            let m : Some y.carried ≡ Some c = sym (at_first y l o d) ∙ e o (omega arith) (omega arith) ∙ q in
             let k : y.carried ≡ c = cc in
             let first : y ≡ record { offset = o; carried = c } = λ i. record { offset = d i; carried = k i } in
             ap₂ ◌∷◌ first (ih l (rw d at r.1) u.1 (λ x a b. sym (at_later y l x (λ g. omega arith)) ∙ e x (omega arith) (omega arith))) ∙ sym (rising-some f o n c q)
         here false h =
             let d = eqb-false y.offset o h in
             let low = r.0 in
-            let m : none ≡ some c = sym (before-none (y.offset + 1) o l r.1 (omega arith)) ∙ sym (at_later y l o d) ∙ e o (omega arith) (omega arith) ∙ q in
+            let m : None ≡ Some c = sym (before-none (y.offset + 1) o l r.1 (omega arith)) ∙ sym (at_later y l o d) ∙ e o (omega arith) (omega arith) ∙ q in
             absurd (let z : ◌≡◌ {A = ℕ} 0 1 = cc in omega arith)

@@ -1,9 +1,8 @@
 -- BUMPs from a block's ids (02, Item 1).
 use Rattle.std.specs.Prelude.{◌≡◌, Bool, true, false, ◌&&◌, not, ◌||◌, List, [], ◌∷◌, ℕ, zero, suc, ◌+◌, ◌-◌, ◌^◌, ◌/◌, ◌%◌, ◌≤◌, ◌<◌, length, get_or, ltb, leb, eqb}
-use Rattle.std.proofs.Math.Option.{Option, none, some}
+use Rattle.std.specs.Prelude.{Option, Some, None}
 use Rattle.format.specs.declared.leaf.Leaf.{Leaf}
-use Rattle.path.specs.declared.path.Found.{Found}
-use Rattle.path.specs.declared.path.Found.TheVariants.{Here, Missing}
+use Rattle.format.specs.declared.leaf.Kind.{Kind}
 use Rattle.format.specs.Parse.{pick, ok}
 use Rattle.format.specs.Level.{holds}
 use Rattle.path.specs.Search.{lookup}
@@ -38,13 +37,13 @@ sibling_at ids k o = pick (ltb o (size ids k)) (plain (node ids k o)) copy
 -- what is asked for at an offset of a level: "chosen ids with flags 02, and every sibling their climbs need, nothing more", but for those left out
 unfoldable pub asked : List (List ℕ) → List ℕ → ℕ → ℕ → Option Carried
 asked ids chosen k o =
-    pick (eqb k 0 && under chosen 0 o) (some (client (node ids 0 o)))
-    (pick (under chosen k (sibling_position o) && not (left_out chosen k o)) (some (sibling_at ids k o)) none)
+    pick (eqb k 0 && under chosen 0 o) (Some (client (node ids 0 o)))
+    (pick (under chosen k (sibling_position o) && not (left_out chosen k o)) (Some (sibling_at ids k o)) None)
 
 -- "offsets rising": the leaves asked for at n offsets from o on
 unfoldable pub rising : (ℕ → Option Carried) → ℕ → ℕ → List Entry
 rising f o zero = []
-rising f o (suc n) = elim (f o) [ none ↦ rising f (o + 1) n | some c ↦ record { offset = o; carried = c } ∷ rising f (o + 1) n ]
+rising f o (suc n) = elim (f o) [ None ↦ rising f (o + 1) n | Some c ↦ record { offset = o; carried = c } ∷ rising f (o + 1) n ]
 
 -- a level k of h has offsets below 2 ^ (h - k)
 abbrev pub level_for : List (List ℕ) → List ℕ → ℕ → ℕ → List Entry
@@ -102,9 +101,9 @@ writing block list chosen room =
 -- ---- the rules that bytes meet
 
 -- the leaf that was read at an offset, with its hash
-unfoldable pub found_as : List ℕ → Found → Option Carried
-found_as s (Here kind) = some (carried_of s kind)
-found_as s Missing = none
+unfoldable pub found_as : List ℕ → Option Kind → Option Carried
+found_as s (Some kind) = Some (carried_of s kind)
+found_as s None = None
 
 -- offsets rising
 unfoldable pub Rising : List Leaf → Type 0

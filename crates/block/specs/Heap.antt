@@ -1,13 +1,12 @@
 -- The tree as the code keeps it: level 0 is the lent list, the node at position j of a level of `width` places above stands at index width + j.
-use Rattle.std.specs.Prelude.{◌≡◌, Bool, false, List, [], ◌++◌, ℕ, ◌+◌, ◌-◌, ◌*◌, ◌/◌, ◌%◌, ◌^◌, ◌≤◌, ◌<◌, length, get_or, ltb, eqb}
+use Rattle.std.specs.Prelude.{◌≡◌, Bool, false, List, [], ◌++◌, ℕ, ◌+◌, ◌-◌, ◌*◌, ◌/◌, ◌%◌, ◌^◌, ◌≤◌, ◌<◌, length, get_or, ltb, eqb, Result as Answer}
 use Rattle.hash.specs.Sha256.{sha256d}
 use Rattle.lanes.specs.declared.Nodes.{Nodes}
 use Rattle.format.specs.Bytes.{same, set_hash, hash_at}
 use Rattle.format.specs.Parse.{pick}
 use Rattle.spv.specs.Hashes.{hashes_of}
-use Rattle.spv.specs.Result.{Result, accepted, refused}
-use Rattle.block.specs.declared.tree.Climb.{Climb}
-use Rattle.block.specs.declared.tree.Climb.TheVariants.{Free, Twin}
+use Rattle.spv.specs.Result.{Result, answer_of}
+use Rattle.spv.specs.declared.rejection.Rejection.{Rejection}
 use Rattle.block.specs.Tree.{layer, height_for}
 
 -- the node at position j of a level
@@ -49,6 +48,5 @@ pub record Grown (list heap : List ℕ) (h : ℕ) : Type 0 where
   pub nodes : Heap list heap h h
 
 -- the answer of climbing: no twin, or the refusal of the first one
-unfoldable pub climb_of : {A : Type 0} → Result A → Climb
-climb_of (accepted a) = Free
-climb_of (refused why) = Twin why
+abbrev pub climb_of : {A : Type 0} → Result A → Answer (Unit {0}) Rejection
+climb_of = answer_of (λ a. tt)

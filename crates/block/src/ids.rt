@@ -7,14 +7,7 @@ ghost use Rattle.block.specs.Ids.{id_at, slot_at};
 pub(crate) fn all_below(n: u64, chosen: &[u64]) -> bool
     ensures { result ≡ all_below n chosen.now }
 {
-    let mut i: usize = 0;
-    while i < chosen.len() {
-        if n <= chosen[i] {
-            return false;
-        }
-        i += 1;
-    }
-    true
+    chosen.iter().all(|position| *position < n)
 }
 
 fn wide(b: u8) -> usize
@@ -36,13 +29,10 @@ fn slot(ids: &[u8], at: usize) -> usize
 fn among_from(ids: &[u8], id: [u8; 32], from: usize) -> bool
     ensures { result ≡ searching id ids.now from }
 {
-    let n = ids.len() / 32;
-    let mut i = from;
-    while i < n {
+    for i in from..ids.len() / 32 {
         if format::same_bytes(format::hash_at(ids, 32 * i), id) {
             return true;
         }
-        i += 1;
     }
     false
 }
@@ -63,9 +53,7 @@ pub(crate) fn all_differ(ids: &[u8]) -> bool
     ensures { result ≡ distinct (hashes_of ids.now) }
 {
     let mut taken = [0u8; 16384];
-    let mut i = ids.len() / 32;
-    while 0 < i {
-        i -= 1;
+    for i in (0..ids.len() / 32).rev() {
         let s = slot(ids, 32 * i);
         if repeated(ids, taken[s], i) {
             return false;

@@ -7,4 +7,4 @@ mod level;
 mod marks;
 mod tree;
 
-pub use block::{Written, refuse, write_bump};
+pub use block::write_bump;

@@ -9,8 +9,8 @@ ghost use Rattle.block.specs.BlockBump.{climbs_from};
 ghost use Rattle.block.specs.Heap.{node_in, right_in, pair_in, set_four, Stored, Heap, Grown, twin_in, climb_of};
 ghost use Rattle.block.specs.Marks.{Marked};
 
-use super::marks::is_marked;
-use format::refusal::TWIN;
+use super::marks::{MARKS, is_marked};
+use format::Refusal;
 use lanes::Nodes;
 use spv::Rejection;
 
@@ -27,12 +27,16 @@ pub(crate) fn shape_for(n: usize) -> Shape
 {
     let mut height: usize = 0;
     let mut width: usize = 1;
+    // Not a for: how often it is doubled is what is asked.
     while width < n {
         width = 2 * width;
         height += 1;
     }
     Shape { height, width }
 }
+
+// The bytes of every level above 0 of a tree of up to 1,024 places.
+pub(crate) const HEAP: usize = 32768;
 
 // The node at position j of a level of `width` places.
 pub(crate) fn node_at(ids: &[u8], heap: &[u8], base: bool, width: usize, j: usize) -> [u8; 32]
@@ -92,14 +96,11 @@ fn parents(ids: &[u8], heap: &[u8], base: bool, width: usize, count: usize, j: u
 }
 
 // Four hashes stored, one after the other.
-fn set_four(heap: &mut [u8], i: usize, four: Nodes)
+fn set_four(heap: &mut [u8; HEAP], i: usize, four: Nodes)
     requires { i ≤ 2048 }
     ensures { heap.new ≡ set_four heap.old i four }
 {
-    let a = four.a;
-    let b = four.b;
-    let c = four.c;
-    let d = four.d;
+    let Nodes { a, b, c, d } = four;
     format::set_hash(heap, i, a);
     format::set_hash(heap, i + 1, b);
     format::set_hash(heap, i + 2, c);
@@ -107,48 +108,37 @@ fn set_four(heap: &mut [u8], i: usize, four: Nodes)
 }
 
 // The level above one of `width` places and `count` nodes.
-fn raise(ids: &[u8], heap: &mut [u8], base: bool, width: usize, count: usize)
-    requires { (width % 2 ≡ 0) × (width ≤ 1024) × (count ≤ width) × (length heap.old ≡ 32768) }
+fn raise(ids: &[u8], heap: &mut [u8; HEAP], base: bool, width: usize, count: usize)
+    requires { (width % 2 ≡ 0) × (width ≤ 1024) × (count ≤ width) }
     ensures rises { (l : List (List ℕ)) → length l ≡ count → Stored ids.now heap.old base width l → Stored ids.now heap.new false (width / 2) (above l) }
     ensures keeps { (p : ℕ) → width ≤ p → hash_at heap.new (32 * p) ≡ hash_at heap.old (32 * p) }
 {
     let half = width / 2;
     let above = (count + 1) / 2;
-    let mut j: usize = 0;
-    while j + 4 <= above {
-        let four = parents(ids, heap, base, width, count, j);
-        set_four(heap, half + j, four);
-        j += 4;
+    let fours = above / 4;
+    for k in 0..fours {
+        let four = parents(ids, heap, base, width, count, 4 * k);
+        set_four(heap, half + 4 * k, four);
     }
-    while j < above {
+    for j in 4 * fours..above {
         let left = node_at(ids, heap, base, width, 2 * j);
         let right = right_of(ids, heap, base, width, count, 2 * j);
         format::set_hash(heap, half + j, hash::join(left, right));
-        j += 1;
     }
 }
 
 // Every level above 0.
-pub(crate) fn build(ids: &[u8], heap: &mut [u8], height: usize, n: usize, top: usize)
-    requires { (height ≤ 10) × (top ≡ 2 ^ height) × (n ≤ top) × (n ≡ length ids.now / 32) × (length heap.old ≡ 32768) }
+pub(crate) fn build(ids: &[u8], heap: &mut [u8; HEAP], height: usize, n: usize, top: usize)
+    requires { (height ≤ 10) × (top ≡ 2 ^ height) × (n ≤ top) × (n ≡ length ids.now / 32) }
     ensures { Heap ids.now heap.new height height }
 {
     let mut width = top;
     let mut count = n;
-    let mut k: usize = 0;
-    while k < height {
+    for k in 0..height {
         raise(ids, heap, k == 0, width, count);
         width /= 2;
         count = (count + 1) / 2;
-        k += 1;
     }
-}
-
-// Where a climb ends: at the root, or refused for a twin.
-#[derive(Clone, Copy)]
-pub enum Climb {
-    Free,
-    Twin(Rejection),
 }
 
 // Whether the climb meets a twin at position j: the node on its left is the same.
@@ -165,46 +155,43 @@ fn has_twin(ids: &[u8], heap: &[u8], base: bool, width: usize, j: usize) -> bool
     )
 }
 
-// The climb from a position, up to the root or to the first twin.
-fn climb_from(ids: &[u8], heap: &[u8], height: usize, top: usize, i: usize) -> Climb
+// The climb from a position, up to the root, or refused at the first twin.
+fn climb_from(ids: &[u8], heap: &[u8], height: usize, top: usize, i: usize) -> Result<(), Rejection>
     requires { (height ≤ 10) × (top ≡ 2 ^ height) × (i ≤ 1024) }
     ensures { Grown ids.now heap.now height → i < length ids.now / 32 → result ≡ climb_of (tree_climb (hashes_of ids.now) i) }
 {
     let mut j = i;
     let mut width = top;
-    let mut k: usize = 0;
-    while k < height {
+    for k in 0..height {
         if has_twin(ids, heap, k == 0, width, j) {
-            let sibling = spv::sibling_position(j as u64);
-            return Climb::Twin(Rejection {
-                number: TWIN,
+            return Err(Rejection {
+                number: Refusal::Twin.number(),
                 carried: 0,
                 layer: k,
-                sibling,
+                sibling: spv::sibling_position(j as u64),
             });
         }
         j /= 2;
         width /= 2;
-        k += 1;
     }
-    Climb::Free
+    Ok(())
 }
 
 // The climb from a position if it is chosen.
 fn climb_if_chosen(
     ids: &[u8],
     heap: &[u8],
-    marks: &[u8],
+    marks: &[u8; MARKS],
     height: usize,
     top: usize,
     i: usize,
-) -> Climb
-    requires { (1 ≤ height) × (height ≤ 10) × (top ≡ 2 ^ height) × (i < top) × (i < length ids.now / 32) × (length marks.now ≡ 2048) }
+) -> Result<(), Rejection>
+    requires { (1 ≤ height) × (height ≤ 10) × (top ≡ 2 ^ height) × (i < top) × (i < length ids.now / 32) }
     ensures { (chosen : List ℕ) → Grown ids.now heap.now height → Marked marks.now chosen height
         → result ≡ climb_of (climbs_from (hashes_of ids.now) chosen i 1) }
 {
     if !is_marked(marks, top + i) {
-        return Climb::Free;
+        return Ok(());
     }
     climb_from(ids, heap, height, top, i)
 }
@@ -213,24 +200,17 @@ fn climb_if_chosen(
 pub(crate) fn climb_chosen(
     ids: &[u8],
     heap: &[u8],
-    marks: &[u8],
+    marks: &[u8; MARKS],
     height: usize,
     n: usize,
     top: usize,
-) -> Climb
-    requires { (1 ≤ height) × (height ≤ 10) × (top ≡ 2 ^ height) × (n ≤ top) × (n ≡ length ids.now / 32) × (length marks.now ≡ 2048) }
+) -> Result<(), Rejection>
+    requires { (1 ≤ height) × (height ≤ 10) × (top ≡ 2 ^ height) × (n ≤ top) × (n ≡ length ids.now / 32) }
     ensures { (chosen : List ℕ) → Grown ids.now heap.now height → Marked marks.now chosen height
         → result ≡ climb_of (climbs_from (hashes_of ids.now) chosen 0 n) }
 {
-    let mut i: usize = 0;
-    while i < n {
-        let end = climb_if_chosen(ids, heap, marks, height, top, i);
-        match end {
-            Climb::Twin(rejection) => return Climb::Twin(rejection),
-            Climb::Free => {
-                i += 1;
-            }
-        }
+    for i in 0..n {
+        climb_if_chosen(ids, heap, marks, height, top, i)?;
     }
-    Climb::Free
+    Ok(())
 }

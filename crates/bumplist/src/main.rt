@@ -35,6 +35,7 @@ fn read_full<R: Read>(input: &mut R, room: &mut [u8]) -> io::Result<usize>
     ensures err { OnErr result (length room.new ≡ length room.old) }
 {
     let mut done = 0;
+    // Not a for: a read gives as many bytes as it likes.
     while done < room.len() {
         let n = input.read(&mut room[done..])?;
         if n == 0 {

@@ -25,7 +25,7 @@ use Rattle.bundle.proofs.AmountLaws.{no_outpoint}
 use Rattle.bundle.proofs.AmountTheorems.{Paid, Leaves, balance, difference, differences_leave, difference_more, spent-once, spent-earlier}
 use Rattle.bundle.proofs.AmountsExactly.{Pays, paid-exactly}
 use Rattle.spv.proofs.RowsLaws.{map_at}
-use Rattle.bundle.specs.Bundle.{proving, nth_bump, ruling, entry_row, judge_entries, judge_read, judge_beef, judge_up_to}
+use Rattle.bundle.specs.Bundle.{proving, nth_bump, ruling, entry_row, judge_entries, judge_read, judge_beef, judge_up_to, standing}
 use Rattle.bundle.proofs.BundleLaws.{accepted-length}
 use Rattle.bundle.proofs.BundleTheorems.{empty_entry, nth, id_at, inputs_at, New, Mined, Child, Stands, payments, Recorded, accepted_recorded, stands-accepted, accepted-different}
 use Rattle.bundle.specs.Payments.{no_payment, Different}
@@ -53,7 +53,7 @@ module _ (s roots : List ℕ) (fee : ℕ) (b : Beef) where
       let climbs : proving s (nth_bump b.bumps n.bump) (id_at s roots fee b k) ≡ accepted m.proof = ap (λ (i : ℕ). proving s (nth_bump b.bumps i) (id_at s roots fee b k)) (sym bump) ∙ m.climbs in
       let other = n.climbs in
       let proof : m.proof ≡ n.proof = cc in
-      e ∙ ap₂ (λ (i : ℕ) (p : Proof). entry_row s (nth s roots fee b k) 1 i p.position) bump proof ∙ sym f
+      e ∙ ap₂ (λ (i : ℕ) (p : Proof). entry_row s (nth s roots fee b k) (standing 1 i p.position)) bump proof ∙ sym f
   one-record r q k (inl m) (inr c) e f = absurd (let x = m.anchored in let y = c.unanchored in let z : ◌≡◌ {A = ℕ} 0 1 = cc in omega arith)
   one-record r q k (inr c) (inl m) e f = absurd (let x = m.anchored in let y = c.unanchored in let z : ◌≡◌ {A = ℕ} 0 1 = cc in omega arith)
   one-record r q k (inr c) (inr d) e f = e ∙ sym f

@@ -2,6 +2,8 @@
 use Prim.Native.Nat.{ℕ, zero, suc, ◌+◌, ◌*◌, ◌/◌, ◌<◌, ◌≤◌}
 use mathlib.Core.Path.{◌≡◌, refl, sym, ap, ◌∙◌}
 use mathlib.Core.Bool.{Bool, true, false}
+use Rattle.std.specs.Prelude.{Option, Some, None}
+use Rattle.format.specs.declared.field.Cursor.{Cursor}
 use mathlib.Core.List.{List}
 use native.Mathlib.Nat.{zero-add}
 use native.Mathlib.Omega.{arith}
@@ -11,8 +13,6 @@ use lib.Seq.{paste, length-paste, get_or-set_same, get_or-set_other}
 use borrow.Author.Count.{below_more}
 use borrow.Author.Tests.{ltb-true, ltb-false}
 use Rattle.format.specs.declared.beef.EntryHead.{EntryHead}
-use Rattle.format.specs.declared.beef.Anchor.{Anchor}
-use Rattle.format.specs.declared.beef.Anchor.TheVariants.{Unanchored, Bump as InBump}
 use Rattle.format.specs.Beef.{BeefEntry, entry_field}
 use Rattle.format.specs.BeefAnswer.{entry_head_of}
 use Rattle.format.proofs.BeefLaws.{entry_told}
@@ -32,10 +32,6 @@ use Rattle.bundle.specs.BundleHeads.{head_id}
 use Rattle.bundle.specs.Ahead.{no_span, anchor_of, plain_span, span_of, span, entry_at, span_at, span_from, span_id, Reaches, ReachesFour, Onward, set_anchors, IdsFrom, AnchorsFrom}
 
 module _ (count : ℕ) (s : List ℕ) (at : ℕ) where
-  pub from_more : (m : ℕ) → span_from count s at true m ≡ span_at count s at m
-  unfolding span_from
-  from_more m = refl
-
   -- where none can be read there is none ahead
   pub none-at : {k q : ℕ} → entry_at count s at ≡ fault k q → (m : ℕ) → span_at count s at m ≡ no_span
   unfolding span_at
@@ -52,31 +48,31 @@ module _ (count : ℕ) (s : List ℕ) (at : ℕ) where
     later_at m = rw read
 
 -- what is reached from a place
-module _ (count : ℕ) (s : List ℕ) (at : ℕ) where
-  pub reached-none : (more : Bool) (x : NamedSpan) (next : ℕ) (onward : Bool) → more ≡ false → x ≡ no_span → onward ≡ false → Reaches count s at more x next onward
+module _ (count : ℕ) (s : List ℕ) where
+  pub reached-none : (from next : Option Cursor) (x : NamedSpan) → from ≡ None → x ≡ no_span → next ≡ None → Reaches count s from x next
   unfolding span_from
-  reached-none more x next onward e f g = rw (e, f, g) (refl, λ m. refl)
+  reached-none from next x e f g = rw (e, f, g) (refl, λ m. refl)
 
-  pub reached-more : (more : Bool) (x : NamedSpan) (next : ℕ) (onward : Bool) → more ≡ true → Reaches count s at true x next onward → Reaches count s at more x next onward
-  reached-more more x next onward e r = rw e r
+  pub reached-more : (from next : Option Cursor) (x : NamedSpan) (c : Cursor) → from ≡ Some c → Reaches count s (Some c) x next → Reaches count s from x next
+  reached-more from next x c e r = rw e r
 
-  pub reached-fault : (x : NamedSpan) (next : ℕ) (onward : Bool) {k q : ℕ} → entry_at count s at ≡ fault k q → x ≡ no_span → onward ≡ false → Reaches count s at true x next onward
+  pub reached-fault : (c : Cursor) (x : NamedSpan) (next : Option Cursor) {k q : ℕ} → entry_at count s c.at ≡ fault k q → x ≡ no_span → next ≡ None → Reaches count s (Some c) x next
   unfolding span_from
-  reached-fault x next onward e f g = rw (f, g) (sym (none-at count s at e 0), λ m. sym (none-at count s at e (suc m)))
+  reached-fault c x next e f g = rw (f, g) (sym (none-at count s c.at e 0), λ m. sym (none-at count s c.at e (suc m)))
 
-  pub reached-ok : {e : EntryHead} {next : ℕ} → entry_at count s at ≡ ok e next → Reaches count s at true (span_of e) next true
+  pub reached-ok : (c next : Cursor) {e : EntryHead} → entry_at count s c.at ≡ ok e next.at → Reaches count s (Some c) (span_of e) (Some next)
   unfolding span_from
-  reached-ok g = (sym (first-at count s at g), λ m. sym (later_at count s at g m))
+  reached-ok c next g = (sym (first-at count s c.at g), λ m. sym (later_at count s c.at g m))
 
 -- four places, each from where the one before was read
-pub spans_made : (count : ℕ) (s : List ℕ) (at : ℕ) (more : Bool) (a b c d : NamedSpan) → a ≡ span_from count s at more 0 → b ≡ span_from count s at more 1 → c ≡ span_from count s at more 2 → d ≡ span_from count s at more 3
-    → (l : ℕ) → l < 4 → span l (record { a = a; b = b; c = c; d = d }) ≡ span_from count s at more l
+pub spans_made : (count : ℕ) (s : List ℕ) (from : Option Cursor) (a b c d : NamedSpan) → a ≡ span_from count s from 0 → b ≡ span_from count s from 1 → c ≡ span_from count s from 2 → d ≡ span_from count s from 3
+    → (l : ℕ) → l < 4 → span l (record { a = a; b = b; c = c; d = d }) ≡ span_from count s from l
 unfolding span L.in_lane
-spans_made count s at more a b c d ea eb ec ed zero h = ea
-spans_made count s at more a b c d ea eb ec ed (suc zero) h = eb
-spans_made count s at more a b c d ea eb ec ed (suc (suc zero)) h = ec
-spans_made count s at more a b c d ea eb ec ed (suc (suc (suc zero))) h = ed
-spans_made count s at more a b c d ea eb ec ed (suc (suc (suc (suc l)))) h = absurd (omega arith)
+spans_made count s from a b c d ea eb ec ed zero h = ea
+spans_made count s from a b c d ea eb ec ed (suc zero) h = eb
+spans_made count s from a b c d ea eb ec ed (suc (suc zero)) h = ec
+spans_made count s from a b c d ea eb ec ed (suc (suc (suc zero))) h = ed
+spans_made count s from a b c d ea eb ec ed (suc (suc (suc (suc l)))) h = absurd (omega arith)
 
 -- ids made at these places, by the hashes of parts of the input
 pub ids_made_lem : (s : List ℕ) (x : Spans) (four : Nodes) → ((l : ℕ) → L.node l four ≡ hash_of s (L.in_lane l (plain_span x.a) (plain_span x.b) (plain_span x.c) (plain_span x.d)))
@@ -90,23 +86,23 @@ ids_made_lem s x four e (suc (suc (suc l))) = e (suc (suc (suc l)))
 -- ---- the ids end to end
 
 module _ (count : ℕ) (s : List ℕ) (at : ℕ) where
-  pub onward-start : Onward count s at 0 at true
-  unfolding Onward
-  onward-start m = from_more count s at m ∙ ap (span_at count s at) (sym (zero-add m))
+  pub onward-start : Onward count s at 0 (Some (record { at = at }))
+  unfolding Onward span_from
+  onward-start m = ap (span_at count s at) (sym (zero-add m))
 
-  pub onward-four : (i p q : ℕ) (more onward : Bool) (x : Spans) → Onward count s at i p more → ReachesFour count s p more x q onward → Onward count s at (i + 4) q onward
+  pub onward-four : (i : ℕ) (from next : Option Cursor) (x : Spans) → Onward count s at i from → ReachesFour count s from x next → Onward count s at (i + 4) next
   unfolding Onward
-  onward-four i p q more onward x o r m = let n : i + suc (suc (suc (suc m))) ≡ i + 4 + m = omega arith in r.1 m ∙ o (suc (suc (suc (suc m)))) ∙ ap (span_at count s at) n
+  onward-four i from next x o r m = let n : i + suc (suc (suc (suc m))) ≡ i + 4 + m = omega arith in r.1 m ∙ o (suc (suc (suc (suc m)))) ∙ ap (span_at count s at) n
 
   -- the one that is read next is the i-th, and the others come after it
-  module _ (i p : ℕ) {q : ℕ} {e : EntryHead} (o : Onward count s at i p true) (read : entry_at count s p ≡ ok e q) where
+  module _ (i p : ℕ) {q : ℕ} {e : EntryHead} (o : Onward count s at i (Some (record { at = p }))) (read : entry_at count s p ≡ ok e q) where
     pub onward-here : span_at count s at i ≡ span_of e
-    unfolding Onward
-    onward-here = let n : i + 0 ≡ i = omega arith in ap (span_at count s at) (sym n) ∙ sym (o 0) ∙ from_more count s p 0 ∙ first-at count s p read
+    unfolding Onward span_from
+    onward-here = let n : i + 0 ≡ i = omega arith in ap (span_at count s at) (sym n) ∙ sym (o 0) ∙ first-at count s p read
 
-    pub onward-one : Onward count s at (i + 1) q true
-    unfolding Onward
-    onward-one m = let n : i + suc m ≡ i + 1 + m = omega arith in from_more count s q m ∙ sym (later_at count s p read m) ∙ sym (from_more count s p (suc m)) ∙ o (suc m) ∙ ap (span_at count s at) n
+    pub onward-one : Onward count s at (i + 1) (Some (record { at = q }))
+    unfolding Onward span_from
+    onward-one m = let n : i + suc m ≡ i + 1 + m = omega arith in sym (later_at count s p read m) ∙ o (suc m) ∙ ap (span_at count s at) n
 
     pub id-here : (n : ℕ) (ids : List ℕ) → IdsFrom count s at n ids → i < n → i < length ids / 32 → hash_at ids (32 * i) ≡ head_id s e
     unfolding IdsFrom span_id span_of
@@ -140,10 +136,10 @@ module _ (count : ℕ) (s : List ℕ) (at : ℕ) where
       go false q = let past = ltb-false i (length ids / 32) q in rw (set_outside ids i x past) (λ k h room. made k (omega arith) room)
 
   -- four more, in lanes
-  pub ids_four : (ids : List ℕ) (i p q : ℕ) (more onward : Bool) (x : Spans) (four : Nodes) → IdsFrom count s at i ids → Onward count s at i p more → ReachesFour count s p more x q onward
+  pub ids_four : (ids : List ℕ) (i : ℕ) (from next : Option Cursor) (x : Spans) (four : Nodes) → IdsFrom count s at i ids → Onward count s at i from → ReachesFour count s from x next
       → ((l : ℕ) → L.node l four ≡ span_id s (span l x)) → IdsFrom count s at (i + 4) (set_four ids i four)
   unfolding set_four L.node L.in_lane Onward
-  ids_four ids i p q more onward x four made o r f =
+  ids_four ids i from next x four made o r f =
       let is : (l : ℕ) → l < 4 → L.node l four ≡ span_id s (span_at count s at (i + l)) = λ l h. f l ∙ ap (span_id s) (r.0 l h ∙ o l) in
       let one : List ℕ = set_hash ids i four.a in
       let two : List ℕ = set_hash one (i + 1) four.b in
@@ -177,10 +173,10 @@ module _ (count : ℕ) (s : List ℕ) (at : ℕ) where
       (λ k h room. get_or-set_other anchors i k x 0 (λ d. omega arith) ∙ made k h room)
       (λ room. get_or-set_same anchors i x 0 room ∙ e))
 
-  pub anchors_four : (anchors : List ℕ) (i p q : ℕ) (more onward : Bool) (x : Spans) → AnchorsFrom count s at i anchors → Onward count s at i p more → ReachesFour count s p more x q onward
+  pub anchors_four : (anchors : List ℕ) (i : ℕ) (from next : Option Cursor) (x : Spans) → AnchorsFrom count s at i anchors → Onward count s at i from → ReachesFour count s from x next
       → AnchorsFrom count s at (i + 4) (set_anchors anchors i x)
   unfolding set_anchors span L.in_lane Onward
-  anchors_four anchors i p q more onward x made o r =
+  anchors_four anchors i from next x made o r =
       let is : (l : ℕ) → l < 4 → (span l x).anchor ≡ (span_at count s at (i + l)).anchor = λ l h. ap (λ (y : NamedSpan). y.anchor) (r.0 l h ∙ o l) in
       let one : List ℕ = set anchors i x.a.anchor in
       let two : List ℕ = set one (i + 1) x.b.anchor in
@@ -201,9 +197,9 @@ anchor-low : (count : ℕ) (s : List ℕ) (at : ℕ) {e : EntryHead} {next : ℕ
 unfolding anchor_of
 anchor-low count s at {e} {next} read = told (each-ok entry_head_of (entry_field count s at) read)
   where
-    by : (x : Anchor) → ((n : ℕ) → x ≡ InBump n → n < count) → anchor_of x < MAX_BUMPS → anchor_of x < count
-    by (InBump n) low h = low n refl
-    by Unanchored low h = absurd (omega arith)
+    by : (x : Option ℕ) → ((n : ℕ) → x ≡ Some n → n < count) → anchor_of x < MAX_BUMPS → anchor_of x < count
+    by (Some n) low h = low n refl
+    by None low h = absurd (omega arith)
 
     told : (x : BeefEntry) × (entry_field count s at ≡ ok x next) × (entry_head_of x ≡ e) → anchor_of e.anchor < MAX_BUMPS → anchor_of e.anchor < count
     told x = rw (← x.2) (by x.0.anchor (entry_told count s at x.1).anchored)

@@ -18,8 +18,6 @@ use Rattle.format.proofs.BytesLaws.{set-inside}
 use Rattle.format.specs.BeefAnswer.{no_bump}
 use Rattle.format.specs.Refusals.{MAX_TXS, UNTRUSTED}
 use Rattle.path.specs.declared.path.Path.{Path}
-use Rattle.path.specs.declared.path.Start.{Start}
-use Rattle.path.specs.declared.path.Start.TheVariants.{At, Nowhere}
 use Rattle.path.specs.Path.{LAYERS, layers_of, bump_path_of, start_in}
 use Rattle.spv.specs.declared.rejection.Rejection.{Rejection}
 use Rattle.spv.specs.Result.{Result, accepted, refused, carrying, at_sibling}
@@ -36,15 +34,14 @@ use Rattle.climbs.specs.Proofs.{has_room, fits, id_at, joins_in, starts_of, stat
 use Rattle.climbs.proofs.RowLaws.{fails-number}
 use Rattle.climbs.proofs.ProofsLaws.{rows-proved}
 use Rattle.spv.proofs.Stored.{stored_here, stored_other}
-use Rattle.bundle.specs.declared.judge.Ruling.{Ruling}
-use Rattle.bundle.specs.declared.judge.Ruling.TheVariants.{Refuses, Passes}
-use Rattle.bundle.specs.Bundle.{trusted}
+use Rattle.bundle.specs.Bundle.{trusted, Ruling, standing}
 use Rattle.bundle.specs.BundleHeads.{head_id, head_proving}
 use Rattle.bundle.proofs.BundleHeadLaws.{head_proving_lem}
 use Rattle.bundle.specs.Ahead.{anchor_of, entry_at, span_id, span_of, Onward, IdsFrom, AnchorsFrom}
 use Rattle.bundle.proofs.AheadLaws.{onward-here, span-low}
 use Rattle.bundle.specs.Anchored.{end_number, end_layer, end_place, put_four, put_end, ruling_by, ruling_at, joins_at, mined_by, mined_joins, Right, Unnamed, HoldIds, Gathered, Settled, SettlesRows, Risen, EndsFrom, JoinsFrom, Mined}
 use Rattle.spv.specs.Prove.{hits, settle, Proof, proof_of, prove_by, prove, any}
+use Rattle.std.specs.Prelude.{Result as Answer, Ok, Err, Option, Some, None}
 
 -- ---- what is kept
 
@@ -109,20 +106,20 @@ module _ (ends : List ℕ) (i number layer place joins : ℕ) where
 
 -- a ruling that is put, and one that is read again
 module _ (ends : List ℕ) (i : ℕ) where
-  pub put-refuses : {t : Ruling} {why : Rejection} (m : ℕ) → t ≡ Refuses why → put_four ends i why.number why.layer why.sibling m ≡ put_end ends i t m
+  pub put-refuses : {t : Ruling} {why : Rejection} (m : ℕ) → t ≡ Err why → put_four ends i why.number why.layer why.sibling m ≡ put_end ends i t m
   unfolding end_number end_layer end_place
   put-refuses m e = rw e
 
-  pub put-passes : {t : Ruling} {a n p : ℕ} (m : ℕ) → t ≡ Passes a n p → put_four ends i 0 0 p m ≡ put_end ends i t m
+  pub put-passes : {t : Ruling} {a n p : ℕ} (m : ℕ) → t ≡ Ok (standing a n p) → put_four ends i 0 0 p m ≡ put_end ends i t m
   unfolding end_number end_layer end_place
   put-passes m e = rw e
 
-  pub at-passes : (bump : ℕ) → get_or ends (4 * i) 0 % 256 ≡ 0 → Passes 1 bump (get_or ends (4 * i + 2) 0) ≡ ruling_at ends bump i
+  pub at-passes : (bump : ℕ) → get_or ends (4 * i) 0 % 256 ≡ 0 → Ok (standing 1 bump (get_or ends (4 * i + 2) 0)) ≡ ruling_at ends bump i
   unfolding ruling_at ruling_by
   at-passes bump e = rw (eq-eqb (get_or ends (4 * i) 0 % 256) 0 e)
 
   pub at-refuses : (bump : ℕ) → (get_or ends (4 * i) 0 % 256 ≡ 0 → ⊥)
-      → Refuses (record { number = get_or ends (4 * i) 0 % 256; carried = 0; layer = get_or ends (4 * i + 1) 0; sibling = get_or ends (4 * i + 2) 0 }) ≡ ruling_at ends bump i
+      → Err (record { number = get_or ends (4 * i) 0 % 256; carried = 0; layer = get_or ends (4 * i + 1) 0; sibling = get_or ends (4 * i + 2) 0 }) ≡ ruling_at ends bump i
   unfolding ruling_at ruling_by
   at-refuses bump e = rw (ne_eqb (get_or ends (4 * i) 0 % 256) 0 e)
 
@@ -131,19 +128,19 @@ abbrev pub Told : ℕ → Ruling → Type 0
 Told bump t = ruling_by bump (end_number t) (end_layer t) (end_place t) ≡ t
 
 -- a layer fails by 14 or 15
-step-told : (bump layer place : ℕ) (x : Sibling) (o : Bool) (c : List ℕ) (number : ℕ) → step x o c ≡ fails number → Told bump (Refuses (at_sibling number layer place))
+step-told : (bump layer place : ℕ) (x : Sibling) (o : Bool) (c : List ℕ) (number : ℕ) → step x o c ≡ fails number → Told bump (Err (at_sibling number layer place))
 unfolding ruling_by end_number end_layer end_place
 step-told bump layer place x o c number e =
     let m = fails-number x o c number e in
     let same : number % 256 ≡ number = omega arith in
     rw (ne_eqb (number % 256) 0 (λ z. omega arith), same)
 
-end-told : (bump : ℕ) (σ : Siblings) (k n j : ℕ) (c : List ℕ) (why : Rejection) → end_of c (ascend σ k n j c) ≡ refused why → Told bump (Refuses why)
+end-told : (bump : ℕ) (σ : Siblings) (k n j : ℕ) (c : List ℕ) (why : Rejection) → end_of c (ascend σ k n j c) ≡ refused why → Told bump (Err why)
 unfolding ascend_by end_by
 end-told bump σ k zero j c why e = let z : ◌≡◌ {A = ℕ} 0 1 = cc in absurd (omega arith)
 end-told bump σ k (suc n) j c why e = go (step (σ k (sibling_position j)) (odd j) c) refl (λ d. end-told bump σ (suc k) n (j / 2) d why)
   where
-    go : (t : Step) → step (σ k (sibling_position j)) (odd j) c ≡ t → ((d : List ℕ) → end_of d (ascend σ (suc k) n (j / 2) d) ≡ refused why → Told bump (Refuses why)) → Told bump (Refuses why)
+    go : (t : Step) → step (σ k (sibling_position j)) (odd j) c ≡ t → ((d : List ℕ) → end_of d (ascend σ (suc k) n (j / 2) d) ≡ refused why → Told bump (Err why)) → Told bump (Err why)
     go (joins a b) q above = above (sha256d (a ++ b)) (sym (ap (end_of c) (ascend-joins σ k n j c a b q)) ∙ e)
     go (fails number) q above =
         let w : refused (at_sibling number k (sibling_position j)) ≡ refused why = sym (ap (end_of c) (ascend-fails σ k n j c number q)) ∙ e in
@@ -151,12 +148,12 @@ end-told bump σ k (suc n) j c why e = go (step (σ k (sibling_position j)) (odd
         rw (← y) (step-told bump k (sibling_position j) (σ k (sibling_position j)) (odd j) c number q)
 
 -- 13, 14, 15 or 17, or a position
-start-told : (roots : List ℕ) (bump : ℕ) (σ : Siblings) (h : ℕ) (id : List ℕ) (start : Start) → Told bump (trusted roots bump (prove (starting σ h id start)))
+start-told : (roots : List ℕ) (bump : ℕ) (σ : Siblings) (h : ℕ) (id : List ℕ) (start : Option ℕ) → Told bump (trusted roots bump (prove (starting σ h id start)))
 unfolding starting prove_by settle hits trusted ruling_by end_number end_layer end_place
-start-told roots bump σ h id Nowhere = refl
-start-told roots bump σ h id (At i) = go (end_of id (ascend σ 0 h i id)) refl
+start-told roots bump σ h id None = refl
+start-told roots bump σ h id (Some i) = go (end_of id (ascend σ 0 h i id)) refl
   where
-    listed : (t : Bool) (p : ℕ) → Told bump (pick t (Passes 1 bump p) (Refuses (carrying UNTRUSTED 0)))
+    listed : (t : Bool) (p : ℕ) → Told bump (pick t (Ok (standing 1 bump p)) (Err (carrying UNTRUSTED 0)))
     listed true p = refl
     listed false p = refl
 
@@ -222,7 +219,7 @@ module _ (roots : List ℕ) (layers bump : ℕ) (ids slots starts states hashes 
   unfolding SettlesRows
   rows_none s path say cost = settled-none s roots path bump ids slots ends
 
-  pub rows_more : (now : List ℕ) (r : ℕ) (id : List ℕ) (p : Proved) (t : Ruling) → SettlesRows roots layers bump ids slots starts states hashes costs ends now r → id ≡ hash_at ids (32 * get_or slots r 0)
+  pub rows_more : (now : List ℕ) (r : ℕ) (id : List ℕ) (p : Answer Proved Rejection) (t : Ruling) → SettlesRows roots layers bump ids slots starts states hashes costs ends now r → id ≡ hash_at ids (32 * get_or slots r 0)
       → p ≡ proved_at layers id starts states hashes r → ((v : Result Proof) → p ≡ proved_of v → t ≡ trusted roots bump v) → 4 * get_or slots r 0 + 3 < length now
       → SettlesRows roots layers bump ids slots starts states hashes costs ends (put_end now (get_or slots r 0) t (get_or costs r 0)) (r + 1)
   unfolding SettlesRows
@@ -349,7 +346,7 @@ joins_from count s roots bumps at n anchors ids ends made named wide room right 
     let x = (right k low (omega arith)).1 in
     rw (is, made k low (omega arith)) at x
 
-module _ (count : ℕ) (s : List ℕ) (at i p : ℕ) {q : ℕ} {e : EntryHead} (o : Onward count s at i p true) (read : entry_at count s p ≡ ok e q) where
+module _ (count : ℕ) (s : List ℕ) (at i p : ℕ) {q : ℕ} {e : EntryHead} (o : Onward count s at i (Some (record { at = p }))) (read : entry_at count s p ≡ ok e q) where
   pub mined_here : (roots : List ℕ) (bumps : List BumpHead) (n : ℕ) (ends id : List ℕ) (m : ℕ) (t : Ruling) → EndsFrom count s roots bumps at n ends → i < n → id ≡ head_id s e → m ≡ anchor_of e.anchor → t ≡ ruling_at ends m i
       → Mined s roots bumps id e.anchor t
   unfolding EndsFrom span_id span_of anchor_of

@@ -7,8 +7,6 @@ use native.Mathlib.Omega.{arith}
 use lib.Dec.{leb, eqb}
 use native.Mathlib.Nat.{sub-zero}
 use lib.ListN.{length, replicate, get_or}
-use Rattle.bundle.specs.declared.judge.Verdict.{Verdict}
-use Rattle.bundle.specs.declared.judge.Verdict.TheVariants.{Accepted, Refused}
 use Rattle.bundle.specs.declared.table.Record.{Record}
 use Rattle.spv.specs.Result.{accepted, refused, carrying}
 use Rattle.spv.specs.Rows.{rows}
@@ -21,10 +19,11 @@ use Rattle.format.specs.Beef.{Beef, beef_whole}
 use Rattle.format.proofs.BeefLaws.{BeefRead, beef-told}
 use Rattle.format.specs.Refusals.{TOO_LONG, BAD_ROOTS, MAX_INPUT, MAX_TXS}
 use Rattle.bundle.specs.Amounts.{payment_of}
-use Rattle.bundle.specs.Bundle.{ruling, entry_row, Judgement, judge_entries, judge_read, judge_beef, judge_up_to, verdict_of, table_of}
+use Rattle.bundle.specs.Bundle.{ruling, entry_row, Judgement, judge_entries, judge_read, judge_beef, judge_up_to, verdict_of, table_of, Verdict}
 use Rattle.bundle.proofs.BundleLaws.{accepted-length}
 use Rattle.bundle.proofs.BundleTheorems.{empty_entry}
 use Rattle.bundle.specs.BundleAnswer.{judgement_of, count_of, row_in}
+use Rattle.std.specs.Prelude.{Ok, Err}
 
 -- no more records than a table of n rows and the code's own can hold
 unfoldable pub Fits : Judgement → ℕ → Type 0
@@ -57,11 +56,11 @@ judge_fits s roots fee n = go (leb (length s) MAX_INPUT) (eqb (length roots % 32
 module _ (ids numbers : List ℕ) (wide : IDS_ROOM ≤ length ids) (long : NUMBERS_ROOM ≤ length numbers) (n : ℕ) where
   told : (r : Verdict) → Fits (judgement_of r ids numbers) n
       → (r ≡ verdict_of (judgement_of r ids numbers)) × (rows (flat_record ids numbers (count_of r)) n ≡ table_of (judgement_of r ids numbers) n)
-  unfolding judgement_of verdict_of table_of Fits flat padded
-  told (Accepted k) h =
+  unfolding judgement_of table_of Fits flat padded
+  told (Ok k) h =
       let few = flat-length k ids numbers in
-      (ap Accepted (sym few), rows-list (flat_record ids numbers k) blank_record (flat k ids numbers) n (flat-row ids numbers wide long k (omega (arith, h.0))) h.1)
-  told (Refused x) h =
+      (ap Ok (sym few), rows-list (flat_record ids numbers k) blank_record (flat k ids numbers) n (flat-row ids numbers wide long k (omega (arith, h.0))) h.1)
+  told (Err x) h =
       (refl, rows-list (flat_record ids numbers 0) blank_record [] n (flat-row ids numbers wide long 0 zero-le) zero-le ∙ ap (λ (k : ℕ). replicate k blank_record) (sub-zero n))
 
   pub flat-told : (s roots : List ℕ) (fee : ℕ) (r : Verdict) → judgement_of r ids numbers ≡ judge_beef s roots fee n
@@ -73,10 +72,10 @@ module _ (ids numbers : List ℕ) (wide : IDS_ROOM ≤ length ids) (long : NUMBE
   -- the same for row k alone
   record_for : (k : ℕ) (r : Verdict) → Fits (judgement_of r ids numbers) n → flat_record ids numbers (count_of r) k ≡ get_or (table_of (judgement_of r ids numbers) n) k blank_record
   unfolding judgement_of table_of Fits flat padded
-  record_for k (Accepted m) h =
+  record_for k (Ok m) h =
       let few = flat-length m ids numbers in
       flat-row ids numbers wide long m (omega (arith, h.0)) k ∙ sym (get_d_padded (flat m ids numbers) (n - length (flat m ids numbers)) k blank_record)
-  record_for k (Refused x) h = flat-row ids numbers wide long 0 zero-le k ∙ sym (get_d_padded [] n k blank_record)
+  record_for k (Err x) h = flat-row ids numbers wide long 0 zero-le k ∙ sym (get_d_padded [] n k blank_record)
 
   pub row_told : (s roots : List ℕ) (fee k : ℕ) (r : Verdict) → judgement_of r ids numbers ≡ judge_beef s roots fee n
       → record { verdict = r; «record» = flat_record ids numbers (count_of r) k } ≡ row_in (judge_beef s roots fee n) n k

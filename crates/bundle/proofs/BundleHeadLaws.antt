@@ -6,10 +6,10 @@ use mathlib.Core.List.{List, [], ◌∷◌}
 use native.Mathlib.Omega.{arith}
 use lib.ListN.{get_or}
 use borrow.Author.Tests.{lt-ltb, le-ltb}
+use Rattle.std.specs.Prelude.{None, Ok, Err, Some}
 use Rattle.format.specs.declared.transaction.Input.{Input}
 use Rattle.format.specs.declared.bump.BumpHead.{BumpHead}
 use Rattle.path.specs.declared.path.Path.{Path}
-use Rattle.format.specs.declared.beef.Anchor.TheVariants.{Unanchored, Bump as InBump}
 use Rattle.format.specs.declared.beef.EntryHead.{EntryHead}
 use Rattle.format.specs.Parse.{ok, fault, many}
 use Rattle.format.proofs.ParseLaws.{many-told}
@@ -19,17 +19,14 @@ use Rattle.format.specs.Transaction.{input_field, takes, output_field}
 use Rattle.bundle.specs.Amounts.{total}
 use Rattle.format.specs.BeefAnswer.{no_bump}
 use Rattle.format.specs.Refusals.{UNTRUSTED, BAD_INDEX, SAME_TX, NO_PARENT, MAX_BUMPS}
-use Rattle.bundle.specs.declared.judge.Ruling.TheVariants.{Refuses, Passes}
-use Rattle.bundle.specs.declared.judge.Ruling.{Ruling}
 use Rattle.spv.specs.declared.prove.Proved.{Proved}
-use Rattle.spv.specs.declared.prove.Outcome.TheVariants.{Accepted, Refused}
 use Rattle.spv.specs.declared.rejection.Rejection.{Rejection}
 use Rattle.spv.specs.Result.{Result, accepted, refused, carrying}
 use Rattle.spv.specs.Prove.{prove, Proof}
 use Rattle.spv.specs.Readings.{path_reading}
 use Rattle.spv.specs.Shapes.{proved_of, accepted_of}
 use Rattle.spv.specs.Hashes.{hashes_of, among}
-use Rattle.bundle.specs.Bundle.{trusted}
+use Rattle.bundle.specs.Bundle.{trusted, Ruling, standing}
 use Rattle.format.proofs.Basics.{one_less}
 use Rattle.bundle.specs.BundleHeads.{total_from, rests_from, head_proving, head_anchoring, head_ruling, head_id, head_stands}
 
@@ -84,47 +81,51 @@ unfolding head_proving
 head_proving_lem s id head h = ap (λ (x : Path). prove (path_reading s x id)) h
 
 -- an anchored transaction, by the answer of proving
-module _ (roots : List ℕ) (n : ℕ) (r : Proved) where
-  pub trusted-refused : (v : Result Proof) (f : Rejection) → r ≡ proved_of v → r.outcome ≡ Refused f → trusted roots n v ≡ Refuses f
-  unfolding trusted proved_of accepted_of
-  trusted-refused (refused why) f e h = let y : f ≡ why = cc in ap Refuses (sym y)
-  trusted-refused (accepted p) f e h = absurd (let z : ◌≡◌ {A = ℕ} 0 1 = cc in omega arith)
+module _ (roots : List ℕ) (n : ℕ) where
+  pub trusted-refused : (v : Result Proof) (why : Rejection) → Err why ≡ proved_of v → trusted roots n v ≡ Err why
+  unfolding trusted
+  trusted-refused (accepted p) why e = cc
+  trusted-refused (refused x) why e = cc
 
-  pub trusted-listed : (v : Result Proof) (i h : ℕ) → r ≡ proved_of v → r.outcome ≡ Accepted i h → among r.root (hashes_of roots) ≡ true → trusted roots n v ≡ Passes 1 n i
-  unfolding trusted proved_of accepted_of
-  trusted-listed (refused why) i h e f g = absurd (let z : ◌≡◌ {A = ℕ} 0 1 = cc in omega arith)
-  trusted-listed (accepted p) i h e f g =
-      let root : p.root ≡ r.root = cc in
-      let at : p.position ≡ i = cc in
+  pub trusted-listed : (v : Result Proof) (r : Proved) → Ok r ≡ proved_of v → among r.root (hashes_of roots) ≡ true → trusted roots n v ≡ Ok (standing 1 n r.position)
+  unfolding trusted
+  trusted-listed (refused why) r e g = cc
+  trusted-listed (accepted p) r e g =
+      let same : r ≡ accepted_of p.position p.layers p.id p.root = cc in
+      let root : p.root ≡ r.root = sym (ap (λ (x : Proved). x.root) same) in
+      let at : p.position ≡ r.position = sym (ap (λ (x : Proved). x.position) same) in
       rw (root, g, at)
 
-  pub trusted-not : (v : Result Proof) (i h : ℕ) → r ≡ proved_of v → r.outcome ≡ Accepted i h → among r.root (hashes_of roots) ≡ false → trusted roots n v ≡ Refuses (carrying UNTRUSTED 0)
-  unfolding trusted proved_of accepted_of
-  trusted-not (refused why) i h e f g = absurd (let z : ◌≡◌ {A = ℕ} 0 1 = cc in omega arith)
-  trusted-not (accepted p) i h e f g = let root : p.root ≡ r.root = cc in rw (root, g)
+  pub trusted-not : (v : Result Proof) (r : Proved) → Ok r ≡ proved_of v → among r.root (hashes_of roots) ≡ false → trusted roots n v ≡ Err (carrying UNTRUSTED 0)
+  unfolding trusted
+  trusted-not (refused why) r e g = cc
+  trusted-not (accepted p) r e g =
+      let same : r ≡ accepted_of p.position p.layers p.id p.root = cc in
+      let root : p.root ≡ r.root = sym (ap (λ (x : Proved). x.root) same) in
+      rw (root, g)
 
 -- one transaction
 module _ (s roots : List ℕ) (bumps : List BumpHead) (earlier : List (List ℕ)) (id : List ℕ) (e : EntryHead) where
-  pub stands-again : among id earlier ≡ true → head_ruling s roots bumps earlier id e ≡ Refuses (carrying SAME_TX 0)
+  pub stands-again : among id earlier ≡ true → head_ruling s roots bumps earlier id e ≡ Err (carrying SAME_TX 0)
   unfolding head_ruling
   stands-again h = rw h
 
   module _ (new : among id earlier ≡ false) where
-    pub stands_mined : (n : ℕ) → e.anchor ≡ InBump n → n < MAX_BUMPS → head_ruling s roots bumps earlier id e ≡ trusted roots n (head_proving s (get_or bumps n no_bump) id)
+    pub stands_mined : (n : ℕ) → e.anchor ≡ Some n → n < MAX_BUMPS → head_ruling s roots bumps earlier id e ≡ trusted roots n (head_proving s (get_or bumps n no_bump) id)
     unfolding head_ruling head_anchoring
     stands_mined n a low = rw (new, a) (rw (lt-ltb n MAX_BUMPS low))
 
-    pub stands_nowhere : (n : ℕ) → e.anchor ≡ InBump n → MAX_BUMPS ≤ n → head_ruling s roots bumps earlier id e ≡ Refuses (carrying BAD_INDEX 0)
+    pub stands_nowhere : (n : ℕ) → e.anchor ≡ Some n → MAX_BUMPS ≤ n → head_ruling s roots bumps earlier id e ≡ Err (carrying BAD_INDEX 0)
     unfolding head_ruling head_anchoring
     stands_nowhere n a past = rw (new, a) (rw (le-ltb n MAX_BUMPS past))
 
-    pub stands_child : e.anchor ≡ Unanchored → rests_from s earlier e.transaction.inputs.count e.transaction.inputs.at.at ≡ true
-        → head_ruling s roots bumps earlier id e ≡ Passes 0 0 0
+    pub stands_child : e.anchor ≡ None → rests_from s earlier e.transaction.inputs.count e.transaction.inputs.at.at ≡ true
+        → head_ruling s roots bumps earlier id e ≡ Ok (standing 0 0 0)
     unfolding head_ruling head_anchoring
     stands_child a h = rw (new, a) (rw h)
 
-    pub stands_orphan : e.anchor ≡ Unanchored → rests_from s earlier e.transaction.inputs.count e.transaction.inputs.at.at ≡ false
-        → head_ruling s roots bumps earlier id e ≡ Refuses (carrying NO_PARENT 0)
+    pub stands_orphan : e.anchor ≡ None → rests_from s earlier e.transaction.inputs.count e.transaction.inputs.at.at ≡ false
+        → head_ruling s roots bumps earlier id e ≡ Err (carrying NO_PARENT 0)
     unfolding head_ruling head_anchoring
     stands_orphan a h = rw (new, a) (rw h)
 

@@ -9,8 +9,7 @@ use lib.ListN.{length, get_or, take, length-append, length-map, get_or-append}
 use lib.Seq.{get_or-append-add}
 use lib.Dec.{eqb}
 use borrow.Author.Tests.{le-leb, lt-ltb, le-ltb}
-use Rattle.format.specs.declared.beef.Anchor.{Anchor}
-use Rattle.format.specs.declared.beef.Anchor.TheVariants.{Unanchored, Bump as InBump}
+use Rattle.std.specs.Prelude.{Option, None, Some}
 use Rattle.format.specs.Parse.{Parse, Reader, ok, each, many, times, whole}
 use Rattle.format.proofs.ParseLaws.{onward-told}
 use Rattle.format.specs.Field.{bytes, byte, le4, number, varint}
@@ -95,15 +94,15 @@ small_encodes : (n : ℕ) → n < 253 → Spells varint (n ∷ []) n
 unfolding varint byte
 small_encodes n h = rw (lt-ltb n 253 h)
 
-anchor_encodes : (bumps : ℕ) (a : Anchor) → ((n : ℕ) → a ≡ InBump n → n < bumps) → bumps ≤ MAX_BUMPS → Spells (anchor_field bumps) (anchor_bytes a) a
+anchor_encodes : (bumps : ℕ) (a : Option ℕ) → ((n : ℕ) → a ≡ Some n → n < bumps) → bumps ≤ MAX_BUMPS → Spells (anchor_field bumps) (anchor_bytes a) a
 unfolding anchor_field bump_number_field anchor_bytes varint byte each
-anchor_encodes bumps (InBump n) f low =
+anchor_encodes bumps (Some n) f low =
     let less = f n refl in
     let small : n < 253 = omega arith in
     rw (lt-ltb n 253 small, lt-ltb n bumps less)
-anchor_encodes bumps Unanchored f low = refl
+anchor_encodes bumps None f low = refl
 
-part_encodes : (bumps : ℕ) (p : Part) (x : Transaction) → Spells beef_tx_field p.raw x → ((n : ℕ) → p.anchor ≡ InBump n → n < bumps) → bumps ≤ MAX_BUMPS
+part_encodes : (bumps : ℕ) (p : Part) (x : Transaction) → Spells beef_tx_field p.raw x → ((n : ℕ) → p.anchor ≡ Some n → n < bumps) → bumps ≤ MAX_BUMPS
     → (e : BeefEntry) × Spells (entry_field bumps) (part_bytes p) e × (entry_said (part_bytes p) e ≡ (tx_said p.raw x, p.anchor))
 unfolding entry_field
 part_encodes bumps p x s f low =

@@ -15,26 +15,25 @@ use Rattle.format.proofs.TransactionLaws.{TxRead, tx_told, output-told, taken-to
 use Rattle.format.specs.Beef.{BeefEntry, Beef}
 use Rattle.format.proofs.BeefLaws.{BeefRead}
 use Rattle.format.specs.Refusals.{MAX_INPUT, MAX_TOTAL, BAD_AMOUNT, SAME_TX}
-use Rattle.bundle.specs.declared.judge.Ruling.{Ruling}
-use Rattle.bundle.specs.declared.judge.Ruling.TheVariants.{Refuses, Passes}
 use Rattle.spv.specs.Result.{Result, carrying}
 use Rattle.spv.specs.Hashes.{hashes_of, among}
 use Rattle.spv.proofs.RowsLaws.{map_at}
-use Rattle.bundle.specs.declared.pass.Fault.{Fault}
 use Rattle.bundle.specs.Amounts.{Payment, outpoint_of, payment_of, is_anchored, ids_of, total, amounts}
 use Rattle.bundle.specs.Payments.{no_payment, Different}
 use Rattle.bundle.specs.Numbers.{output_count}
 use Rattle.bundle.specs.FlatForm.{column}
 use Rattle.bundle.specs.Walks.{Counted}
 use Rattle.bundle.specs.Second.{fault_in}
-use Rattle.bundle.specs.Pass.{fault_of, settled}
+use Rattle.bundle.specs.Pass.{amounts_of, settled, Checked}
 use Rattle.bundle.specs.Shown.{Shown, Answers}
 use Rattle.bundle.proofs.ShownLaws.{fault-taken}
-use Rattle.bundle.specs.Bundle.{entry_id, entry_row, ruling, Judgement, judge_from, judge_entries}
+use Rattle.bundle.specs.declared.judge.Standing.{Standing}
+use Rattle.bundle.specs.Bundle.{entry_id, entry_row, ruling, Judgement, judge_from, judge_entries, Ruling}
 use Rattle.bundle.proofs.BundleLaws.{from_same}
 use Rattle.bundle.specs.BundleHeads.{flag_of}
 use Rattle.bundle.proofs.BundleTheorems.{empty_entry, take-map, ids_are, told-earlier}
 use Rattle.bundle.proofs.Phases.{also, pass_count, two-passes, reached_from, count-reached, count-passes, from_less, first_anchoring, first_ruling, ruling-is}
+use Rattle.std.specs.Prelude.{Ok, Err}
 
 -- ---- judged in two passes
 
@@ -60,15 +59,15 @@ module _ (s roots : List ℕ) (b : Beef) where
   unfolding judge_entries
   in_two-passes fee =
       from_same (payment_of s) (payment_of s) (ruling s roots fee b.bumps) (λ earlier e. also (by_ids earlier e) (amounts fee earlier (payment_of s e))) (entry_row s) (entry_row s) empty_entry [] b.entries
-      (λ k low. record { ids = refl; rulings = λ earlier. ruling-is s roots b.bumps fee earlier (get_or b.entries k empty_entry); rows = λ earlier a n i e. refl })
+      (λ k low. record { ids = refl; rulings = λ earlier. ruling-is s roots b.bumps fee earlier (get_or b.entries k empty_entry); rows = λ earlier st e. refl })
       ∙ two-passes (payment_of s) by_ids (amounts fee) (entry_row s) [] b.entries
       ∙ ap₂ (λ (k : ℕ) (j : Judgement). settled (fault_in (amounts fee) k [] (map (payment_of s) b.entries)) j) count-is by_ids_lem
 
-  first_new : (ids : List (List ℕ)) (e : BeefEntry) (a n i : ℕ) → first_ruling s roots b.bumps ids e ≡ Passes a n i → among (entry_id s e) ids ≡ false
+  first_new : (ids : List (List ℕ)) (e : BeefEntry) (st : Standing) → first_ruling s roots b.bumps ids e ≡ Ok st → among (entry_id s e) ids ≡ false
   unfolding first_ruling
-  first_new ids e a n i h = go (among (entry_id s e) ids) h
+  first_new ids e st h = go (among (entry_id s e) ids) h
     where
-      go : (t : Bool) → pick t (Refuses (carrying SAME_TX 0)) (first_anchoring s roots b.bumps ids e e.anchor) ≡ Passes a n i → t ≡ false
+      go : (t : Bool) → pick t (Err (carrying SAME_TX 0)) (first_anchoring s roots b.bumps ids e e.anchor) ≡ Ok st → t ≡ false
       go true m = absurd (let z : ◌≡◌ {A = ℕ} 0 1 = cc in omega arith)
       go false m = refl
 
@@ -77,7 +76,7 @@ module _ (s roots : List ℕ) (b : Beef) where
   passed_new k h =
       let w = count-passes (payment_of s) by_ids empty_entry [] b.entries k (omega (arith, h, count-is)) in
       ap (among (entry_id s (get_or b.entries k empty_entry))) (sym (ids_are s (take k b.entries)))
-      ∙ first_new (ids_of (map (payment_of s) (take k b.entries))) (get_or b.entries k empty_entry) w.0 w.1 w.2 w.3
+      ∙ first_new (ids_of (map (payment_of s) (take k b.entries))) (get_or b.entries k empty_entry) w.0 w.1
 
 -- ---- what is known of outputs that were read
 
@@ -239,7 +238,7 @@ module _ (s roots : List ℕ) (room : ℕ) (b : Beef) (read : BeefRead room s b)
             omega arith
 
     -- so the bundle is judged by the first pass and the answer of the second
-    pub judged_in_two : (fee : ℕ) (r : Fault) → Answers s ids numbers fee n r → judge_entries s roots fee b ≡ settled (fault_of r) (first_pass s roots b)
+    pub judged_in_two : (fee : ℕ) (r : Checked) → Answers s ids numbers fee n r → judge_entries s roots fee b ≡ settled (amounts_of r) (first_pass s roots b)
     judged_in_two fee r answer =
         in_two-passes s roots b fee
         ∙ ap (λ (f : Result (Unit {0})). settled f (first_pass s roots b))

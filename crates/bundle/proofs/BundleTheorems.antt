@@ -9,14 +9,12 @@ use native.Mathlib.Decide.{dec_lt}
 use native.Mathlib.Omega.{arith}
 use lib.ListN.{length, get_or, take, length-take, length-map}
 use lib.Seq.{get_or-take}
+use Rattle.std.specs.Prelude.{Option, None, Ok, Err, Some}
 use Rattle.format.specs.declared.transaction.Input.{Input}
-use Rattle.format.specs.declared.beef.Anchor.{Anchor}
-use Rattle.format.specs.declared.beef.Anchor.TheVariants.{Unanchored, Bump as InBump}
 use Rattle.format.specs.Parse.{pick}
 use Rattle.format.specs.Bytes.{hash_at}
 use Rattle.format.specs.Beef.{BeefEntry, Beef}
 use Rattle.format.specs.Refusals.{UNTRUSTED, SAME_TX, NO_PARENT}
-use Rattle.bundle.specs.declared.judge.Ruling.TheVariants.{Refuses, Passes}
 use Rattle.bundle.specs.declared.table.Record.{Record}
 use Rattle.spv.specs.Result.{Result, accepted, refused, carrying}
 use Rattle.spv.specs.Prove.{Proof}
@@ -26,7 +24,8 @@ use Rattle.spv.proofs.HashesLaws.{among-told, told-among}
 use Rattle.bundle.specs.Amounts.{Payment, payment_of, ids_of, is_anchored, exist, fresh, spends, enough, funded, passes, refuses}
 use Rattle.bundle.proofs.AmountLaws.{Funded, funded-told, told-funded}
 use Rattle.bundle.proofs.AmountsExactly.{Pays, funded_pays, pays_funded}
-use Rattle.bundle.specs.Bundle.{rests, trusted, proving, nth_bump, entry_id, ruling_of, anchoring, ruling, entry_row, judge_entries}
+use Rattle.bundle.specs.declared.judge.Standing.{Standing}
+use Rattle.bundle.specs.Bundle.{rests, trusted, proving, nth_bump, entry_id, ruling_of, anchoring, ruling, entry_row, judge_entries, standing}
 use Rattle.bundle.proofs.BundleLaws.{accepted-passed, all-accepted}
 use Rattle.spv.proofs.RowsLaws.{map_at}
 use Rattle.bundle.specs.Payments.{no_payment, Different}
@@ -72,36 +71,36 @@ module _ (s : List ℕ) (ids : List (List ℕ)) where
   told-rests (x ∷ l) f = rw (f 0 (omega arith)) (told-rests l (λ m h. f (suc m) (omega arith)))
 
 -- an anchored transaction passes exactly if it is proved and its root is listed
-pub trusted-told : (roots : List ℕ) (m : ℕ) (v : Result Proof) (a n i : ℕ) → trusted roots m v ≡ Passes a n i
-    → (p : Proof) × (v ≡ accepted p) × (among p.root (hashes_of roots) ≡ true) × (a ≡ 1) × (n ≡ m) × (i ≡ p.position)
+pub trusted-told : (roots : List ℕ) (m : ℕ) (v : Result Proof) (st : Standing) → trusted roots m v ≡ Ok st
+    → (p : Proof) × (v ≡ accepted p) × (among p.root (hashes_of roots) ≡ true) × (st ≡ standing 1 m p.position)
 unfolding trusted
-trusted-told roots m (refused why) a n i e = absurd (let z : ◌≡◌ {A = ℕ} 0 1 = cc in omega arith)
-trusted-told roots m (accepted p) a n i e = go (among p.root (hashes_of roots)) refl e
+trusted-told roots m (refused why) st e = absurd (let z : ◌≡◌ {A = ℕ} 0 1 = cc in omega arith)
+trusted-told roots m (accepted p) st e = go (among p.root (hashes_of roots)) refl e
   where
-    go : (t : Bool) → among p.root (hashes_of roots) ≡ t → pick t (Passes 1 m p.position) (Refuses (carrying UNTRUSTED 0)) ≡ Passes a n i
-        → (x : Proof) × (accepted p ≡ accepted x) × (among x.root (hashes_of roots) ≡ true) × (a ≡ 1) × (n ≡ m) × (i ≡ x.position)
-    go true h e = (p, refl, h, cc, cc, cc)
+    go : (t : Bool) → among p.root (hashes_of roots) ≡ t → pick t (Ok (standing 1 m p.position)) (Err (carrying UNTRUSTED 0)) ≡ Ok st
+        → (x : Proof) × (accepted p ≡ accepted x) × (among x.root (hashes_of roots) ≡ true) × (st ≡ standing 1 m x.position)
+    go true h e = (p, refl, h, cc)
     go false h e = absurd (let z : ◌≡◌ {A = ℕ} 0 1 = cc in omega arith)
 
 -- a transaction that is not anchored passes in one way
-pub funded-only : (fee : ℕ) (earlier : List Payment) (t : Payment) (a n i : ℕ) → ruling_of (funded fee earlier t) ≡ Passes a n i → (funded fee earlier t ≡ passes) × (a ≡ 0) × (n ≡ 0) × (i ≡ 0)
+pub funded-only : (fee : ℕ) (earlier : List Payment) (t : Payment) (st : Standing) → ruling_of (funded fee earlier t) ≡ Ok st → (funded fee earlier t ≡ passes) × (st ≡ standing 0 0 0)
 unfolding funded
-funded-only fee earlier t a n i e = go (exist earlier t.inputs) (fresh (spends earlier) t.inputs) (enough fee earlier t) e
+funded-only fee earlier t st e = go (exist earlier t.inputs) (fresh (spends earlier) t.inputs) (enough fee earlier t) e
   where
-    go : (x y z : Bool) → ruling_of (pick x (pick y (pick z passes (refuses 28)) (refuses 27)) (refuses 26)) ≡ Passes a n i → (pick x (pick y (pick z passes (refuses 28)) (refuses 27)) (refuses 26) ≡ passes) × (a ≡ 0) × (n ≡ 0) × (i ≡ 0)
-    go true true true e = (refl, cc, cc, cc)
+    go : (x y z : Bool) → ruling_of (pick x (pick y (pick z passes (refuses 28)) (refuses 27)) (refuses 26)) ≡ Ok st → (pick x (pick y (pick z passes (refuses 28)) (refuses 27)) (refuses 26) ≡ passes) × (st ≡ standing 0 0 0)
+    go true true true e = (refl, cc)
     go true true false e = absurd (let z : ◌≡◌ {A = ℕ} 0 1 = cc in omega arith)
     go true false z e = absurd (let z : ◌≡◌ {A = ℕ} 0 1 = cc in omega arith)
     go false y z e = absurd (let z : ◌≡◌ {A = ℕ} 0 1 = cc in omega arith)
 
-pub told-trusted : (roots : List ℕ) (m : ℕ) (v : Result Proof) (p : Proof) → v ≡ accepted p → among p.root (hashes_of roots) ≡ true → trusted roots m v ≡ Passes 1 m p.position
+pub told-trusted : (roots : List ℕ) (m : ℕ) (v : Result Proof) (p : Proof) → v ≡ accepted p → among p.root (hashes_of roots) ≡ true → trusted roots m v ≡ Ok (standing 1 m p.position)
 unfolding trusted
 told-trusted roots m v p e h = rw e (rw h)
 
 -- ---- a bundle
 
 abbrev pub empty_entry : BeefEntry
-empty_entry = record { transaction = record { start = 0; end = 0; inputs_at = 0; inputs = []; outputs_at = 0; outputs = [] }; anchor = Unanchored }
+empty_entry = record { transaction = record { start = 0; end = 0; inputs_at = 0; inputs = []; outputs_at = 0; outputs = [] }; anchor = None }
 
 pub take-map : {A B : Type 0} (f : A → B) (k : ℕ) (l : List A) → take k (map f l) ≡ map f (take k l)
 take-map f zero l = refl
@@ -136,13 +135,13 @@ module _ (s roots : List ℕ) (fee : ℕ) (b : Beef) where
   pub record Mined (k : ℕ) : Type 0 where
     pub bump : ℕ
     pub proof : Proof
-    pub anchored : (nth k).anchor ≡ InBump bump
+    pub anchored : (nth k).anchor ≡ Some bump
     pub climbs : proving s (nth_bump b.bumps bump) (id_at k) ≡ accepted proof
     pub listed : Among proof.root (hashes_of roots)
 
   -- it is not anchored, each of its parents is an earlier transaction, and it pays
   pub record Child (k : ℕ) : Type 0 where
-    pub unanchored : (nth k).anchor ≡ Unanchored
+    pub unanchored : (nth k).anchor ≡ None
     pub parent : ℕ → ℕ
     pub earlier : (m : ℕ) → m < length (inputs_at k) → parent m < k
     pub named : (m : ℕ) → m < length (inputs_at k) → id_at (parent m) ≡ hash_at s (get_or (inputs_at k) m no_input).parent
@@ -160,15 +159,15 @@ module _ (s roots : List ℕ) (fee : ℕ) (b : Beef) where
   payment_at : (k : ℕ) → k < length b.entries → get_or payments k no_payment ≡ payment_of s (nth k)
   payment_at k low = map_at (payment_of s) b.entries k empty_entry no_payment low
 
-  is-unanchored : (k : ℕ) → k < length b.entries → (nth k).anchor ≡ Unanchored → (get_or payments k no_payment).anchored ≡ false
+  is-unanchored : (k : ℕ) → k < length b.entries → (nth k).anchor ≡ None → (get_or payments k no_payment).anchored ≡ false
   unfolding payment_of
   is-unanchored k low u = ap (λ (t : Payment). t.anchored) (payment_at k low) ∙ ap is_anchored u
 
   -- it passes after those before it
   abbrev PassesAt : ℕ → Type 0
-  PassesAt k = (a : ℕ) × (n : ℕ) × (i : ℕ) × (ruling s roots fee b.bumps (before k) (nth k) ≡ Passes a n i)
+  PassesAt k = (st : Standing) × (ruling s roots fee b.bumps (before k) (nth k) ≡ Ok st)
 
-  child_of : (k : ℕ) → k < length b.entries → (nth k).anchor ≡ Unanchored → rests s (ids k) (inputs_at k) ≡ true → funded fee (before k) (payment_of s (nth k)) ≡ passes → Child k
+  child_of : (k : ℕ) → k < length b.entries → (nth k).anchor ≡ None → rests s (ids k) (inputs_at k) ≡ true → funded fee (before k) (payment_of s (nth k)) ≡ passes → Child k
   child_of k low u e f = record {
     unanchored = u;
     parent = λ m. find m (dec_lt m (length (inputs_at k)));
@@ -194,13 +193,13 @@ module _ (s roots : List ℕ) (fee : ℕ) (b : Beef) where
       same_id m h (no g) = absurd (g h)
 
   -- how it passed: by its BUMP and its position there, or as a child
-  abbrev As : (k a n i : ℕ) → Mined k ⊎ Child k → Type 0
-  As k a n i (inl m) = (a ≡ 1) × (n ≡ m.bump) × (i ≡ m.proof.position)
-  As k a n i (inr c) = (a ≡ 0) × (n ≡ 0) × (i ≡ 0)
+  abbrev As : (k : ℕ) (st : Standing) → Mined k ⊎ Child k → Type 0
+  As k st (inl m) = st ≡ standing 1 m.bump m.proof.position
+  As k st (inr c) = st ≡ standing 0 0 0
 
-  passed-stands : (k a n i : ℕ) → k < length b.entries → ruling s roots fee b.bumps (before k) (nth k) ≡ Passes a n i → New k × ((w : Mined k ⊎ Child k) × As k a n i w)
+  passed-stands : (k : ℕ) (st : Standing) → k < length b.entries → ruling s roots fee b.bumps (before k) (nth k) ≡ Ok st → New k × ((w : Mined k ⊎ Child k) × As k st w)
   unfolding ruling anchoring
-  passed-stands k a n i low e = go (among (id_at k) (ids k)) refl (rw (ids_are s (take k b.entries)) at e)
+  passed-stands k st low e = go (among (id_at k) (ids k)) refl (rw (ids_are s (take k b.entries)) at e)
     where
       new : among (id_at k) (ids k) ≡ false → New k
       new h j l m =
@@ -208,20 +207,20 @@ module _ (s roots : List ℕ) (fee : ℕ) (b : Beef) where
           let z : ◌≡◌ {A = ℕ} 0 1 = cc in
           omega arith
 
-      child : (nth k).anchor ≡ Unanchored → (t : Bool) → rests s (ids k) (inputs_at k) ≡ t → pick t (ruling_of (funded fee (before k) (payment_of s (nth k)))) (Refuses (carrying NO_PARENT 0)) ≡ Passes a n i → (w : Mined k ⊎ Child k) × As k a n i w
-      child u true q h = by_funds (funded-only fee (before k) (payment_of s (nth k)) a n i h)
+      child : (nth k).anchor ≡ None → (t : Bool) → rests s (ids k) (inputs_at k) ≡ t → pick t (ruling_of (funded fee (before k) (payment_of s (nth k)))) (Err (carrying NO_PARENT 0)) ≡ Ok st → (w : Mined k ⊎ Child k) × As k st w
+      child u true q h = by_funds (funded-only fee (before k) (payment_of s (nth k)) st h)
         where
-          by_funds : (funded fee (before k) (payment_of s (nth k)) ≡ passes) × (a ≡ 0) × (n ≡ 0) × (i ≡ 0) → (w : Mined k ⊎ Child k) × As k a n i w
-          by_funds (f, x, y, z) = (inr (child_of k low u q f), (x, y, z))
+          by_funds : (funded fee (before k) (payment_of s (nth k)) ≡ passes) × (st ≡ standing 0 0 0) → (w : Mined k ⊎ Child k) × As k st w
+          by_funds (f, x) = (inr (child_of k low u q f), x)
       child u false q h = absurd (let z : ◌≡◌ {A = ℕ} 0 1 = cc in omega arith)
 
-      by_anchor : (x : Anchor) → (nth k).anchor ≡ x → anchoring s roots fee b.bumps (before k) (nth k) x ≡ Passes a n i → (w : Mined k ⊎ Child k) × As k a n i w
-      by_anchor (InBump m) u h =
-          let w = trusted-told roots m (proving s (nth_bump b.bumps m) (id_at k)) a n i h in
-          (inl (record { bump = m; proof = w.0; anchored = u; climbs = w.1; listed = among-told w.0.root (hashes_of roots) w.2 }), (w.3, w.4, w.5))
-      by_anchor Unanchored u h = child u (rests s (ids k) (inputs_at k)) refl (rw (ids_are s (take k b.entries)) at h)
+      by_anchor : (x : Option ℕ) → (nth k).anchor ≡ x → anchoring s roots fee b.bumps (before k) (nth k) x ≡ Ok st → (w : Mined k ⊎ Child k) × As k st w
+      by_anchor (Some m) u h =
+          let w = trusted-told roots m (proving s (nth_bump b.bumps m) (id_at k)) st h in
+          (inl (record { bump = m; proof = w.0; anchored = u; climbs = w.1; listed = among-told w.0.root (hashes_of roots) w.2 }), w.3)
+      by_anchor None u h = child u (rests s (ids k) (inputs_at k)) refl (rw (ids_are s (take k b.entries)) at h)
 
-      go : (t : Bool) → among (id_at k) (ids k) ≡ t → pick t (Refuses (carrying SAME_TX 0)) (anchoring s roots fee b.bumps (before k) (nth k) (nth k).anchor) ≡ Passes a n i → New k × ((w : Mined k ⊎ Child k) × As k a n i w)
+      go : (t : Bool) → among (id_at k) (ids k) ≡ t → pick t (Err (carrying SAME_TX 0)) (anchoring s roots fee b.bumps (before k) (nth k) (nth k).anchor) ≡ Ok st → New k × ((w : Mined k ⊎ Child k) × As k st w)
       go true h m = absurd (let z : ◌≡◌ {A = ℕ} 0 1 = cc in omega arith)
       go false h m = (new h, by_anchor (nth k).anchor refl m)
 
@@ -243,22 +242,20 @@ module _ (s roots : List ℕ) (fee : ℕ) (b : Beef) where
           let t = earlier-told (entry_id s) b.entries empty_entry k (omega arith) (id_at k) h in
           absurd (new t.0 t.1 t.2)
       by false h (inl m) = (
-        1,
-        m.bump,
-        m.proof.position,
+        standing 1 m.bump m.proof.position,
         rw (ids_is, h, m.anchored) (told-trusted roots m.bump (proving s (nth_bump b.bumps m.bump) (id_at k)) m.proof m.climbs (told-among m.proof.root (hashes_of roots) m.listed)),
       )
       by false h (inr c) =
           let all : rests s (ids k) (inputs_at k) ≡ true = told-rests s (ids k) (inputs_at k) (λ m l. told-earlier (entry_id s) b.entries empty_entry k (omega arith) (hash_at s (get_or (inputs_at k) m no_input).parent) (c.parent m) (c.earlier m l) (c.named m l)) in
-          (0, 0, 0, rw (ids_is, h, c.unanchored) (rw (ids_is, all) (ap ruling_of (told-funded fee (before k) (payment_of s (nth k)) paid))))
+          (standing 0 0 0, rw (ids_is, h, c.unanchored) (rw (ids_is, all) (ap ruling_of (told-funded fee (before k) (payment_of s (nth k)) paid))))
         where
           paid : Funded fee (before k) (payment_of s (nth k))
           paid = rw (take-map (payment_of s) k b.entries, payment_at k low) at (pays_funded fee payments k (omega (arith, low, length-map b.entries (payment_of s))) (is-unanchored k low c.unanchored) different c.pays)
 
   -- what the k-th record says
   abbrev pub Recorded : List Record → (k : ℕ) → Mined k ⊎ Child k → Type 0
-  Recorded records k (inl m) = get_or records k blank_record ≡ entry_row s (nth k) 1 m.bump m.proof.position
-  Recorded records k (inr c) = get_or records k blank_record ≡ entry_row s (nth k) 0 0 0
+  Recorded records k (inl m) = get_or records k blank_record ≡ entry_row s (nth k) (standing 1 m.bump m.proof.position)
+  Recorded records k (inr c) = get_or records k blank_record ≡ entry_row s (nth k) (standing 0 0 0)
 
   -- accepted exactly when every transaction stands, and its record then says how
   pub accepted_recorded : (records : List Record) → judge_entries s roots fee b ≡ accepted records → (k : ℕ) → k < length b.entries
@@ -266,12 +263,12 @@ module _ (s roots : List ℕ) (fee : ℕ) (b : Beef) where
   unfolding judge_entries
   accepted_recorded records e k low =
       let w = accepted-passed (payment_of s) (ruling s roots fee b.bumps) (entry_row s) empty_entry blank_record [] b.entries records e k low in
-      let x = passed-stands k w.flag w.bump w.position low w.passed in
-      (x.0, (x.1.0, said w.flag w.bump w.position x.1.0 x.1.1 w.recorded))
+      let x = passed-stands k w.stood low w.passed in
+      (x.0, (x.1.0, said w.stood x.1.0 x.1.1 w.recorded))
     where
-      said : (a n i : ℕ) (w : Mined k ⊎ Child k) → As k a n i w → get_or records k blank_record ≡ entry_row s (nth k) a n i → Recorded records k w
-      said a n i (inl m) (x, y, z) r = rw (x, y, z) at r
-      said a n i (inr c) (x, y, z) r = rw (x, y, z) at r
+      said : (st : Standing) (w : Mined k ⊎ Child k) → As k st w → get_or records k blank_record ≡ entry_row s (nth k) st → Recorded records k w
+      said st (inl m) x r = rw x at r
+      said st (inr c) x r = rw x at r
 
   pub stands-accepted : ((k : ℕ) → k < length b.entries → Stands k) → (records : List Record) × (judge_entries s roots fee b ≡ accepted records)
   unfolding judge_entries

@@ -10,11 +10,10 @@ use lib.Dec.{ltb}
 use lib.ListN.{length, get_or, take, drop, length-drop, take-append-drop, get_or-append}
 use lib.Seq.{paste, take-paste, length-paste, take-suc, take-add, take-take, length-take-le, get_or-take, get_or-append-add}
 use borrow.Author.Tests.{ltb-true, ltb-false}
+use Rattle.std.specs.Prelude.{Option, None, Ok, Err, Some}
 use Rattle.format.specs.declared.bump.BumpHead.{BumpHead}
 use Rattle.format.specs.declared.transaction.TxHead.{TxHead}
 use Rattle.format.specs.declared.beef.EntryHead.{EntryHead}
-use Rattle.format.specs.declared.beef.Anchor.{Anchor}
-use Rattle.format.specs.declared.beef.Anchor.TheVariants.{Unanchored, Bump as InBump}
 use Rattle.format.specs.Parse.{each, ok, fault, pick}
 use Rattle.format.specs.Bytes.{hash_at}
 use Rattle.format.proofs.BytesLaws.{hash-there}
@@ -23,9 +22,7 @@ use Rattle.format.specs.BeefAnswer.{entry_head_of}
 use Rattle.format.proofs.IdLaws.{span-length}
 use Rattle.format.specs.BeefAnswer.{no_bump}
 use Rattle.format.specs.Refusals.{MAX_TXS, MAX_BUMPS, BAD_INDEX, SAME_TX, NO_PARENT}
-use Rattle.bundle.specs.declared.judge.Ruling.TheVariants.{Refuses, Passes}
 use Rattle.bundle.specs.declared.table.Record.{Record}
-use Rattle.bundle.specs.declared.judge.Verdict.TheVariants.{Accepted, Refused}
 use Rattle.spv.specs.declared.rejection.Rejection.{Rejection}
 use Rattle.spv.specs.Result.{accepted, refused, carrying, blaming}
 use Rattle.bundle.specs.Table.{flat_head, flat, IDS_ROOM, NUMBERS_ROOM}
@@ -33,7 +30,8 @@ use Rattle.bundle.proofs.TableLaws.{flat-more}
 use Rattle.spv.specs.Hashes.{hashes_of, among}
 use Rattle.bundle.specs.Amounts.{is_anchored}
 use Rattle.bundle.specs.FlatForm.{column}
-use Rattle.bundle.specs.Bundle.{Judgement, judge_from, trusted}
+use Rattle.bundle.specs.declared.judge.Standing.{Standing}
+use Rattle.bundle.specs.Bundle.{Judgement, judge_from, trusted, standing}
 use Rattle.format.proofs.Basics.{one_less}
 use Rattle.spv.proofs.HashesLaws.{hashes-more, hashes_empty, taken-length}
 use Rattle.bundle.proofs.BundleLaws.{followed, followed_ahead, followed_none, from_refuses, from_passes, from_none}
@@ -88,9 +86,9 @@ row_kept s numbers y i k e low long h r = record {
     at : (c : ℕ) → c < 10 → column (paste numbers (10 * i) y 10) c k ≡ column numbers c k
     at c g = paste-before numbers (10 * i) y 10 low long (10 * k + c) (omega arith)
 
-row_new : (s numbers : List ℕ) (i : ℕ) (e : EntryHead) (a m p : ℕ) → 10 * i ≤ length numbers → a ≡ flag_of (is_anchored e.anchor)
-    → RowIs s (paste numbers (10 * i) (numbers_of e.transaction (head_total s e.transaction) a m p) 10) i e
-row_new s numbers i e a m p low f = record {
+row_new : (s numbers : List ℕ) (i : ℕ) (e : EntryHead) (st : Standing) → 10 * i ≤ length numbers → st.anchored ≡ flag_of (is_anchored e.anchor)
+    → RowIs s (paste numbers (10 * i) (numbers_of e.transaction (head_total s e.transaction) st) 10) i e
+row_new s numbers i e st low f = record {
   flag = at 3 (omega arith) ∙ f;
   outputs = at 5 (omega arith);
   totals = at 6 (omega arith);
@@ -100,29 +98,29 @@ row_new s numbers i e a m p low f = record {
 }
   where
     y : List ℕ
-    y = numbers_of e.transaction (head_total s e.transaction) a m p
+    y = numbers_of e.transaction (head_total s e.transaction) st
 
     at : (c : ℕ) → c < 10 → column (paste numbers (10 * i) y 10) c i ≡ get_or y c 0
     at c g = paste_in numbers (10 * i) y 10 low (omega arith) c g
 
 -- what is written of an anchor
-head_flag : (s roots : List ℕ) (bumps : List BumpHead) (earlier : List (List ℕ)) (e : EntryHead) (a m p : ℕ) → head_stands s roots bumps earlier e ≡ Passes a m p → a ≡ flag_of (is_anchored e.anchor)
+head_flag : (s roots : List ℕ) (bumps : List BumpHead) (earlier : List (List ℕ)) (e : EntryHead) (st : Standing) → head_stands s roots bumps earlier e ≡ Ok st → st.anchored ≡ flag_of (is_anchored e.anchor)
 unfolding head_ruling head_anchoring
-head_flag s roots bumps earlier e a m p t = go (among (head_id s e) earlier) t
+head_flag s roots bumps earlier e st t = go (among (head_id s e) earlier) t
   where
-    free : (r : Bool) → pick r (Passes 0 0 0) (Refuses (carrying NO_PARENT 0)) ≡ Passes a m p → a ≡ 0
-    free true q = let y : 0 ≡ a = cc in sym y
+    free : (r : Bool) → pick r (Ok (standing 0 0 0)) (Err (carrying NO_PARENT 0)) ≡ Ok st → st.anchored ≡ 0
+    free true q = let none : st ≡ standing 0 0 0 = cc in ap (λ (x : Standing). x.anchored) none
     free false q = absurd (let z : ◌≡◌ {A = ℕ} 0 1 = cc in omega arith)
 
-    named : (n : ℕ) (r : Bool) → pick r (trusted roots n (head_proving s (get_or bumps n no_bump) (head_id s e))) (Refuses (carrying BAD_INDEX 0)) ≡ Passes a m p → a ≡ 1
-    named n true q = (trusted-told roots n (head_proving s (get_or bumps n no_bump) (head_id s e)) a m p q).3
+    named : (n : ℕ) (r : Bool) → pick r (trusted roots n (head_proving s (get_or bumps n no_bump) (head_id s e))) (Err (carrying BAD_INDEX 0)) ≡ Ok st → st.anchored ≡ 1
+    named n true q = ap (λ (x : Standing). x.anchored) (trusted-told roots n (head_proving s (get_or bumps n no_bump) (head_id s e)) st q).3
     named n false q = absurd (let z : ◌≡◌ {A = ℕ} 0 1 = cc in omega arith)
 
-    by : (x : Anchor) → head_anchoring s roots bumps earlier (head_id s e) e.transaction x ≡ Passes a m p → a ≡ flag_of (is_anchored x)
-    by (InBump n) q = named n (ltb n MAX_BUMPS) q
-    by Unanchored q = free (rests_from s earlier e.transaction.inputs.count e.transaction.inputs.at.at) q
+    by : (x : Option ℕ) → head_anchoring s roots bumps earlier (head_id s e) e.transaction x ≡ Ok st → st.anchored ≡ flag_of (is_anchored x)
+    by (Some n) q = named n (ltb n MAX_BUMPS) q
+    by None q = free (rests_from s earlier e.transaction.inputs.count e.transaction.inputs.at.at) q
 
-    go : (r : Bool) → pick r (Refuses (carrying SAME_TX 0)) (head_anchoring s roots bumps earlier (head_id s e) e.transaction e.anchor) ≡ Passes a m p → a ≡ flag_of (is_anchored e.anchor)
+    go : (r : Bool) → pick r (Err (carrying SAME_TX 0)) (head_anchoring s roots bumps earlier (head_id s e) e.transaction e.anchor) ≡ Ok st → st.anchored ≡ flag_of (is_anchored e.anchor)
     go true q = absurd (let z : ◌≡◌ {A = ℕ} 0 1 = cc in omega arith)
     go false q = by e.anchor q
 
@@ -166,7 +164,7 @@ module _ (s roots : List ℕ) (bumps : List BumpHead) (count n start : ℕ) wher
   }
 
   module _ {ids numbers : List ℕ} {i at : ℕ} (j : Judging ids numbers i at) where
-    pub judging_end : n ≤ i → judgement_of (Accepted i) ids numbers ≡ whole
+    pub judging_end : n ≤ i → judgement_of (Ok i) ids numbers ≡ whole
     unfolding judgement_of followed heads_from
     judging_end past =
         let none : rest i at ≡ [] = let all_done : n - i ≡ 0 = omega arith in rw all_done in
@@ -188,16 +186,16 @@ module _ (s roots : List ℕ) (bumps : List BumpHead) (count n start : ℕ) wher
         unfolding heads_from
         next = rw (one_less n i low) (rw read)
 
-        pub judging_refused : {why : Rejection} → head_stands s roots bumps (earlier ids i) e ≡ Refuses why → judgement_of (Refused (blaming i why)) ids numbers ≡ whole
+        pub judging_refused : {why : Rejection} → head_stands s roots bumps (earlier ids i) e ≡ Err why → judgement_of (Err (blaming i why)) ids numbers ≡ whole
         unfolding judgement_of followed
         judging_refused {why} t =
             ap (λ (k : ℕ). followed (flat i ids numbers) (refused (blaming k why))) (sym (taken-length i ids (let w = j.wide in omega arith)))
             ∙ ap (followed (flat i ids numbers)) (sym (ap (from (earlier ids i)) next ∙ from_refuses (head_id s) (head_stands s roots bumps) (head_row s) (earlier ids i) e (rest (i + 1) q) why t))
             ∙ j.kept
 
-        passes_on : {a m p : ℕ} → head_stands s roots bumps (earlier ids i) e ≡ Passes a m p → hash_at ids (32 * i) ≡ head_id s e
-            → Judging ids (paste numbers (10 * i) (numbers_of e.transaction (head_total s e.transaction) a m p) 10) (i + 1) q
-        passes_on {a} {m} {p} t is = record {
+        passes_on : {st : Standing} → head_stands s roots bumps (earlier ids i) e ≡ Ok st → hash_at ids (32 * i) ≡ head_id s e
+            → Judging ids (paste numbers (10 * i) (numbers_of e.transaction (head_total s e.transaction) st) 10) (i + 1) q
+        passes_on {st} t is = record {
           done = omega arith;
           wide = j.wide;
           long = let w = length-paste numbers (10 * i) y 10 within (omega arith) in let o = j.long in omega arith;
@@ -205,7 +203,7 @@ module _ (s roots : List ℕ) (bumps : List BumpHead) (count n start : ℕ) wher
               ap (λ (l : List Record). followed l (from (earlier ids (i + 1)) (rest (i + 1) q))) (ap (λ (l : List ℕ). flat (i + 1) l numbers') (sym again) ∙ flat-more i ids numbers x y inside within known refl)
               ∙ ap (λ (l : List (List ℕ)). followed (flat i ids numbers ++ (flat_head x y ∷ [])) (from l (rest (i + 1) q))) one_further
               ∙ sym (followed_ahead (flat i ids numbers) (flat_head x y) (from (earlier ids i ++ (x ∷ [])) (rest (i + 1) q)))
-              ∙ ap (followed (flat i ids numbers)) (sym (ap (from (earlier ids i)) next ∙ from_passes (head_id s) (head_stands s roots bumps) (head_row s) (earlier ids i) e (rest (i + 1) q) a m p t))
+              ∙ ap (followed (flat i ids numbers)) (sym (ap (from (earlier ids i)) next ∙ from_passes (head_id s) (head_stands s roots bumps) (head_row s) (earlier ids i) e (rest (i + 1) q) st t))
               ∙ j.kept;
           rest-is = ap (λ (k : ℕ). drop k all) (add-one i) ∙ here.2;
           written = record {
@@ -226,7 +224,7 @@ module _ (s roots : List ℕ) (bumps : List BumpHead) (count n start : ℕ) wher
             x = head_id s e
 
             y : List ℕ
-            y = numbers_of e.transaction (head_total s e.transaction) a m p
+            y = numbers_of e.transaction (head_total s e.transaction) st
 
             numbers' : List ℕ
             numbers' = paste numbers (10 * i) y 10
@@ -260,15 +258,15 @@ module _ (s roots : List ℕ) (bumps : List BumpHead) (count n start : ℕ) wher
                 go true u = let low : k < i = ltb-true k i u in row_kept s numbers y i k (get_or all k no_head) (omega (arith, within)) (omega arith) low (j.written.row_is k low)
                 go false u =
                     let same : k ≡ i = omega (arith, ltb-false k i u, h) in
-                    rw (same, here.1) (row_new s numbers i e a m p (omega (arith, within)) (head_flag s roots bumps (earlier ids i) e a m p t))
+                    rw (same, here.1) (row_new s numbers i e st (omega (arith, within)) (head_flag s roots bumps (earlier ids i) e st t))
 
-        pub judging_passes : {a m p : ℕ} {y numbers' : List ℕ} → head_stands s roots bumps (earlier ids i) e ≡ Passes a m p → hash_at ids (32 * i) ≡ head_id s e → y ≡ numbers_of e.transaction (head_total s e.transaction) a m p
+        pub judging_passes : {st : Standing} {y numbers' : List ℕ} → head_stands s roots bumps (earlier ids i) e ≡ Ok st → hash_at ids (32 * i) ≡ head_id s e → y ≡ numbers_of e.transaction (head_total s e.transaction) st
             → numbers' ≡ paste numbers (10 * i) y 10 → Judging ids numbers' (i + 1) q
         judging_passes t is its new = rw (new, its) (passes_on t is)
 
 -- the numbers with the total that was found
-pub numbers_with : (t : TxHead) (a m p : ℕ) {v w : ℕ} → v ≡ w → numbers_of t v a m p ≡ numbers_of t w a m p
-numbers_with t a m p e = ap (λ (x : ℕ). numbers_of t x a m p) e
+pub numbers_with : (t : TxHead) (st : Standing) {v w : ℕ} → v ≡ w → numbers_of t v st ≡ numbers_of t w st
+numbers_with t st e = ap (λ (x : ℕ). numbers_of t x st) e
 
 pub written-again : (s ids numbers : List ℕ) (l : List EntryHead) {k n : ℕ} → k ≡ n → Written s ids numbers l n → Written s ids numbers l k
 written-again s ids numbers l e w = rw e w

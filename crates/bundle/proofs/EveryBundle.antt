@@ -12,8 +12,7 @@ use lib.Dec.{ltb, leb, eqb}
 use borrow.Author.Tests.{leb-true, ltb-true, eqb-true, eqb-false}
 use mir.Syntax.{w8}
 use mir.Val.{Fits}
-use Rattle.format.specs.declared.beef.Anchor.{Anchor}
-use Rattle.format.specs.declared.beef.Anchor.TheVariants.{Unanchored, Bump as InBump}
+use Rattle.std.specs.Prelude.{Option, None, Some}
 use Rattle.format.specs.Parse.{Parse, Reader, ok, fault, pick, pure, onward, given, at_start, many, times, ◌passing◌else◌}
 use Rattle.format.proofs.ParseLaws.{onward-told, passing_told, each-ok, many-told, many-length, whole-told}
 use Rattle.format.proofs.Span.{Within, bytes-told, byte-told, varint-told, many-within}
@@ -35,7 +34,7 @@ use Rattle.bundle.proofs.UnusedBump.{renumbered_part, unused_bump}
 
 -- a transaction, and an anchor in one of so many BUMPs
 abbrev IsPart : ℕ → Part → Type 0
-IsPart bumps p = ((x : Transaction) × Spells beef_tx_field p.raw x) × ((n : ℕ) → p.anchor ≡ InBump n → n < bumps)
+IsPart bumps p = ((x : Transaction) × Spells beef_tx_field p.raw x) × ((n : ℕ) → p.anchor ≡ Some n → n < bumps)
 
 module _ (s : List ℕ) where
   -- ---- the bytes from a place to another
@@ -118,7 +117,7 @@ module _ (s : List ℕ) where
 
   -- ---- a transaction with its anchor
 
-  anchor-split : (bumps : ℕ) → bumps ≤ MAX_BUMPS → (at q : ℕ) (a : Anchor) → anchor_field bumps s at ≡ ok a q → (at ≤ q) × (q ≤ length s) × (drop at s ≡ anchor_bytes a ++ drop q s)
+  anchor-split : (bumps : ℕ) → bumps ≤ MAX_BUMPS → (at q : ℕ) (a : Option ℕ) → anchor_field bumps s at ≡ ok a q → (at ≤ q) × (q ≤ length s) × (drop at s ≡ anchor_bytes a ++ drop q s)
   unfolding anchor_field bump_number_field anchor_bytes
   anchor-split bumps few at q a e =
       let x = onward-told ((byte passing (λ b. leb b 1) else BAD_FLAG) s at) _ e in
@@ -126,7 +125,7 @@ module _ (s : List ℕ) where
       let b = byte-told s at p.0 in
       chosen x.0 x.1 b.inside (sym b.value-is) b.next-is (leb-true x.0 1 p.1) (eqb x.0 0) refl x.3
     where
-      in_bump : (k : ℕ) → get_or s at 0 ≡ 1 → at < length s → varint s (at + 1) ≡ ok k q → k < bumps → InBump k ≡ a → (at ≤ q) × (q ≤ length s) × (drop at s ≡ anchor_bytes a ++ drop q s)
+      in_bump : (k : ℕ) → get_or s at 0 ≡ 1 → at < length s → varint s (at + 1) ≡ ok k q → k < bumps → Some k ≡ a → (at ≤ q) × (q ≤ length s) × (drop at s ≡ anchor_bytes a ++ drop q s)
       in_bump k mark inside v below is =
           let y = small-told (at + 1) v (omega arith) in
           let z = varint-told s (at + 1) v in (
@@ -136,14 +135,14 @@ module _ (s : List ℕ) where
           )
 
       chosen : (mark next : ℕ) → at < length s → get_or s at 0 ≡ mark → next ≡ at + 1 → mark ≤ 1 → (t : Bool) → eqb mark 0 ≡ t
-          → pick t (pure Unanchored) (given InBump (varint passing (λ n. ltb n bumps) else BAD_INDEX)) s next ≡ ok a q → (at ≤ q) × (q ≤ length s) × (drop at s ≡ anchor_bytes a ++ drop q s)
+          → pick t (pure None) (given Some (varint passing (λ n. ltb n bumps) else BAD_INDEX)) s next ≡ ok a q → (at ≤ q) × (q ≤ length s) × (drop at s ≡ anchor_bytes a ++ drop q s)
       chosen mark next inside m n low true t f =
-          let is : Unanchored ≡ a = cc in
+          let is : None ≡ a = cc in
           let end : next ≡ q = cc in
           let after : at + 1 ≡ q = omega arith in
           (omega arith, omega arith, rw (← is, ← after) (byte-rest at 0 inside (m ∙ eqb-true mark 0 t)))
       chosen mark next inside m n low false t f =
-          let y = each-ok InBump ((varint passing (λ n. ltb n bumps) else BAD_INDEX) s next) f in
+          let y = each-ok Some ((varint passing (λ n. ltb n bumps) else BAD_INDEX) s next) f in
           let p = passing_told varint (λ n. ltb n bumps) BAD_INDEX s next y.1 in
           let one : mark ≡ 1 = (let z = eqb-false mark 0 t in omega arith) in
           in_bump y.0 (m ∙ one) inside (ap (varint s) (sym n) ∙ p.0) (ltb-true _ _ p.1) y.2

@@ -9,13 +9,14 @@ use lib.Dec.{ltb, eqb}
 use lib.ListN.{length, get_or, take}
 use borrow.Author.Tests.{lt-ltb, le-ltb, eqb-true, eqb-false, eq-eqb, ne_eqb, not-true, not-false}
 use Rattle.format.specs.Parse.{pick}
+use Rattle.std.specs.Prelude.{Ok, Err}
 use Rattle.format.specs.Refusals.{SPENT_TWICE, TOO_LITTLE}
 use Rattle.spv.specs.Result.{accepted, refused, carrying, blaming}
 use Rattle.bundle.specs.Amounts.{Payment, passes, refuses, fresh, spends, enough}
 use Rattle.bundle.specs.Payments.{no_payment}
 use Rattle.bundle.proofs.AmountBounds.{enough-code}
 use Rattle.bundle.specs.FlatForm.{column}
-use Rattle.bundle.specs.Pass.{fault_of, is_enough, Settles}
+use Rattle.bundle.specs.Pass.{amounts_of, is_enough, Settles}
 use Rattle.bundle.specs.Second.{second, fault_in}
 use Rattle.bundle.proofs.SecondLaws.{fault_at, fault-end, fault-here, fault_on}
 
@@ -60,13 +61,13 @@ module _ (numbers sums : List ℕ) (fee n first : ℕ) where
   clear-start l w = (omega arith, ap (λ (m : ℕ). fault_in (second fee) m [] l) (sym w.count ∙ sym (sub-zero (length l))))
 
   module _ {k : ℕ} (clear : Clear k) where
-    pub clear-end : n ≤ k → (l : List Payment) → Settles numbers sums fee n first l → fault_of (record { number = 0; entry = 0 }) ≡ fault_in (second fee) n [] l
-    unfolding fault_of
+    pub clear-end : n ≤ k → (l : List Payment) → Settles numbers sums fee n first l → amounts_of (Ok tt) ≡ fault_in (second fee) n [] l
+    unfolding amounts_of
     clear-end h l w = sym ((clear l w).1 ∙ fault-end (second fee) l k (omega (arith, h, w.count)))
 
     module _ (low : k < n) where
-      pub clear-again : k ≡ first → (l : List Payment) → Settles numbers sums fee n first l → fault_of (record { number = SPENT_TWICE; entry = k }) ≡ fault_in (second fee) n [] l
-      unfolding fault_of
+      pub clear-again : k ≡ first → (l : List Payment) → Settles numbers sums fee n first l → amounts_of (Err (blaming k (carrying SPENT_TWICE 0))) ≡ fault_in (second fee) n [] l
+      unfolding amounts_of
       clear-again is l w =
           let x = w.again (omega arith) in
           let at : second fee (take k l) (get_or l k no_payment) ≡ refuses SPENT_TWICE = stands-again fee (take k l) (get_or l k no_payment) (rw (← is) at x.0) (rw (← is) at x.1) in
@@ -87,8 +88,8 @@ module _ (numbers sums : List ℕ) (fee n first : ℕ) where
             strictly : k ≤ first → k < first
             strictly q = omega arith
 
-        pub clear-little : not r ≡ true → (l : List Payment) → Settles numbers sums fee n first l → fault_of (record { number = TOO_LITTLE; entry = k }) ≡ fault_in (second fee) n [] l
-        unfolding fault_of is_enough
+        pub clear-little : not r ≡ true → (l : List Payment) → Settles numbers sums fee n first l → amounts_of (Err (blaming k (carrying TOO_LITTLE 0))) ≡ fault_in (second fee) n [] l
+        unfolding amounts_of is_enough
         clear-little no_more l w = go (eqb (column numbers 3 k) 0) refl
           where
             go : (b : Bool) → eqb (column numbers 3 k) 0 ≡ b → refused (blaming k (carrying TOO_LITTLE 0)) ≡ fault_in (second fee) n [] l

@@ -6,22 +6,18 @@ use mathlib.Core.List.{List, [], ◌∷◌, ◌++◌, map}
 use native.Mathlib.Omega.{arith}
 use lib.ListN.{length, get_or, get_or-map}
 use lib.Dec.{ltb, eqb}
+use Rattle.std.specs.Prelude.{Option, None, Ok, Err, Some}
 use Rattle.hash.specs.Sha256.{sha256d}
 use Rattle.format.specs.declared.leaf.Kind.{Kind}
 use Rattle.format.specs.declared.leaf.Kind.TheVariants.{Plain, Copy, Client}
 use Rattle.format.specs.declared.leaf.Leaf.{Leaf}
 use Rattle.format.specs.declared.transaction.Input.{Input}
-use Rattle.format.specs.declared.beef.Anchor.{Anchor}
-use Rattle.format.specs.declared.beef.Anchor.TheVariants.{Unanchored, Bump as InBump}
-use Rattle.path.specs.declared.path.Found.TheVariants.{Here}
 use Rattle.format.specs.Parse.{pick}
 use Rattle.path.specs.Search.{lookup, carries}
 use Rattle.format.specs.Bump.{Bump}
 use Rattle.format.specs.Transaction.{Transaction}
 use Rattle.format.specs.Beef.{BeefEntry, Beef}
 use Rattle.format.specs.Refusals.{SAME_TX, NO_PARENT, UNTRUSTED, NO_OUTPUT, SPENT_TWICE, TOO_LITTLE}
-use Rattle.bundle.specs.declared.judge.Ruling.{Ruling}
-use Rattle.bundle.specs.declared.judge.Ruling.TheVariants.{Refuses, Passes}
 use Rattle.bundle.specs.declared.table.Record.{Record}
 use Rattle.spv.specs.Result.{Result, accepted, refused, carrying}
 use Rattle.spv.specs.Climb.{Sibling}
@@ -32,7 +28,8 @@ use Rattle.spv.specs.Readings.{levels_reading}
 use Rattle.spv.proofs.Surplus.{carried_at, surplus}
 use Rattle.format.specs.Id.{txid}
 use Rattle.spv.specs.Hashes.{hashes_of, among}
-use Rattle.bundle.specs.Bundle.{rests, trusted, proving, nth_bump, entry_id, ruling_of, anchoring, ruling, entry_row, Judgement, ahead, judge_from, judge_entries}
+use Rattle.bundle.specs.declared.judge.Standing.{Standing}
+use Rattle.bundle.specs.Bundle.{rests, trusted, proving, nth_bump, entry_id, ruling_of, anchoring, ruling, entry_row, Judgement, ahead, judge_from, judge_entries, Ruling, standing}
 use Rattle.bundle.proofs.BundleLaws.{from_refuses, from_passes}
 use Rattle.bundle.proofs.BundleTheorems.{empty_entry}
 use Rattle.bundle.proofs.RereadBundle.{leaf_said, bump_said, TxSaid, tx_said}
@@ -77,7 +74,7 @@ module _ (s t : List ℕ) where
       rw offset (go (eqb y.offset q) (ap (λ (z : ℕ × Sibling). z.1) first) (lookup-same q l m rest))
     where
       go : (b : Bool) → written s x.kind ≡ written t y.kind → sibling s (lookup q l) ≡ sibling t (lookup q m)
-          → sibling s (pick b (Here x.kind) (lookup q l)) ≡ sibling t (pick b (Here y.kind) (lookup q m))
+          → sibling s (pick b (Some x.kind) (lookup q l)) ≡ sibling t (pick b (Some y.kind) (lookup q m))
       go true h r = h
       go false h r = r
 
@@ -123,9 +120,9 @@ module _ (s t : List ℕ) where
 unfoldable pub past : ℕ → ℕ → ℕ
 past m n = pick (ltb n m) n (n + 1)
 
-unfoldable pub renumbered : ℕ → Anchor → Anchor
-renumbered m (InBump n) = InBump (past m n)
-renumbered m Unanchored = Unanchored
+unfoldable pub renumbered : ℕ → Option ℕ → Option ℕ
+renumbered m (Some n) = Some (past m n)
+renumbered m None = None
 
 -- what a record says of an anchor: the number of a BUMP only where it is anchored
 abbrev number_of : ℕ → ℕ → ℕ → ℕ
@@ -140,19 +137,22 @@ unfoldable pub each_record : (Record → Record) → Judgement → Judgement
 each_record f (refused why) = refused why
 each_record f (accepted records) = accepted (map f records)
 
+abbrev renumbered_standing : ℕ → Standing → Standing
+renumbered_standing m st = standing st.anchored (number_of m st.anchored st.bump) st.position
+
 unfoldable still_stands : ℕ → Ruling → Ruling
-still_stands m (Refuses why) = Refuses why
-still_stands m (Passes a n i) = Passes a (number_of m a n) i
+still_stands m (Err why) = Err why
+still_stands m (Ok st) = Ok (renumbered_standing m st)
 
 -- two transactions that stand alike
 record Like {A B K : Type 0} (m : ℕ) (f : Record → Record) (id : A → K) (id' : B → K) (stands : List K → A → Ruling) (stands' : List K → B → Ruling)
-    (row : A → ℕ → ℕ → ℕ → Record) (row' : B → ℕ → ℕ → ℕ → Record) (x : A) (y : B) : Type 0 where
+    (row : A → Standing → Record) (row' : B → Standing → Record) (x : A) (y : B) : Type 0 where
   ids : id x ≡ id' y
   rulings : (earlier : List K) → stands' earlier y ≡ still_stands m (stands earlier x)
-  rows : (a n i : ℕ) → row' y a (number_of m a n) i ≡ f (row x a n i)
+  rows : (st : Standing) → row' y (renumbered_standing m st) ≡ f (row x st)
 
 module _ {A B K : Type 0} (m : ℕ) (f : Record → Record) (id : A → K) (id' : B → K) (stands : List K → A → Ruling) (stands' : List K → B → Ruling)
-    (row : A → ℕ → ℕ → ℕ → Record) (row' : B → ℕ → ℕ → ℕ → Record) (d : A) (d' : B) where
+    (row : A → Standing → Record) (row' : B → Standing → Record) (d : A) (d' : B) where
   each-ahead : (r : Record) (j : Judgement) → ahead (f r) (each_record f j) ≡ each_record f (ahead r j)
   unfolding ahead each_record
   each-ahead r (refused why) = refl
@@ -171,15 +171,15 @@ module _ {A B K : Type 0} (m : ℕ) (f : Record → Record) (id : A → K) (id' 
       go : Like m f id id' stands stands' row row' x y → (v : Ruling) → stands earlier x ≡ v
           → judge_from id' stands' row' (earlier ++ (id x ∷ [])) l' ≡ each_record f (judge_from id stands row (earlier ++ (id x ∷ [])) l)
           → judge_from id' stands' row' earlier (y ∷ l') ≡ each_record f (judge_from id stands row earlier (x ∷ l))
-      go z (Refuses why) h rest =
+      go z (Err why) h rest =
           from_refuses id' stands' row' earlier y l' why (z.rulings earlier ∙ ap (still_stands m) h)
           ∙ sym (ap (each_record f) (from_refuses id stands row earlier x l why h))
-      go z (Passes a n i) h rest =
-          from_passes id' stands' row' earlier y l' a (number_of m a n) i (z.rulings earlier ∙ ap (still_stands m) h)
-          ∙ ap₂ (λ (r : Record) (c : K). ahead r (judge_from id' stands' row' (earlier ++ (c ∷ [])) l')) (z.rows a n i) (sym z.ids)
-          ∙ ap (ahead (f (row x a n i))) rest
-          ∙ each-ahead (row x a n i) (judge_from id stands row (earlier ++ (id x ∷ [])) l)
-          ∙ sym (ap (each_record f) (from_passes id stands row earlier x l a n i h))
+      go z (Ok st) h rest =
+          from_passes id' stands' row' earlier y l' (renumbered_standing m st) (z.rulings earlier ∙ ap (still_stands m) h)
+          ∙ ap₂ (λ (r : Record) (c : K). ahead r (judge_from id' stands' row' (earlier ++ (c ∷ [])) l')) (z.rows st) (sym z.ids)
+          ∙ ap (ahead (f (row x st))) rest
+          ∙ each-ahead (row x st) (judge_from id stands row (earlier ++ (id x ∷ [])) l)
+          ∙ sym (ap (each_record f) (from_passes id stands row earlier x l st h))
 
 abbrev pub entry_at : Beef → ℕ → BeefEntry
 entry_at b k = get_or b.entries k empty_entry
@@ -191,7 +191,7 @@ pub record OneMore (s t : List ℕ) (m d : ℕ) (b c : Beef) : Type 0 where
   pub transactions : (k : ℕ) → k < length b.entries → tx_said s (entry_at b k).transaction ≡ tx_said t (entry_at c k).transaction
   pub starts : (k : ℕ) → k < length b.entries → (entry_at c k).transaction.start ≡ (entry_at b k).transaction.start + d
   pub anchors : (k : ℕ) → k < length b.entries → (entry_at c k).anchor ≡ renumbered m (entry_at b k).anchor
-  pub below : (k n : ℕ) → k < length b.entries → (entry_at b k).anchor ≡ InBump n → n < length b.bumps
+  pub below : (k n : ℕ) → k < length b.entries → (entry_at b k).anchor ≡ Some n → n < length b.bumps
 
 module _ (s t roots : List ℕ) (fee m d : ℕ) (b c : Beef) (more : OneMore s t m d b c) where
   trusted_still : (n : ℕ) (v : Result Proof) → trusted roots (past m n) v ≡ still_stands m (trusted roots n v)
@@ -199,7 +199,7 @@ module _ (s t roots : List ℕ) (fee m d : ℕ) (b c : Beef) (more : OneMore s t
   trusted_still n (refused why) = refl
   trusted_still n (accepted p) = go (among p.root (hashes_of roots))
     where
-      go : (x : Bool) → pick x (Passes 1 (past m n) p.position) (Refuses (carrying UNTRUSTED 0)) ≡ still_stands m (pick x (Passes 1 n p.position) (Refuses (carrying UNTRUSTED 0)))
+      go : (x : Bool) → pick x (Ok (standing 1 (past m n) p.position)) (Err (carrying UNTRUSTED 0)) ≡ still_stands m (pick x (Ok (standing 1 n p.position)) (Err (carrying UNTRUSTED 0)))
       go true = refl
       go false = refl
 
@@ -207,22 +207,22 @@ module _ (s t roots : List ℕ) (fee m d : ℕ) (b c : Beef) (more : OneMore s t
     same_id : entry_id s (entry_at b k) ≡ entry_id t (entry_at c k)
     same_id = id_same s t (entry_at b k).transaction (entry_at c k).transaction (more.transactions k low)
 
-    same-anchored : (a : Anchor) → is_anchored a ≡ is_anchored (renumbered m a)
+    same-anchored : (a : Option ℕ) → is_anchored a ≡ is_anchored (renumbered m a)
     unfolding renumbered
-    same-anchored (InBump n) = refl
-    same-anchored Unanchored = refl
+    same-anchored (Some n) = refl
+    same-anchored None = refl
 
     same_payment : payment_of s (entry_at b k) ≡ payment_of t (entry_at c k)
     same_payment = payment_same s t (entry_at b k) (entry_at c k) (more.transactions k low) (same-anchored (entry_at b k).anchor ∙ ap is_anchored (sym (more.anchors k low)))
 
-    anchoring_still : (earlier : List Payment) (a : Anchor) → (entry_at b k).anchor ≡ a
+    anchoring_still : (earlier : List Payment) (a : Option ℕ) → (entry_at b k).anchor ≡ a
         → anchoring t roots fee c.bumps earlier (entry_at c k) (renumbered m a) ≡ still_stands m (anchoring s roots fee b.bumps earlier (entry_at b k) a)
     unfolding anchoring renumbered still_stands
-    anchoring_still earlier (InBump n) h =
+    anchoring_still earlier (Some n) h =
         ap (trusted roots (past m n)) (ap (proving t (nth_bump c.bumps (past m n))) (sym same_id) ∙ sym (proving-same s t (nth_bump b.bumps n) (nth_bump c.bumps (past m n)) (entry_id s (entry_at b k)) (more.bumps n (more.below k n low h))))
         ∙ trusted_still n (proving s (nth_bump b.bumps n) (entry_id s (entry_at b k)))
-    anchoring_still earlier Unanchored h =
-        ap₂ (λ (x : Bool) (y : Payment). pick x (ruling_of (funded fee earlier y)) (Refuses (carrying NO_PARENT 0)))
+    anchoring_still earlier None h =
+        ap₂ (λ (x : Bool) (y : Payment). pick x (ruling_of (funded fee earlier y)) (Err (carrying NO_PARENT 0)))
         (sym (rests-same s t (ids_of earlier) (entry_at b k).transaction.inputs (entry_at c k).transaction.inputs (ap (λ (z : TxSaid). z.2) (more.transactions k low)))) (sym same_payment)
         ∙ go (rests s (ids_of earlier) (entry_at b k).transaction.inputs)
       where
@@ -232,24 +232,24 @@ module _ (s t roots : List ℕ) (fee m d : ℕ) (b c : Beef) (more : OneMore s t
         funds true false z = refl
         funds false y z = refl
 
-        go : (x : Bool) → pick x (ruling_of (funded fee earlier (payment_of s (entry_at b k)))) (Refuses (carrying NO_PARENT 0)) ≡ still_stands m (pick x (ruling_of (funded fee earlier (payment_of s (entry_at b k)))) (Refuses (carrying NO_PARENT 0)))
+        go : (x : Bool) → pick x (ruling_of (funded fee earlier (payment_of s (entry_at b k)))) (Err (carrying NO_PARENT 0)) ≡ still_stands m (pick x (ruling_of (funded fee earlier (payment_of s (entry_at b k)))) (Err (carrying NO_PARENT 0)))
         go true = unfold funded in funds (exist earlier (payment_of s (entry_at b k)).inputs) (fresh (spends earlier) (payment_of s (entry_at b k)).inputs) (enough fee earlier (payment_of s (entry_at b k)))
         go false = refl
 
     still_stands_lem : (earlier : List Payment) → ruling t roots fee c.bumps earlier (entry_at c k) ≡ still_stands m (ruling s roots fee b.bumps earlier (entry_at b k))
     unfolding ruling still_stands
     still_stands_lem earlier =
-        ap₂ (λ (x : List ℕ) (a : Anchor). pick (among x (ids_of earlier)) (Refuses (carrying SAME_TX 0)) (anchoring t roots fee c.bumps earlier (entry_at c k) a)) (sym same_id) (more.anchors k low)
-        ∙ ap (pick (among (entry_id s (entry_at b k)) (ids_of earlier)) (Refuses (carrying SAME_TX 0))) (anchoring_still earlier (entry_at b k).anchor refl)
+        ap₂ (λ (x : List ℕ) (a : Option ℕ). pick (among x (ids_of earlier)) (Err (carrying SAME_TX 0)) (anchoring t roots fee c.bumps earlier (entry_at c k) a)) (sym same_id) (more.anchors k low)
+        ∙ ap (pick (among (entry_id s (entry_at b k)) (ids_of earlier)) (Err (carrying SAME_TX 0))) (anchoring_still earlier (entry_at b k).anchor refl)
         ∙ go (among (entry_id s (entry_at b k)) (ids_of earlier)) (anchoring s roots fee b.bumps earlier (entry_at b k) (entry_at b k).anchor)
       where
-        go : (x : Bool) (v : Ruling) → pick x (Refuses (carrying SAME_TX 0)) (still_stands m v) ≡ still_stands m (pick x (Refuses (carrying SAME_TX 0)) v)
+        go : (x : Bool) (v : Ruling) → pick x (Err (carrying SAME_TX 0)) (still_stands m v) ≡ still_stands m (pick x (Err (carrying SAME_TX 0)) v)
         go true v = refl
         go false v = refl
 
-    same_row : (a n i : ℕ) → entry_row t (entry_at c k) a (number_of m a n) i ≡ later m d (entry_row s (entry_at b k) a n i)
+    same_row : (st : Standing) → entry_row t (entry_at c k) (renumbered_standing m st) ≡ later m d (entry_row s (entry_at b k) st)
     unfolding entry_row later
-    same_row a n i = rw (← same_id, ← ap (λ (z : TxSaid). z.0) (more.transactions k low), ← ap (λ (z : TxSaid). z.3) (more.transactions k low), more.starts k low)
+    same_row st = rw (← same_id, ← ap (λ (z : TxSaid). z.0) (more.transactions k low), ← ap (λ (z : TxSaid). z.3) (more.transactions k low), more.starts k low)
 
   pub one_more : judge_entries t roots fee c ≡ each_record (later m d) (judge_entries s roots fee b)
   unfolding judge_entries

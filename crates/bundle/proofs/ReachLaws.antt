@@ -25,9 +25,8 @@ use Rattle.bundle.proofs.PassLaws.{spender_empty, marks_start, marks_in_lem, Fir
 use Rattle.bundle.proofs.PicturedLaws.{spent-is, exist_head, take_count}
 use Rattle.bundle.proofs.SecondLaws.{there-all, numbers-low, fresh-is, sum-is-worth, spender_is}
 use Rattle.spv.specs.Result.{accepted}
-use Rattle.bundle.specs.declared.pass.Fault.{Fault}
 use Rattle.bundle.specs.Second.{second, fault_in}
-use Rattle.bundle.specs.Pass.{fault_of, Judged, Counts, Firsts, lists_of, spender_of, Reached, Ends, Settles, WINDOW, Blank}
+use Rattle.bundle.specs.Pass.{amounts_of, Judged, Counts, Firsts, lists_of, spender_of, Reached, Ends, Settles, WINDOW, Blank, Checked}
 use Rattle.bundle.specs.Pictured.{Pictured}
 
 drop_all : {A : Type 0} (l : List A) (k : ℕ) → length l ≤ k → drop k l ≡ []
@@ -295,8 +294,8 @@ take_whole l n e = take_all n l (omega arith)
 
 -- ---- the whole pass
 
-module _ (s ids numbers : List ℕ) (fee n : ℕ) (r : Fault) where
-  module _ (none : fault_of r ≡ accepted tt) where
+module _ (s ids numbers : List ℕ) (fee n : ℕ) (r : Checked) where
+  module _ (none : amounts_of r ≡ accepted tt) where
     pub judged-none : n < 1 → Judged s ids numbers fee n r
     unfolding fault_in
     judged-none h l e p = let z : n ≡ 0 = omega arith in none ∙ ap (λ (k : ℕ). fault_in (second fee) k [] l) (sym z)
@@ -309,7 +308,7 @@ module _ (s ids numbers : List ℕ) (fee n : ℕ) (r : Fault) where
 
   pub judged_by : (firsts sums₀ sums : List ℕ) (first : ℕ) → ((l : List Payment) → length l ≡ n → Counts numbers l → Firsts firsts l) → Blank 256 sums₀
       → ((l : List Payment) → length l ≡ n → Pictured s ids numbers l → Firsts firsts l → get_or firsts n 0 ≡ output_count l → Blank 256 sums₀ → Ends l first sums)
-      → ((l : List Payment) → Settles numbers sums fee n first l → fault_of r ≡ fault_in (second fee) n [] l) → Judged s ids numbers fee n r
+      → ((l : List Payment) → Settles numbers sums fee n first l → amounts_of r ≡ fault_in (second fee) n [] l) → Judged s ids numbers fee n r
   judged_by firsts sums₀ sums first starts blank ends found l e p =
       let f = starts l e (p.counted.outputs, p.count_low) in
       let all : get_or firsts n 0 ≡ output_count l = f n (omega arith) ∙ ap output_count (take_whole l n e) in

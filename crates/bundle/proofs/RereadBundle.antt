@@ -6,10 +6,10 @@ use mathlib.Core.List.{List, [], ◌∷◌, ◌++◌, map, map-id}
 use native.Mathlib.Omega.{arith}
 use lib.ListN.{length, take, drop}
 use lib.Dec.{ltb, leb, eqb}
+use Rattle.std.specs.Prelude.{Option, Some, None}
 use Rattle.format.specs.declared.level.Layout.{Layout}
 use Rattle.format.specs.declared.leaf.Kind.TheVariants.{Plain, Copy, Client}
 use Rattle.format.specs.declared.leaf.Leaf.{Leaf}
-use Rattle.format.specs.declared.beef.Anchor.{Anchor}
 use Rattle.format.specs.Parse.{Reader, ok, ◌passing◌else◌, times}
 use Rattle.format.specs.Bytes.{hash_at}
 use Rattle.format.specs.Field.{bytes, byte, le4, le8, number, varint}
@@ -39,7 +39,7 @@ TxSaid = ℕ × List ℕ × List Outpoint × List ℕ
 abbrev pub tx_said : List ℕ → Transaction → TxSaid
 tx_said s x = (x.end - x.start, take (x.end - x.start) (drop x.start s), map (outpoint_of s) x.inputs, x.outputs)
 
-abbrev pub entry_said : List ℕ → BeefEntry → TxSaid × Anchor
+abbrev pub entry_said : List ℕ → BeefEntry → TxSaid × Option ℕ
 entry_said s e = (tx_said s e.transaction, e.anchor)
 
 module _ {u t : List ℕ} {base : ℕ} (stands : StandsIn u t base) where
@@ -186,8 +186,8 @@ module _ {u t : List ℕ} {base : ℕ} (stands : StandsIn u t base) where
   unfolding anchor_field bump_number_field
   anchor-again bumps =
       then_same (passing_again byte byte (λ b. leb b 1) (λ b. leb b 1) BAD_FLAG BAD_FLAG (byte-again stands) (λ x. refl))
-      (λ mark. pick-again (eqb mark 0) (pure-again Anchor.Unanchored Anchor.Unanchored (λ x. x) (λ x. x) refl)
-      (given-again Anchor.Bump Anchor.Bump (λ x. x) (λ x. x) (passing_again varint varint (λ n. ltb n bumps) (λ n. ltb n bumps) BAD_INDEX BAD_INDEX (varint-again stands) (λ x. refl)) (λ a b e. ap Anchor.Bump e)))
+      (λ mark. pick-again (eqb mark 0) (pure-again None None (λ x. x) (λ x. x) refl)
+      (given-again Some Some (λ x. x) (λ x. x) (passing_again varint varint (λ n. ltb n bumps) (λ n. ltb n bumps) BAD_INDEX BAD_INDEX (varint-again stands) (λ x. refl)) (λ a b e. ap Some e)))
 
   pub entry_again : (bumps : ℕ) → Same (entry_field bumps) (entry_field bumps) (entry_said u) (entry_said t)
   unfolding entry_field

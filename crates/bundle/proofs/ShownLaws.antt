@@ -8,14 +8,15 @@ use native.Mathlib.Nat.{sub-zero}
 use lib.Dec.{eqb}
 use lib.ListN.{length, get_or, take, drop, length-map, length-take}
 use lib.Seq.{get_or-take, take-take, length-take-le, ext_get_or}
-use borrow.Author.Tests.{eqb-true, eqb-false, eq-eqb, ne_eqb, not-true, not-false}
+use borrow.Author.Tests.{eqb-true, eqb-false, not-true, not-false}
 use Rattle.format.specs.Parse.{pick}
+use Rattle.std.specs.Prelude.{Option, Some, None, Ok, Err}
+use Rattle.spv.specs.declared.rejection.Rejection.{Rejection}
 use Rattle.format.specs.Refusals.{NO_OUTPUT}
 use Rattle.spv.specs.Result.{accepted, refused, carrying, blaming}
 use Rattle.spv.specs.Hashes.{hashes_of, Distinct}
 use Rattle.spv.proofs.HashesLaws.{hashes-at, taken-length}
 use Rattle.spv.proofs.RowsLaws.{map_at}
-use Rattle.bundle.specs.declared.pass.Fault.{Fault}
 use Rattle.bundle.specs.Amounts.{Payment, AmountRuling, passes, refuses, ids_of, exist, fresh, spends, enough, funded, amounts}
 use Rattle.bundle.specs.Payments.{no_payment, Different}
 use Rattle.bundle.specs.FlatForm.{column, inputs_of, exist_from}
@@ -24,8 +25,8 @@ use Rattle.bundle.specs.Walks.{Counted}
 use Rattle.bundle.proofs.PicturedLaws.{take_count}
 use Rattle.bundle.specs.Second.{second, fault_in}
 use Rattle.bundle.proofs.SecondLaws.{take-map, fault-refuses, fault-passes, fault_at, fault-end, fault-here}
-use Rattle.bundle.specs.Pass.{fault_of, Judged}
-use Rattle.bundle.specs.Shown.{Shown, FirstMissing, Answers}
+use Rattle.bundle.specs.Pass.{amounts_of, Judged, Checked}
+use Rattle.bundle.specs.Shown.{Shown, FirstMissing, Missing, Answers}
 use Rattle.bundle.specs.Pictured.{Pictured}
 
 -- ---- the first m of them
@@ -186,43 +187,35 @@ fault-taken {A = A} rule (suc n) earlier (x ∷ l) = ap (λ (f : AmountRuling). 
 
 -- ---- the answer
 
-no_fault-is : (f : Fault) → (f.number ≡ 0) → fault_of f ≡ accepted tt
-unfolding fault_of
-no_fault-is f e = rw (eq-eqb f.number 0 e)
-
-fault-refused : (f : Fault) → (f.number ≡ 0 → ⊥) → fault_of f ≡ refused (blaming f.entry (carrying f.number 0))
-unfolding fault_of
-fault-refused f e = rw (ne_eqb f.number 0 e)
-
 module _ (s ids numbers : List ℕ) (fee n : ℕ) where
-  pub answers-many : (r : Fault) → 256 < n → Answers s ids numbers fee n r
+  pub answers-many : (r : Checked) → 256 < n → Answers s ids numbers fee n r
   answers-many r h l size w = absurd (omega (arith, h, size, w.counted.few))
 
-  pub answers_short : (r : Fault) → length numbers < 10 * n → Answers s ids numbers fee n r
+  pub answers_short : (r : Checked) → length numbers < 10 * n → Answers s ids numbers fee n r
   answers_short r h l size w = absurd (omega (arith, h, size, w.counted.long))
 
-  pub answers-narrow : (r : Fault) → length ids < 32 * n → Answers s ids numbers fee n r
+  pub answers-narrow : (r : Checked) → length ids < 32 * n → Answers s ids numbers fee n r
   answers-narrow r h l size w = absurd (omega (arith, h, size, w.wide))
 
-  module _ (m : ℕ) (few : m ≤ n) (first : (l : List Payment) → length l ≡ n → Shown s ids numbers l → FirstMissing l m) (f : Fault) (judged : Judged s (take (32 * m) ids) numbers fee m f) where
-    in_turn : (l : List Payment) → length l ≡ n → Shown s ids numbers l → fault_in (amounts fee) n [] l ≡ or_else (fault_of f) (fault_at (amounts fee) l m)
+  module _ (m : ℕ) (few : m ≤ n) (first : (l : List Payment) → length l ≡ n → Shown s ids numbers l → FirstMissing l m) (f : Checked) (judged : Judged s (take (32 * m) ids) numbers fee m f) where
+    in_turn : (l : List Payment) → length l ≡ n → Shown s ids numbers l → fault_in (amounts fee) n [] l ≡ or_else (amounts_of f) (fault_at (amounts fee) l m)
     in_turn l size w =
         let low : m ≤ length l = omega arith in
         let x = first l size w in
         in_front (amounts fee) (second fee) m n [] l few (sym size) (λ k g. amounts-there fee (take k l) (get_or l k no_payment) (x.there k g))
         ∙ ap₂ or_else (fault-taken (second fee) m [] l ∙ sym (judged (take m l) (length-take-le m l low) (pictured s ids numbers l w m low x))) (ap (λ (k : ℕ). fault_in (amounts fee) (k - m) (take m l) (drop m l)) (sym size))
 
-    pub answers-fault : (f.number ≡ 0 → ⊥) → Answers s ids numbers fee n f
-    unfolding or_else
-    answers-fault ne l size w = sym (in_turn l size w ∙ ap (λ (t : AmountRuling). or_else t (fault_at (amounts fee) l m)) (fault-refused f ne) ∙ sym (fault-refused f ne))
+    pub answers-fault : {why : Rejection} → f ≡ Err why → Answers s ids numbers fee n (Err why)
+    unfolding or_else amounts_of
+    answers-fault e l size w = sym (in_turn l size w ∙ ap (λ (t : Checked). or_else (amounts_of t) (fault_at (amounts fee) l m)) e)
 
-    module _ (none : f.number ≡ 0) where
+    module _ {u : Unit {0}} (none : f ≡ Ok u) where
       rest : (l : List Payment) → length l ≡ n → Shown s ids numbers l → fault_in (amounts fee) n [] l ≡ fault_at (amounts fee) l m
-      unfolding or_else
-      rest l size w = in_turn l size w ∙ ap (λ (t : AmountRuling). or_else t (fault_at (amounts fee) l m)) (no_fault-is f none)
+      unfolding or_else amounts_of
+      rest l size w = in_turn l size w ∙ ap (λ (t : Checked). or_else (amounts_of t) (fault_at (amounts fee) l m)) none
 
-      pub answers-missing : m < n → Answers s ids numbers fee n (record { number = NO_OUTPUT; entry = m })
-      unfolding fault_of
+      pub answers-missing : m < n → Answers s ids numbers fee n (Err (blaming m (carrying NO_OUTPUT 0)))
+      unfolding amounts_of
       answers-missing low l size w =
           let x = (first l size w).missing (omega arith) in
           sym (rest l size w ∙ fault-here (amounts fee) l m (omega arith) (carrying NO_OUTPUT 0) (amounts-missing fee (take m l) (get_or l m no_payment) x.0 x.1))
@@ -233,10 +226,19 @@ module _ (s ids numbers : List ℕ) (fee n : ℕ) where
   or_none (accepted u) = refl
 
   -- where none is missing 27 and 28 are all there is
-  pub answers-all : (m : ℕ) → m ≤ n → ((l : List Payment) → length l ≡ n → Shown s ids numbers l → FirstMissing l m) → n ≤ m → (f : Fault) → Judged s (take (32 * n) ids) numbers fee n f → Answers s ids numbers fee n f
-  answers-all m few first past f judged l size w =
-      let same : m ≡ n = omega arith in
-      sym (in_turn n (omega arith) (λ l size w. subst (λ (k : ℕ). FirstMissing l k) same (first l size w)) f judged l size w ∙ ap (or_else (fault_of f)) (fault-end (amounts fee) l n (omega arith)) ∙ or_none (fault_of f))
+  pub answers-all : ((l : List Payment) → length l ≡ n → Shown s ids numbers l → FirstMissing l n) → (f : Checked) → Judged s (take (32 * n) ids) numbers fee n f → Answers s ids numbers fee n f
+  answers-all first f judged l size w =
+      sym (in_turn n (omega arith) first f judged l size w ∙ ap (or_else (amounts_of f)) (fault-end (amounts fee) l n (omega arith)) ∙ or_none (amounts_of f))
+
+-- what the answer for the first that is missing says
+module _ (s ids numbers : List ℕ) (n : ℕ) {r : Option ℕ} (told : (l : List Payment) → length l ≡ n → Shown s ids numbers l → Missing l n r) where
+  pub missing-some : {m : ℕ} → r ≡ Some m → (l : List Payment) → length l ≡ n → Shown s ids numbers l → FirstMissing l m
+  unfolding Missing
+  missing-some e l size w = let x = told l size w in rw e at x
+
+  pub missing-none : r ≡ None → (l : List Payment) → length l ≡ n → Shown s ids numbers l → FirstMissing l n
+  unfolding Missing
+  missing-none e l size w = let x = told l size w in rw e at x
 
 -- ---- a loop for 26: those below k pass
 

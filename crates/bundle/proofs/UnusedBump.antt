@@ -8,8 +8,7 @@ use lib.ListN.{length, get_or, take, length-append, length-map, get_or-append}
 use lib.Seq.{get_or-append-add}
 use lib.Dec.{ltb, eqb}
 use borrow.Author.Tests.{le-leb, ltb-true, ltb-false}
-use Rattle.format.specs.declared.beef.Anchor.{Anchor}
-use Rattle.format.specs.declared.beef.Anchor.TheVariants.{Unanchored, Bump as InBump}
+use Rattle.std.specs.Prelude.{Option, None, Some}
 use Rattle.format.specs.Parse.{ok, pick}
 use Rattle.format.specs.Bump.{Bump, bump_field}
 use Rattle.format.specs.Beef.{Beef, beef_whole}
@@ -59,10 +58,10 @@ chained_more (w ∷ before) after x =
     let e = chained_more before after x in
     omega (arith, length-append w (chained (before ++ x ∷ after)), length-append w (chained (before ++ after)))
 
-same_width : (m : ℕ) (a : Anchor) → length (anchor_bytes (renumbered m a)) ≡ length (anchor_bytes a)
+same_width : (m : ℕ) (a : Option ℕ) → length (anchor_bytes (renumbered m a)) ≡ length (anchor_bytes a)
 unfolding anchor_bytes renumbered
-same_width m (InBump n) = refl
-same_width m Unanchored = refl
+same_width m (Some n) = refl
+same_width m None = refl
 
 same_place : (m : ℕ) (parts : List Part) (k : ℕ) → place_of (map part_bytes (map (renumbered_part m) parts)) k ≡ place_of (map part_bytes parts) k
 unfolding chained
@@ -99,14 +98,14 @@ module _ (room : ℕ) (before after : List (List ℕ)) (extra count : List ℕ) 
   moved_at : (k : ℕ) → k < length parts → get_or moved k no_part ≡ renumbered_part m (get_or parts k no_part)
   moved_at k h = map_at (renumbered_part m) parts k no_part no_part h
 
-  past-below : (a : Anchor) (n k : ℕ) → ((i : ℕ) → a ≡ InBump i → i < k) → renumbered m a ≡ InBump n → n < suc k
+  past-below : (a : Option ℕ) (n k : ℕ) → ((i : ℕ) → a ≡ Some i → i < k) → renumbered m a ≡ Some n → n < suc k
   unfolding renumbered past
-  past-below (InBump i) n k f e = go (ltb i m) (f i refl) e
+  past-below (Some i) n k f e = go (ltb i m) (f i refl) e
     where
-      go : (t : Bool) → i < k → InBump (pick t i (i + 1)) ≡ InBump n → n < suc k
+      go : (t : Bool) → i < k → Some (pick t i (i + 1)) ≡ Some n → n < suc k
       go true h e = let is : i ≡ n = cc in omega arith
       go false h e = let is : i + 1 ≡ n = cc in omega arith
-  past-below Unanchored n k f e = absurd (let z : ◌≡◌ {A = ℕ} 0 1 = cc in omega arith)
+  past-below None n k f e = absurd (let z : ◌≡◌ {A = ℕ} 0 1 = cc in omega arith)
 
   module _ (p : Parts room (before ++ after) count parts) (encode_all : Spells bump_field extra x) (few : length (before ++ after) < MAX_BUMPS) (size : length (bundle_bytes more count moved) ≤ MAX_INPUT) where
     more_parts : Parts room more count moved
@@ -164,7 +163,7 @@ module _ (room : ℕ) (before after : List (List ℕ)) (extra count : List ℕ) 
           let x = p.transaction k low in
           let a = one.part k x.0 low x.1 in
           let b = two.part k x.0 (omega (arith, length-map parts (renumbered_part m))) in
-          ap (λ (z : TxSaid × Anchor). (z.0, renumbered m z.1)) (sym a) ∙ (rw (moved_at k low) at b) x.1
+          ap (λ (z : TxSaid × Option ℕ). (z.0, renumbered m z.1)) (sym a) ∙ (rw (moved_at k low) at b) x.1
 
     alike : OneMore s t m (length extra) one.bundle two.bundle
     alike =
@@ -174,12 +173,12 @@ module _ (room : ℕ) (before after : List (List ℕ)) (extra count : List ℕ) 
         record {
           bumps = bumps-alike;
           count = omega arith;
-          transactions = λ k h. ap (λ (z : TxSaid × Anchor). z.0) (parts-alike k (omega arith));
+          transactions = λ k h. ap (λ (z : TxSaid × Option ℕ). z.0) (parts-alike k (omega arith));
           starts = λ k h. let low : k < length parts = omega arith in
               let a = one.start k low in
               let b = two.start k (omega arith) in
               omega (arith, chained_more before after extra, same_place m parts k);
-          anchors = λ k h. sym (ap (λ (z : TxSaid × Anchor). z.1) (parts-alike k (omega arith)));
+          anchors = λ k h. sym (ap (λ (z : TxSaid × Option ℕ). z.1) (parts-alike k (omega arith)));
           below = λ k n h e. ((beef-told room s one.read).entry k empty_entry h).anchored n e;
         }
 

@@ -1,17 +1,14 @@
 -- The count of hash work fits (02, Item 11): fewer than 2 ^ 32 compressions for any input.
 use Prim.Native.Nat.{ℕ, zero, suc, ◌+◌, ◌-◌, ◌*◌, ◌%◌, ◌≤◌, ◌<◌}
 use native.Mathlib.Omega.{arith}
+use Rattle.std.specs.Prelude.{Option, Some, None}
 use mathlib.Core.Path.{◌≡◌, refl, ap, subst}
 use mathlib.Core.Bool.{Bool, true, false}
 use mathlib.Core.List.{List, [], ◌∷◌}
 use lib.Dec.{leb, eqb}
 use lib.ListN.{length, get_or}
-use Rattle.format.specs.declared.beef.Anchor.{Anchor}
-use Rattle.format.specs.declared.beef.Anchor.TheVariants.{Unanchored, Bump as InBump}
 use Rattle.format.specs.declared.level.Layout.{Layout}
 use Rattle.format.specs.declared.leaf.Leaf.{Leaf}
-use Rattle.path.specs.declared.path.Start.{Start}
-use Rattle.path.specs.declared.path.Start.TheVariants.{At, Nowhere}
 use Rattle.format.specs.Parse.{Parse, ok, fault, pick, many, each}
 use Rattle.format.proofs.ParseLaws.{many-told}
 use Rattle.path.specs.Search.{least_offset}
@@ -57,10 +54,10 @@ leaves-few levels f (suc n) = omega (arith, f n, leaves-few levels f n)
 abbrev CLIMB_MOST : ℕ
 CLIMB_MOST = 65600
 
-start_fits : (s : List ℕ) (levels : List (List Leaf)) (h : ℕ) (id : List ℕ) (x : Start) → h + leaves_in levels h ≤ CLIMB_MOST → start_cost (written_by s (find_in levels)) h id x ≤ CLIMB_MOST
+start_fits : (s : List ℕ) (levels : List (List Leaf)) (h : ℕ) (id : List ℕ) (x : Option ℕ) → h + leaves_in levels h ≤ CLIMB_MOST → start_cost (written_by s (find_in levels)) h id x ≤ CLIMB_MOST
 unfolding start_cost
-start_fits s levels h id (At i) f = omega (arith, climb_leaves s levels h i id)
-start_fits s levels h id Nowhere f = omega arith
+start_fits s levels h id (Some i) f = omega (arith, climb_leaves s levels h i id)
+start_fits s levels h id None f = omega arith
 
 module _ (room : ℕ) (s : List ℕ) (b : Beef) (read : BeefRead room s b) where
   bump-fits : (n : ℕ) → n < length b.bumps → (nth_bump b.bumps n).height + leaves_in (nth_bump b.bumps n).levels (nth_bump b.bumps n).height ≤ CLIMB_MOST
@@ -74,10 +71,10 @@ module _ (room : ℕ) (s : List ℕ) (b : Beef) (read : BeefRead room s b) where
   unfolding ruling_cost anchor_cost bump_cost
   entry_fits earlier e r = go (among (entry_id s e) (ids_of earlier)) e.anchor refl
     where
-      go : (t : Bool) (x : Anchor) → e.anchor ≡ x → pick t 0 (anchor_cost s b.bumps (entry_id s e) x) ≤ CLIMB_MOST
+      go : (t : Bool) (x : Option ℕ) → e.anchor ≡ x → pick t 0 (anchor_cost s b.bumps (entry_id s e) x) ≤ CLIMB_MOST
       go true x f = omega arith
-      go false (InBump n) f = start_fits s (nth_bump b.bumps n).levels (nth_bump b.bumps n).height (entry_id s e) (least_offset s (entry_id s e) (get_or (nth_bump b.bumps n).levels 0 [])) (bump-fits n (r.anchored n f))
-      go false Unanchored f = omega arith
+      go false (Some n) f = start_fits s (nth_bump b.bumps n).levels (nth_bump b.bumps n).height (entry_id s e) (least_offset s (entry_id s e) (get_or (nth_bump b.bumps n).levels 0 [])) (bump-fits n (r.anchored n f))
+      go false None f = omega arith
 
   id_fits : (e : BeefEntry) → EntryRead (length b.bumps) s e → id_work (e.transaction.end - e.transaction.start) ≤ 262146
   unfolding id_work

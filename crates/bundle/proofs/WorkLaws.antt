@@ -6,10 +6,6 @@ use mathlib.Core.Bool.{Bool, true, false}
 use mathlib.Core.List.{List, [], ◌∷◌, ◌++◌}
 use lib.Dec.{leb, eqb}
 use lib.ListN.{length, get_or}
-use Rattle.format.specs.declared.beef.Anchor.{Anchor}
-use Rattle.format.specs.declared.beef.Anchor.TheVariants.{Unanchored, Bump as InBump}
-use Rattle.path.specs.declared.path.Start.{Start}
-use Rattle.path.specs.declared.path.Start.TheVariants.{At, Nowhere}
 use Rattle.format.specs.Parse.{Parse, ok, fault, pick}
 use Rattle.path.specs.Search.{least_offset}
 use Rattle.format.specs.Bump.{Bump}
@@ -23,9 +19,8 @@ use Rattle.spv.specs.Siblings.{written_by, find_in, level_siblings}
 use Rattle.spv.specs.Values.{worked_out}
 use Rattle.spv.specs.Hashes.{among}
 use Rattle.bundle.specs.declared.table.Record.{Record}
-use Rattle.bundle.specs.declared.judge.Ruling.{Ruling}
-use Rattle.bundle.specs.declared.judge.Ruling.TheVariants.{Refuses, Passes}
-use Rattle.bundle.specs.Bundle.{nth_bump, entry_id, proving, anchoring, ruling, entry_row, Judgement, ahead, judge_from, judge_entries, judge_read, judge_beef, judge_up_to}
+use Rattle.bundle.specs.declared.judge.Standing.{Standing}
+use Rattle.bundle.specs.Bundle.{nth_bump, entry_id, proving, anchoring, ruling, entry_row, Judgement, ahead, judge_from, judge_entries, judge_read, judge_beef, judge_up_to, Ruling}
 use Rattle.bundle.proofs.BundleLaws.{from_refuses, from_passes}
 use Rattle.bundle.proofs.BundleTheorems.{empty_entry, trusted-told}
 use Rattle.climbs.specs.Count.{start_cost}
@@ -34,20 +29,21 @@ use Rattle.climbs.proofs.CountLaws.{written_most, written_exact}
 use Rattle.bundle.specs.Amounts.{Payment, payment_of, ids_of}
 use Rattle.bundle.specs.Work.{JOIN, sum_of, ids_work, bump_cost, anchor_cost, ruling_cost, cost_from, entries_work, read_work, judge_work}
 use Rattle.spv.specs.Prove.{Proof, settle, proof_of, prove, prove_by, hits, any}
+use Rattle.std.specs.Prelude.{Ok, Err, Option, Some, None}
 
 -- ---- all siblings written
 
 -- the layers of an anchored transaction's climb
 unfoldable pub layers_of : List Bump → BeefEntry → ℕ
-layers_of bumps e = elim e.anchor [ InBump n ↦ (nth_bump bumps n).height | Unanchored ↦ 0 ]
+layers_of bumps e = elim e.anchor [ Some n ↦ (nth_bump bumps n).height | None ↦ 0 ]
 
-unfoldable pub StartWritten : Siblings → ℕ → Start → Type 0
-StartWritten w h (At i) = AllWritten w 0 h i
-StartWritten w h Nowhere = Unit
+unfoldable pub StartWritten : Siblings → ℕ → Option ℕ → Type 0
+StartWritten w h (Some i) = AllWritten w 0 h i
+StartWritten w h None = Unit
 
-unfoldable pub AnchorWritten : List ℕ → List Bump → List ℕ → Anchor → Type 0
-AnchorWritten s bumps id (InBump n) = StartWritten (written_by s (find_in (nth_bump bumps n).levels)) (nth_bump bumps n).height (least_offset s id (get_or (nth_bump bumps n).levels 0 []))
-AnchorWritten s bumps id Unanchored = Unit
+unfoldable pub AnchorWritten : List ℕ → List Bump → List ℕ → Option ℕ → Type 0
+AnchorWritten s bumps id (Some n) = StartWritten (written_by s (find_in (nth_bump bumps n).levels)) (nth_bump bumps n).height (least_offset s id (get_or (nth_bump bumps n).levels 0 []))
+AnchorWritten s bumps id None = Unit
 
 -- each sibling of each anchored transaction's climb is written
 unfoldable pub SiblingsWritten : List ℕ → Beef → Type 0
@@ -59,22 +55,22 @@ written_work b = ids_work b.entries + JOIN * sum_of (layers_of b.bumps) b.entrie
 
 -- ---- one climb
 
-start_most : (w : Siblings) (h : ℕ) (id : List ℕ) (x : Start) → StartWritten w h x → start_cost w h id x ≤ h
+start_most : (w : Siblings) (h : ℕ) (id : List ℕ) (x : Option ℕ) → StartWritten w h x → start_cost w h id x ≤ h
 unfolding StartWritten start_cost
-start_most w h id (At i) f = written_most w 0 h i id f
-start_most w h id Nowhere f = omega arith
+start_most w h id (Some i) f = written_most w 0 h i id f
+start_most w h id None f = omega arith
 
 settle-told : (f : List ℕ → Proof) (r : Result (List ℕ)) (p : Proof) → settle any f r ≡ accepted p → (x : List ℕ) × (r ≡ accepted x)
 unfolding settle hits
 settle-told f (accepted x) p e = (x, refl)
 settle-told f (refused why) p e = absurd (let z : ◌≡◌ {A = ℕ} 0 1 = cc in omega arith)
 
-start_exact : (w : Siblings) (h : ℕ) (id : List ℕ) (x : Start) (p : Proof) → StartWritten w h x → prove (starting (worked_out w) h id x) ≡ accepted p → start_cost w h id x ≡ h
+start_exact : (w : Siblings) (h : ℕ) (id : List ℕ) (x : Option ℕ) (p : Proof) → StartWritten w h x → prove (starting (worked_out w) h id x) ≡ accepted p → start_cost w h id x ≡ h
 unfolding StartWritten start_cost starting prove_by
-start_exact w h id (At i) p f e =
+start_exact w h id (Some i) p f e =
     let y = settle-told (proof_of (worked_out w) h i id) (end_of id (ascend (worked_out w) 0 h i id)) p e in
     written_exact w 0 h i id y.0 f y.1
-start_exact w h id Nowhere p f e = absurd (let z : ◌≡◌ {A = ℕ} 0 1 = cc in omega arith)
+start_exact w h id None p f e = absurd (let z : ◌≡◌ {A = ℕ} 0 1 = cc in omega arith)
 
 -- ---- one transaction
 
@@ -83,23 +79,23 @@ module _ (s roots : List ℕ) (fee : ℕ) (bumps : List Bump) (earlier : List Pa
   unfolding ruling_cost layers_of anchor_cost AnchorWritten bump_cost
   entry_most f = go (among (entry_id s e) (ids_of earlier)) e.anchor f
     where
-      go : (t : Bool) (x : Anchor) → AnchorWritten s bumps (entry_id s e) x
-          → pick t 0 (anchor_cost s bumps (entry_id s e) x) ≤ elim x [ InBump n ↦ (nth_bump bumps n).height | Unanchored ↦ 0 ]
+      go : (t : Bool) (x : Option ℕ) → AnchorWritten s bumps (entry_id s e) x
+          → pick t 0 (anchor_cost s bumps (entry_id s e) x) ≤ elim x [ Some n ↦ (nth_bump bumps n).height | None ↦ 0 ]
       go true x g = omega arith
-      go false (InBump n) g = start_most (written_by s (find_in (nth_bump bumps n).levels)) (nth_bump bumps n).height (entry_id s e) (least_offset s (entry_id s e) (get_or (nth_bump bumps n).levels 0 [])) g
-      go false Unanchored g = omega arith
+      go false (Some n) g = start_most (written_by s (find_in (nth_bump bumps n).levels)) (nth_bump bumps n).height (entry_id s e) (least_offset s (entry_id s e) (get_or (nth_bump bumps n).levels 0 [])) g
+      go false None g = omega arith
 
-  entry_exact : (a n i : ℕ) → AnchorWritten s bumps (entry_id s e) e.anchor → ruling s roots fee bumps earlier e ≡ Passes a n i → ruling_cost s bumps earlier e ≡ layers_of bumps e
+  entry_exact : (st : Standing) → AnchorWritten s bumps (entry_id s e) e.anchor → ruling s roots fee bumps earlier e ≡ Ok st → ruling_cost s bumps earlier e ≡ layers_of bumps e
   unfolding ruling anchoring ruling_cost layers_of anchor_cost AnchorWritten bump_cost proving levels_reading level_siblings
-  entry_exact a n i f h = go (among (entry_id s e) (ids_of earlier)) e.anchor f h
+  entry_exact st f h = go (among (entry_id s e) (ids_of earlier)) e.anchor f h
     where
-      go : (t : Bool) (x : Anchor) → AnchorWritten s bumps (entry_id s e) x → pick t (Refuses (carrying SAME_TX 0)) (anchoring s roots fee bumps earlier e x) ≡ Passes a n i
-          → pick t 0 (anchor_cost s bumps (entry_id s e) x) ≡ elim x [ InBump n ↦ (nth_bump bumps n).height | Unanchored ↦ 0 ]
+      go : (t : Bool) (x : Option ℕ) → AnchorWritten s bumps (entry_id s e) x → pick t (Err (carrying SAME_TX 0)) (anchoring s roots fee bumps earlier e x) ≡ Ok st
+          → pick t 0 (anchor_cost s bumps (entry_id s e) x) ≡ elim x [ Some n ↦ (nth_bump bumps n).height | None ↦ 0 ]
       go true x g q = absurd (let z : ◌≡◌ {A = ℕ} 0 1 = cc in omega arith)
-      go false (InBump m) g q =
-          let y = trusted-told roots m (proving s (nth_bump bumps m) (entry_id s e)) a n i q in
+      go false (Some m) g q =
+          let y = trusted-told roots m (proving s (nth_bump bumps m) (entry_id s e)) st q in
           start_exact (written_by s (find_in (nth_bump bumps m).levels)) (nth_bump bumps m).height (entry_id s e) (least_offset s (entry_id s e) (get_or (nth_bump bumps m).levels 0 [])) y.0 g y.1
-      go false Unanchored g q = refl
+      go false None g q = refl
 
 -- ---- all transactions
 
@@ -120,43 +116,43 @@ module _ {A B : Type 0} (known : A → B) (stands : List B → A → Ruling) (co
   from_most earlier (x ∷ l) f = go (stands earlier x) (f 0 (omega arith) earlier) (from_most (earlier ++ (known x ∷ [])) l (λ k h. f (suc k) (omega arith)))
     where
       go : (t : Ruling) → cost earlier x ≤ most x → cost_from known stands cost (earlier ++ (known x ∷ [])) l ≤ sum_of most l
-          → cost earlier x + elim t [ Refuses why ↦ 0 | Passes a n i ↦ cost_from known stands cost (earlier ++ (known x ∷ [])) l ] ≤ most x + sum_of most l
-      go (Refuses why) a b = omega arith
-      go (Passes u n i) a b = omega arith
+          → cost earlier x + elim t [ Err why ↦ 0 | Ok t ↦ cost_from known stands cost (earlier ++ (known x ∷ [])) l ] ≤ most x + sum_of most l
+      go (Err why) a b = omega arith
+      go (Ok st) a b = omega arith
 
-  module _ (row : A → ℕ → ℕ → ℕ → Record) where
+  module _ (row : A → Standing → Record) where
     ahead-accepted : (r : Record) (j : Judgement) {records : List Record} → ahead r j ≡ accepted records → (rest : List Record) × (j ≡ accepted rest)
     unfolding ahead
     ahead-accepted r (refused why) e = absurd (let x : ◌≡◌ {A = ℕ} 0 1 = cc in omega arith)
     ahead-accepted r (accepted l) e = (l, refl)
 
     from_exact : (earlier : List B) (l : List A) (records : List Record) → judge_from known stands row earlier l ≡ accepted records
-        → ((k : ℕ) → k < length l → (before : List B) (a n i : ℕ) → stands before (get_or l k d) ≡ Passes a n i → cost before (get_or l k d) ≡ most (get_or l k d)) → cost_from known stands cost earlier l ≡ sum_of most l
+        → ((k : ℕ) → k < length l → (before : List B) (st : Standing) → stands before (get_or l k d) ≡ Ok st → cost before (get_or l k d) ≡ most (get_or l k d)) → cost_from known stands cost earlier l ≡ sum_of most l
     unfolding cost_from sum_of
     from_exact earlier [] records e f = refl
     from_exact earlier (x ∷ l) records e f = go (stands earlier x) refl (f 0 (omega arith) earlier) (λ r h. from_exact (earlier ++ (known x ∷ [])) l r h (λ k b. f (suc k) (omega arith)))
       where
-        go : (t : Ruling) → stands earlier x ≡ t → ((a n i : ℕ) → stands earlier x ≡ Passes a n i → cost earlier x ≡ most x)
+        go : (t : Ruling) → stands earlier x ≡ t → ((st : Standing) → stands earlier x ≡ Ok st → cost earlier x ≡ most x)
             → ((r : List Record) → judge_from known stands row (earlier ++ (known x ∷ [])) l ≡ accepted r → cost_from known stands cost (earlier ++ (known x ∷ [])) l ≡ sum_of most l)
-            → cost earlier x + elim t [ Refuses why ↦ 0 | Passes a n i ↦ cost_from known stands cost (earlier ++ (known x ∷ [])) l ] ≡ most x + sum_of most l
-        go (Refuses why) h a b = let q = from_refuses known stands row earlier x l why h in absurd (let z : ◌≡◌ {A = ℕ} 0 1 = cc in omega arith)
-        go (Passes u n i) h a b =
-            let y = ahead-accepted (row x u n i) (judge_from known stands row (earlier ++ (known x ∷ [])) l) (sym (from_passes known stands row earlier x l u n i h) ∙ e) in
-            omega (arith, a u n i h, b y.0 y.1)
+            → cost earlier x + elim t [ Err why ↦ 0 | Ok t ↦ cost_from known stands cost (earlier ++ (known x ∷ [])) l ] ≡ most x + sum_of most l
+        go (Err why) h a b = let q = from_refuses known stands row earlier x l why h in absurd (let z : ◌≡◌ {A = ℕ} 0 1 = cc in omega arith)
+        go (Ok st) h a b =
+            let y = ahead-accepted (row x st) (judge_from known stands row (earlier ++ (known x ∷ [])) l) (sym (from_passes known stands row earlier x l st h) ∙ e) in
+            omega (arith, a st h, b y.0 y.1)
 
 -- ---- turn by turn, as a loop makes them
 
 module _ {A B : Type 0} (known : A → B) (stands : List B → A → Ruling) (cost : List B → A → ℕ) (earlier : List B) (x : A) (l : List A) where
   unfoldable after : Ruling → ℕ
-  after t = cost earlier x + elim t [ Refuses why ↦ 0 | Passes a n i ↦ cost_from known stands cost (earlier ++ (known x ∷ [])) l ]
+  after t = cost earlier x + elim t [ Err why ↦ 0 | Ok t ↦ cost_from known stands cost (earlier ++ (known x ∷ [])) l ]
 
-  pub cost_refuses : (why : Rejection) → stands earlier x ≡ Refuses why → cost_from known stands cost earlier (x ∷ l) ≡ cost earlier x
+  pub cost_refuses : (why : Rejection) → stands earlier x ≡ Err why → cost_from known stands cost earlier (x ∷ l) ≡ cost earlier x
   unfolding cost_from after
   cost_refuses why e = ap after e ∙ omega arith
 
-  pub cost_passes : (a n i : ℕ) → stands earlier x ≡ Passes a n i → cost_from known stands cost earlier (x ∷ l) ≡ cost earlier x + cost_from known stands cost (earlier ++ (known x ∷ [])) l
+  pub cost_passes : (st : Standing) → stands earlier x ≡ Ok st → cost_from known stands cost earlier (x ∷ l) ≡ cost earlier x + cost_from known stands cost (earlier ++ (known x ∷ [])) l
   unfolding cost_from after
-  cost_passes a n i e = ap after e
+  cost_passes st e = ap after e
 
 -- ---- the bundle
 
@@ -167,7 +163,7 @@ module _ (s roots : List ℕ) (fee : ℕ) (b : Beef) (all : SiblingsWritten s b)
   entries_exact records e =
       ap (λ (n : ℕ). ids_work b.entries + JOIN * n)
       (from_exact (payment_of s) (ruling s roots fee b.bumps) (ruling_cost s b.bumps) (layers_of b.bumps) empty_entry (entry_row s) [] b.entries records e
-      (λ k h ids a n i p. entry_exact s roots fee b.bumps ids (get_or b.entries k empty_entry) a n i (all k h) p))
+      (λ k h ids st p. entry_exact s roots fee b.bumps ids (get_or b.entries k empty_entry) st (all k h) p))
 
   -- "and a refusal in judging no more than that"
   entries_most : entries_work s roots fee b ≤ written_work b

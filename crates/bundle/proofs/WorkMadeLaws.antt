@@ -17,12 +17,13 @@ use Rattle.lanes.specs.Lanes as L
 use Rattle.bundle.specs.Windows.{sum_to}
 use Rattle.bundle.specs.declared.ids.NamedSpan.{NamedSpan}
 use Rattle.bundle.specs.declared.ids.Spans.{Spans}
-use Rattle.bundle.specs.declared.judge.Verdict.{Verdict}
-use Rattle.bundle.specs.declared.judge.Verdict.TheVariants.{Accepted, Refused}
 use Rattle.bundle.specs.Ahead.{span, span_at, ReachesFour, Onward}
 use Rattle.bundle.specs.Anchored.{joins_at}
 use Rattle.bundle.specs.Work.{id_work}
 use Rattle.bundle.specs.WorkMade.{span_work, work_below, group_work, ids_made, kept_joins, climbs_before, climbs_made}
+use Rattle.std.specs.Prelude.{Ok, Err, Option}
+use Rattle.format.specs.declared.field.Cursor.{Cursor}
+use Rattle.bundle.specs.Bundle.{Verdict}
 
 -- ---- one id
 
@@ -103,10 +104,10 @@ below_all f n (suc i) h = go (leb n i) refl (below_all f n i)
 -- ---- ids four at a time
 
 module _ (count : ℕ) (s : List ℕ) (at n i : ℕ) where
-  pub made_four : (p q : ℕ) (more onward : Bool) (x : Spans) {work g : ℕ} → work ≡ sum_to (λ k. work_below n k (span_at count s at k)) i → g ≡ group_work n i x → Onward count s at i p more → ReachesFour count s p more x q onward
+  pub made_four : (from next : Option Cursor) (x : Spans) {work g : ℕ} → work ≡ sum_to (λ k. work_below n k (span_at count s at k)) i → g ≡ group_work n i x → Onward count s at i from → ReachesFour count s from x next
       → work + g ≡ sum_to (λ k. work_below n k (span_at count s at k)) (i + 4)
   unfolding group_work Onward span L.in_lane
-  made_four p q more onward x {work} {g} e h o r =
+  made_four from next x {work} {g} e h o r =
       let is : (l : ℕ) → l < 4 → span l x ≡ span_at count s at (i + l) = λ l b. r.0 l b ∙ o l in
       let n0 : i + 0 ≡ i = omega arith in
       sum-four (λ k. work_below n k (span_at count s at k)) i work g (work_below n i x.a) (work_below n (i + 1) x.b) (work_below n (i + 2) x.c) (work_below n (i + 3) x.d) e h
@@ -149,11 +150,11 @@ module _ (why : Rejection) (n : ℕ) where
     before_own e = rw (lt-ltb why.carried n low, ne_eqb why.number SAME_TX e)
 
 module _ {v : Verdict} (n : ℕ) where
-  pub made_accepted : {m : ℕ} → v ≡ Accepted m → climbs_made v n ≡ n
+  pub made_accepted : {m : ℕ} → v ≡ Ok m → climbs_made v n ≡ n
   unfolding climbs_made
   made_accepted e = rw e
 
-  pub made_refused : {why : Rejection} → v ≡ Refused why → climbs_made v n ≡ climbs_before why n
+  pub made_refused : {why : Rejection} → v ≡ Err why → climbs_made v n ≡ climbs_before why n
   unfolding climbs_made
   made_refused e = rw e
 

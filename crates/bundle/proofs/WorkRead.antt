@@ -12,10 +12,8 @@ use borrow.Author.Tests.{lt-leb, le-leb, eq-eqb, ne_eqb, ltb-true, ltb-false, eq
 use Rattle.hash.specs.Sha256.{sha256d}
 use Rattle.format.specs.declared.bump.BumpHead.{BumpHead}
 use Rattle.format.specs.declared.refusal.ReadRefusal.{ReadRefusal}
-use Rattle.format.specs.declared.beef.BeefHead.{BeefHead}
+use Rattle.format.specs.declared.beef.Bundle.{Bundle}
 use Rattle.format.specs.declared.beef.EntryHead.{EntryHead}
-use Rattle.format.specs.declared.beef.Anchor.{Anchor}
-use Rattle.format.specs.declared.beef.Anchor.TheVariants.{Unanchored, Bump as InBump}
 use Rattle.format.specs.Parse.{Parse, ok, fault, pick, each}
 use Rattle.format.proofs.ParseLaws.{each-ok, each-fault}
 use Rattle.format.specs.Bump.{head_of}
@@ -23,13 +21,11 @@ use Rattle.format.proofs.BumpLaws.{bump-told}
 use Rattle.format.specs.Padded.{padded}
 use Rattle.format.proofs.Gather.{padded-at}
 use Rattle.format.specs.Beef.{BeefEntry, Beef, beef_whole}
-use Rattle.format.specs.BeefAnswer.{no_bump, entry_head_of, first_at, beef_head_of, heads_of}
-use Rattle.format.proofs.BeefLaws.{BeefRead, beef-told, heads_read}
+use Rattle.format.specs.BeefAnswer.{no_bump, entry_head_of, first_at, bundle_of}
+use Rattle.format.proofs.BeefLaws.{BeefRead, beef-told}
 use Rattle.format.proofs.TransactionLaws.{tx_told}
 use Rattle.format.proofs.IdLaws.{tx_hash}
-use Rattle.format.specs.Refusals.{MAX_BUMPS, MAX_INPUT, SAME_TX, NOT_LISTED, UNTRUSTED}
-use Rattle.path.specs.declared.path.Start.{Start}
-use Rattle.path.specs.declared.path.Start.TheVariants.{At, Nowhere}
+use Rattle.format.specs.Refusals.{MAX_BUMPS, MAX_INPUT, SAME_TX, NOT_LISTED, UNTRUSTED, refusal_number}
 use Rattle.path.specs.Path.{bump_path_of, bump_path, leaf_in, start_in}
 use Rattle.path.specs.Search.{least_offset}
 use Rattle.path.proofs.PathLaws.{bump-start_in}
@@ -49,11 +45,8 @@ use Rattle.bundle.specs.Amounts.{Payment, payment_of, ids_of}
 use Rattle.bundle.specs.Windows.{sum_to}
 use Rattle.bundle.specs.declared.table.Record.{Record}
 use Rattle.bundle.specs.declared.ids.NamedSpan.{NamedSpan}
-use Rattle.bundle.specs.declared.judge.Ruling.{Ruling}
-use Rattle.bundle.specs.declared.judge.Ruling.TheVariants.{Refuses, Passes}
-use Rattle.bundle.specs.declared.judge.Verdict.{Verdict}
-use Rattle.bundle.specs.declared.judge.Verdict.TheVariants.{Accepted, Refused}
-use Rattle.bundle.specs.Bundle.{trusted, proving, nth_bump, empty_bump, entry_id, anchoring, ruling, entry_row, Judgement, ahead, judge_from, judge_entries, judge_read, judge_beef, judge_up_to}
+use Rattle.bundle.specs.declared.judge.Standing.{Standing}
+use Rattle.bundle.specs.Bundle.{trusted, proving, nth_bump, empty_bump, entry_id, anchoring, ruling, entry_row, Judgement, ahead, judge_from, judge_entries, judge_read, judge_beef, judge_up_to, Ruling, standing, Verdict}
 use Rattle.bundle.proofs.BundleLaws.{from_refuses, from_passes, accepted-length}
 use Rattle.bundle.proofs.BundleTheorems.{empty_entry}
 use Rattle.bundle.specs.BundleHeads.{head_id, heads_from, no_head}
@@ -72,6 +65,7 @@ use Rattle.bundle.proofs.WorkFits.{entry_fits}
 use Rattle.bundle.specs.WorkMade.{span_work, ids_made, kept_joins, climbs_before, climbs_made}
 use Rattle.bundle.proofs.WorkMadeLaws.{span-counted, sum_below, kept-none, kept-some, before-past, before-again, before_own}
 use Rattle.spv.specs.Prove.{hits, settle, proof_of, prove_by, prove, any}
+use Rattle.std.specs.Prelude.{Ok, Err, Option, Some, None}
 
 -- ---- climbs up to a refusal, by the judgement
 
@@ -85,9 +79,9 @@ unfolding own_climb ahead
 own_ahead r (refused why) = refl
 own_ahead r (accepted l) = refl
 
-module _ {A B : Type 0} (known : A → B) (stands : List B → A → Ruling) (row : A → ℕ → ℕ → ℕ → Record) (cost : List B → A → ℕ) (plain : A → ℕ)
-    (passing : (earlier : List B) (x : A) (a n i : ℕ) → stands earlier x ≡ Passes a n i → cost earlier x ≡ plain x)
-    (refusing : (earlier : List B) (x : A) (why : Rejection) → stands earlier x ≡ Refuses why → cost earlier x ≡ pick (eqb why.number SAME_TX) 0 (plain x)) where
+module _ {A B : Type 0} (known : A → B) (stands : List B → A → Ruling) (row : A → Standing → Record) (cost : List B → A → ℕ) (plain : A → ℕ)
+    (passing : (earlier : List B) (x : A) (st : Standing) → stands earlier x ≡ Ok st → cost earlier x ≡ plain x)
+    (refusing : (earlier : List B) (x : A) (why : Rejection) → stands earlier x ≡ Err why → cost earlier x ≡ pick (eqb why.number SAME_TX) 0 (plain x)) where
   pub from_cost : (earlier : List B) (l : List A) → cost_from known stands cost earlier l ≡ sum_of plain (take (pass_count known stands earlier l + own_climb (judge_from known stands row earlier l)) l)
   unfolding cost_from sum_of pass_count judge_from own_climb
   from_cost earlier [] = refl
@@ -100,18 +94,18 @@ module _ {A B : Type 0} (known : A → B) (stands : List B → A → Ruling) (ro
       go : (t : Ruling) → stands earlier x ≡ t
           → cost_from known stands cost (earlier ++ (known x ∷ [])) l ≡ sum_of plain (take (pass_count known stands (earlier ++ (known x ∷ [])) l + own_climb (judge_from known stands row (earlier ++ (known x ∷ [])) l)) l)
           → cost_from known stands cost earlier (x ∷ l) ≡ sum_of plain (take (pass_count known stands earlier (x ∷ l) + own_climb (judge_from known stands row earlier (x ∷ l))) (x ∷ l))
-      go (Refuses why) e rest =
+      go (Err why) e rest =
           let none : pass_count known stands earlier (x ∷ l) ≡ 0 = rw (pass_count, e) in
           cost_refuses known stands cost earlier x l why e ∙ refusing earlier x why e ∙ alone (eqb why.number SAME_TX)
           ∙ sym (ap (λ (n : ℕ). sum_of plain (take (n + own_climb (judge_from known stands row earlier (x ∷ l))) (x ∷ l))) none
           ∙ ap (λ (j : Judgement). sum_of plain (take (0 + own_climb j) (x ∷ l))) (from_refuses known stands row earlier x l why e))
-      go (Passes a n i) e rest =
+      go (Ok st) e rest =
           let J : Judgement = judge_from known stands row (earlier ++ (known x ∷ [])) l in
           let P : ℕ = pass_count known stands (earlier ++ (known x ∷ [])) l in
           let more : pass_count known stands earlier (x ∷ l) ≡ suc P = rw (pass_count, e) in
-          let own : own_climb (judge_from known stands row earlier (x ∷ l)) ≡ own_climb J = ap own_climb (from_passes known stands row earlier x l a n i e) ∙ own_ahead (row x a n i) J in
+          let own : own_climb (judge_from known stands row earlier (x ∷ l)) ≡ own_climb J = ap own_climb (from_passes known stands row earlier x l st e) ∙ own_ahead (row x st) J in
           let count : pass_count known stands earlier (x ∷ l) + own_climb (judge_from known stands row earlier (x ∷ l)) ≡ suc (P + own_climb J) = omega arith in
-          cost_passes known stands cost earlier x l a n i e ∙ ap (λ (n : ℕ). n + cost_from known stands cost (earlier ++ (known x ∷ [])) l) (passing earlier x a n i e)
+          cost_passes known stands cost earlier x l st e ∙ ap (λ (n : ℕ). n + cost_from known stands cost (earlier ++ (known x ∷ [])) l) (passing earlier x st e)
           ∙ ap (λ (n : ℕ). plain x + n) rest
           ∙ sym (ap (λ (m : ℕ). sum_of plain (take m (x ∷ l))) count)
 
@@ -130,16 +124,16 @@ end-number σ k (suc n) j c why e = go (step (σ k (sibling_position j)) (odd j)
         let m = fails-number (σ k (sibling_position j)) (odd j) c number q in
         λ z. omega arith
 
-start-number : (roots : List ℕ) (bump : ℕ) (σ : Siblings) (h : ℕ) (id : List ℕ) (start : Start) (why : Rejection) → trusted roots bump (prove (starting σ h id start)) ≡ Refuses why → (why.number ≡ SAME_TX → ⊥)
+start-number : (roots : List ℕ) (bump : ℕ) (σ : Siblings) (h : ℕ) (id : List ℕ) (start : Option ℕ) (why : Rejection) → trusted roots bump (prove (starting σ h id start)) ≡ Err why → (why.number ≡ SAME_TX → ⊥)
 unfolding starting prove_by settle hits trusted
-start-number roots bump σ h id Nowhere why e = let y : NOT_LISTED ≡ why.number = cc in λ z. omega arith
-start-number roots bump σ h id (At i) why e = go (end_of id (ascend σ 0 h i id)) refl e
+start-number roots bump σ h id None why e = let y : NOT_LISTED ≡ why.number = cc in λ z. omega arith
+start-number roots bump σ h id (Some i) why e = go (end_of id (ascend σ 0 h i id)) refl e
   where
-    listed : (t : Bool) (p : ℕ) → pick t (Passes 1 bump p) (Refuses (carrying UNTRUSTED 0)) ≡ Refuses why → (why.number ≡ SAME_TX → ⊥)
+    listed : (t : Bool) (p : ℕ) → pick t (Ok (standing 1 bump p)) (Err (carrying UNTRUSTED 0)) ≡ Err why → (why.number ≡ SAME_TX → ⊥)
     listed true p q = let z : ◌≡◌ {A = ℕ} 0 1 = cc in absurd (omega arith)
     listed false p q = let y : UNTRUSTED ≡ why.number = cc in λ z. omega arith
 
-    go : (v : Result (List ℕ)) → end_of id (ascend σ 0 h i id) ≡ v → trusted roots bump (settle any (proof_of σ h i id) v) ≡ Refuses why → (why.number ≡ SAME_TX → ⊥)
+    go : (v : Result (List ℕ)) → end_of id (ascend σ 0 h i id) ≡ v → trusted roots bump (settle any (proof_of σ h i id) v) ≡ Err why → (why.number ≡ SAME_TX → ⊥)
     go (accepted r) f q = listed (among r (hashes_of roots)) i q
     go (refused x) f q = let y : x ≡ why = cc in end-number σ 0 h i id why (f ∙ ap refused y)
 
@@ -148,15 +142,15 @@ module _ (s roots : List ℕ) (fee : ℕ) (b : Beef) where
   abbrev plain : BeefEntry → ℕ
   plain e = anchor_cost s b.bumps (entry_id s e) e.anchor
 
-  passing : (earlier : List Payment) (e : BeefEntry) (a n i : ℕ) → ruling s roots fee b.bumps earlier e ≡ Passes a n i → ruling_cost s b.bumps earlier e ≡ plain e
+  passing : (earlier : List Payment) (e : BeefEntry) (st : Standing) → ruling s roots fee b.bumps earlier e ≡ Ok st → ruling_cost s b.bumps earlier e ≡ plain e
   unfolding ruling ruling_cost
-  passing earlier e a n i h = go (among (entry_id s e) (ids_of earlier)) h
+  passing earlier e st h = go (among (entry_id s e) (ids_of earlier)) h
     where
-      go : (t : Bool) → pick t (Refuses (carrying SAME_TX 0)) (anchoring s roots fee b.bumps earlier e e.anchor) ≡ Passes a n i → pick t 0 (plain e) ≡ plain e
+      go : (t : Bool) → pick t (Err (carrying SAME_TX 0)) (anchoring s roots fee b.bumps earlier e e.anchor) ≡ Ok st → pick t 0 (plain e) ≡ plain e
       go true q = let z : ◌≡◌ {A = ℕ} 0 1 = cc in absurd (omega arith)
       go false q = refl
 
-  refusing : (earlier : List Payment) (e : BeefEntry) (why : Rejection) → ruling s roots fee b.bumps earlier e ≡ Refuses why → ruling_cost s b.bumps earlier e ≡ pick (eqb why.number SAME_TX) 0 (plain e)
+  refusing : (earlier : List Payment) (e : BeefEntry) (why : Rejection) → ruling s roots fee b.bumps earlier e ≡ Err why → ruling_cost s b.bumps earlier e ≡ pick (eqb why.number SAME_TX) 0 (plain e)
   unfolding ruling ruling_cost anchoring anchor_cost proving levels_reading
   refusing earlier e why h = go (among (entry_id s e) (ids_of earlier)) e.anchor h
     where
@@ -164,16 +158,16 @@ module _ (s roots : List ℕ) (fee : ℕ) (b : Beef) where
       either true = refl
       either false = refl
 
-      go : (t : Bool) (x : Anchor) → pick t (Refuses (carrying SAME_TX 0)) (anchoring s roots fee b.bumps earlier e x) ≡ Refuses why
+      go : (t : Bool) (x : Option ℕ) → pick t (Err (carrying SAME_TX 0)) (anchoring s roots fee b.bumps earlier e x) ≡ Err why
           → pick t 0 (anchor_cost s b.bumps (entry_id s e) x) ≡ pick (eqb why.number SAME_TX) 0 (anchor_cost s b.bumps (entry_id s e) x)
       go true x q =
           let y : SAME_TX ≡ why.number = cc in
           sym (ap (λ (t : Bool). pick t 0 (anchor_cost s b.bumps (entry_id s e) x)) (eq-eqb why.number SAME_TX (sym y)))
-      go false (InBump m) q =
+      go false (Some m) q =
           let levels = (nth_bump b.bumps m).levels in
           let no = start-number roots m (level_siblings s levels) (nth_bump b.bumps m).height (entry_id s e) (least_offset s (entry_id s e) (get_or levels 0 [])) why q in
-          sym (ap (λ (t : Bool). pick t 0 (anchor_cost s b.bumps (entry_id s e) (InBump m))) (ne_eqb why.number SAME_TX no))
-      go false Unanchored q = either (eqb why.number SAME_TX)
+          sym (ap (λ (t : Bool). pick t 0 (anchor_cost s b.bumps (entry_id s e) (Some m))) (ne_eqb why.number SAME_TX no))
+      go false None q = either (eqb why.number SAME_TX)
 
 -- ---- sums by place
 
@@ -282,9 +276,9 @@ module _ (s roots : List ℕ) (fee room : ℕ) (b : Beef) (read : BeefRead room 
         same_id : head_id s (entry_head_of (nth k)) ≡ entry_id s (nth k)
         same_id = tx_hash s (nth k).transaction (tx_told s (nth k).transaction.start (read.entry k empty_entry low).transaction) read.size
 
-        go : (x : Anchor) → (nth k).anchor ≡ x → kept_joins anchors ends k ≡ anchor_cost s b.bumps (entry_id s (nth k)) x
-        go Unanchored e = let z : get_or anchors k 0 ≡ MAX_BUMPS = an ∙ ap anchor_of e in kept-none anchors ends k (omega arith)
-        go (InBump m) e =
+        go : (x : Option ℕ) → (nth k).anchor ≡ x → kept_joins anchors ends k ≡ anchor_cost s b.bumps (entry_id s (nth k)) x
+        go None e = let z : get_or anchors k 0 ≡ MAX_BUMPS = an ∙ ap anchor_of e in kept-none anchors ends k (omega arith)
+        go (Some m) e =
             let few : m < count = (read.entry k empty_entry low).anchored m e in
             let less = read.bumps-low in
             let z : get_or anchors k 0 ≡ m = an ∙ ap anchor_of e in
@@ -292,7 +286,7 @@ module _ (s roots : List ℕ) (fee room : ℕ) (b : Beef) (read : BeefRead room 
             let made : get_or ends (4 * k + 3) 0 ≡ bump_cost s (nth_bump b.bumps m) (entry_id s (nth k)) =
             kept k low (omega arith) ∙ ap (λ (j : ℕ). mined_joins s heads j (span_id s (span_at count s place k))) y ∙ ap (λ (x : NamedSpan). mined_joins s heads m (span_id s x)) sp
             ∙ ap (mined_joins s heads m) same_id ∙ mined_cost m few (entry_id s (nth k)) in
-            let most : anchor_cost s b.bumps (entry_id s (nth k)) (InBump m) ≤ 65600 = subst (λ (x : Anchor). anchor_cost s b.bumps (entry_id s (nth k)) x ≤ 65600) e (plain-low k low) in
+            let most : anchor_cost s b.bumps (entry_id s (nth k)) (Some m) ≤ 65600 = subst (λ (x : Option ℕ). anchor_cost s b.bumps (entry_id s (nth k)) x ≤ 65600) e (plain-low k low) in
             kept-some anchors ends k (omega arith) ∙ mod-eq_of_lt (omega arith) ∙ made
 
     -- the climbs that the verdict counts
@@ -323,32 +317,32 @@ module _ (s roots : List ℕ) (fee room : ℕ) (b : Beef) (read : BeefRead room 
         own : (v : Verdict) → judgement_of v ids numbers ≡ judge_entries s roots fee b → own_climb J ≡ own_climb (judgement_of v ids numbers)
         own v e = sym (ap own_climb e)
 
-        before : (why : Rejection) → judgement_of (Refused why) ids numbers ≡ judge_entries s roots fee b → (t : Bool) → ltb why.carried many ≡ t → (u : Bool) → eqb why.number SAME_TX ≡ u
+        before : (why : Rejection) → judgement_of (Err why) ids numbers ≡ judge_entries s roots fee b → (t : Bool) → ltb why.carried many ≡ t → (u : Bool) → eqb why.number SAME_TX ≡ u
             → sum_to (kept_joins anchors ends) (climbs_before why many) ≡ sum_of (plain s roots fee b) (take (P + own_climb J) b.entries)
         before why e true p true q =
             let low = ltb-true why.carried many p in
-            let r = reached (Refused why) e in
-            let o : own_climb J ≡ 0 = own (Refused why) e ∙ ap (λ (t : Bool). pick t 0 1) q in
+            let r = reached (Err why) e in
+            let o : own_climb J ≡ 0 = own (Err why) e ∙ ap (λ (t : Bool). pick t 0 1) q in
             let z : why.carried ≡ P + own_climb J = omega arith in
             ap (sum_to (kept_joins anchors ends)) (before-again why many low (eqb-true why.number SAME_TX q)) ∙ taken why.carried (omega arith) ∙ ap (λ (m : ℕ). sum_of (plain s roots fee b) (take m b.entries)) z
         before why e true p false q =
             let low = ltb-true why.carried many p in
-            let r = reached (Refused why) e in
-            let o : own_climb J ≡ 1 = own (Refused why) e ∙ ap (λ (t : Bool). pick t 0 1) q in
+            let r = reached (Err why) e in
+            let o : own_climb J ≡ 1 = own (Err why) e ∙ ap (λ (t : Bool). pick t 0 1) q in
             let z : why.carried + 1 ≡ P + own_climb J = omega arith in
             ap (sum_to (kept_joins anchors ends)) (before_own why many low (eqb-false why.number SAME_TX q)) ∙ taken (why.carried + 1) (omega arith) ∙ ap (λ (m : ℕ). sum_of (plain s roots fee b) (take m b.entries)) z
         before why e false p u q =
             let past = ltb-false why.carried many p in
-            let r = reached (Refused why) e in
+            let r = reached (Err why) e in
             ap (sum_to (kept_joins anchors ends)) (before-past why many past) ∙ whole (P + own_climb J) (omega arith)
 
         all : (v : Verdict) → judgement_of v ids numbers ≡ judge_entries s roots fee b → sum_to (kept_joins anchors ends) (climbs_made v many) ≡ sum_of (plain s roots fee b) (take (P + own_climb J) b.entries)
-        all (Accepted n) e =
-            let r = reached (Accepted n) e in
+        all (Ok n) e =
+            let r = reached (Ok n) e in
             let size = accepted-length (payment_of s) (ruling s roots fee b.bumps) (entry_row s) empty_entry blank_record [] b.entries (flat n ids numbers) (sym e) in
             let has = flat-length n ids numbers in
             whole (P + own_climb J) (omega arith)
-        all (Refused why) e = before why e (ltb why.carried many) refl (eqb why.number SAME_TX) refl
+        all (Err why) e = before why e (ltb why.carried many) refl (eqb why.number SAME_TX) refl
 
   pub work_is : (v : Verdict) (ids numbers anchors ends : List ℕ) {made : ℕ} → judgement_of v ids numbers ≡ judge_entries s roots fee b → AnchorsFrom count s place many anchors → JoinsFrom count s heads place many ends → many ≤ length anchors
       → made ≡ ids_made count s place many → made + JOIN * sum_to (kept_joins anchors ends) (climbs_made v many) ≡ entries_work s roots fee b
@@ -371,27 +365,26 @@ module _ (s roots : List ℕ) (fee room : ℕ) where
     work_roots h = simp (le-leb _ _ fits, ne_eqb _ _ h)
 
     module _ (even : length roots % 32 ≡ 0) where
-      pub work_refused : (x : ReadRefusal) → each beef_head_of (beef_whole room s) ≡ fault x.number x.place → 0 ≡ judge_work s roots fee room
+      pub work_refused : (x : ReadRefusal) → each bundle_of (beef_whole room s) ≡ fault (refusal_number x.refusal) x.place → 0 ≡ judge_work s roots fee room
       unfolding judge_work read_work
-      work_refused x e = simp (le-leb _ _ fits, eq-eqb _ _ even, each-fault beef_head_of (beef_whole room s) e)
+      work_refused x e = simp (le-leb _ _ fits, eq-eqb _ _ even, each-fault bundle_of (beef_whole room s) e)
 
-      -- what is known of the head of a bundle, and what follows
-      abbrev Counts : List BumpHead → Verdict → List ℕ → List ℕ → List ℕ → List ℕ → ℕ → BeefHead → Type 0
-      Counts bumps v ids numbers anchors ends made h =
-          AnchorsFrom h.bumps s h.entries.at h.transactions anchors → JoinsFrom h.bumps s bumps h.entries.at h.transactions ends → h.transactions ≤ length anchors
-          → made ≡ ids_made h.bumps s h.entries.at h.transactions → made + JOIN * sum_to (kept_joins anchors ends) (climbs_made v h.transactions) ≡ judge_work s roots fee room
+      -- what is known of a bundle, and what follows
+      abbrev Counts : Verdict → List ℕ → List ℕ → List ℕ → List ℕ → ℕ → Bundle → Type 0
+      Counts v ids numbers anchors ends made h =
+          AnchorsFrom h.head.bumps s h.head.entries.at h.head.transactions anchors → JoinsFrom h.head.bumps s h.bumps h.head.entries.at h.head.transactions ends → h.head.transactions ≤ length anchors
+          → made ≡ ids_made h.head.bumps s h.head.entries.at h.head.transactions → made + JOIN * sum_to (kept_joins anchors ends) (climbs_made v h.head.transactions) ≡ judge_work s roots fee room
 
-      pub work_read : (h : BeefHead) (q : ℕ) {bumps : List BumpHead} → each beef_head_of (beef_whole room s) ≡ ok h q → bumps ≡ heads_of (beef_whole room s)
-          → (v : Verdict) (ids numbers anchors ends : List ℕ) {made : ℕ} → judgement_of v ids numbers ≡ judge_beef s roots fee room → Counts bumps v ids numbers anchors ends made h
+      pub work_read : (h : Bundle) (q : ℕ) → each bundle_of (beef_whole room s) ≡ ok h q
+          → (v : Verdict) (ids numbers anchors ends : List ℕ) {made : ℕ} → judgement_of v ids numbers ≡ judge_beef s roots fee room → Counts v ids numbers anchors ends made h
       unfolding judge_up_to judge_read judge_work read_work
-      work_read h q {bumps} e found v ids numbers anchors ends {made} judged =
-          let w = each-ok beef_head_of (beef_whole room s) e in
+      work_read h q e v ids numbers anchors ends {made} judged =
+          let w = each-ok bundle_of (beef_whole room s) e in
           outcome w.0 w.1 w.2 (beef-told room s w.1)
         where
-          outcome : (b : Beef) → beef_whole room s ≡ ok b q → beef_head_of b ≡ h → BeefRead room s b → Counts bumps v ids numbers anchors ends made h
+          outcome : (b : Beef) → beef_whole room s ≡ ok b q → bundle_of b ≡ h → BeefRead room s b → Counts v ids numbers anchors ends made h
           outcome b g is read =
               let by : judgement_of v ids numbers ≡ judge_entries s roots fee b = judged ∙ simp (le-leb _ _ fits, eq-eqb _ _ even, g) in
               let work : judge_work s roots fee room ≡ entries_work s roots fee b = simp (le-leb _ _ fits, eq-eqb _ _ even, g) in
-              subst (Counts bumps v ids numbers anchors ends made) is
-              (subst (λ (l : List BumpHead). Counts l v ids numbers anchors ends made (beef_head_of b)) (sym (found ∙ heads_read g))
-              (λ named kept wide made-is. work_is s roots fee room b read v ids numbers anchors ends by named kept wide made-is ∙ sym work))
+              subst (Counts v ids numbers anchors ends made) is
+              (λ named kept wide made-is. work_is s roots fee room b read v ids numbers anchors ends by named kept wide made-is ∙ sym work)

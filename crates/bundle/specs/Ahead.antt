@@ -1,10 +1,9 @@
 -- The ids of the transactions ahead of a place, as the code makes them four at a time, and the BUMPs that these name.
-use Rattle.std.specs.Prelude.{ℕ, zero, suc, ◌+◌, ◌*◌, ◌/◌, ◌<◌, ◌≡◌, Bool, List, length, get_or, set}
-use Rattle.format.specs.declared.beef.Anchor.{Anchor}
-use Rattle.format.specs.declared.beef.Anchor.TheVariants.{Unanchored, Bump as InBump}
+use Rattle.std.specs.Prelude.{ℕ, zero, suc, ◌+◌, ◌*◌, ◌/◌, ◌<◌, ◌≡◌, Option, Some, None, List, length, get_or, set}
+use Rattle.format.specs.declared.field.Cursor.{Cursor}
 use Rattle.format.specs.declared.beef.EntryHead.{EntryHead}
 use Rattle.format.specs.Bytes.{hash_at}
-use Rattle.format.specs.Parse.{Parse, pick, otherwise, each}
+use Rattle.format.specs.Parse.{Parse, otherwise, each}
 use Rattle.format.specs.Beef.{entry_field}
 use Rattle.format.specs.BeefAnswer.{entry_head_of}
 use Rattle.format.specs.Id.{span_hash}
@@ -15,9 +14,9 @@ use Rattle.bundle.specs.declared.ids.NamedSpan.{NamedSpan}
 use Rattle.bundle.specs.declared.ids.Spans.{Spans}
 
 -- the number of the BUMP that an anchor names; past the BUMPs if it names none
-unfoldable pub anchor_of : Anchor → ℕ
-anchor_of (InBump n) = n
-anchor_of Unanchored = MAX_BUMPS
+unfoldable pub anchor_of : Option ℕ → ℕ
+anchor_of (Some n) = n
+anchor_of None = MAX_BUMPS
 
 -- where no transaction can be read
 unfoldable pub no_span : NamedSpan
@@ -38,20 +37,22 @@ unfoldable pub span_at : ℕ → List ℕ → ℕ → ℕ → NamedSpan
 span_at count s at zero = otherwise (entry_at count s at) no_span (λ e _. span_of e)
 span_at count s at (suc m) = otherwise (entry_at count s at) no_span (λ _ next. span_at count s next m)
 
-unfoldable pub span_from : ℕ → List ℕ → ℕ → Bool → ℕ → NamedSpan
-span_from count s at more m = pick more (span_at count s at m) no_span
+-- the same from where the next one is read, if there can be one
+unfoldable pub span_from : ℕ → List ℕ → Option Cursor → ℕ → NamedSpan
+span_from count s None m = no_span
+span_from count s (Some c) m = span_at count s c.at m
 
--- a step from a place: what lies there, and from where the ones after it are read
-abbrev pub Reaches : ℕ → List ℕ → ℕ → Bool → NamedSpan → ℕ → Bool → Type 0
-Reaches count s at more x next onward = (x ≡ span_from count s at more 0) × ((m : ℕ) → span_from count s next onward m ≡ span_from count s at more (suc m))
+-- a step: what lies there, and from where the ones after it are read
+abbrev pub Reaches : ℕ → List ℕ → Option Cursor → NamedSpan → Option Cursor → Type 0
+Reaches count s from x next = (x ≡ span_from count s from 0) × ((m : ℕ) → span_from count s next m ≡ span_from count s from (suc m))
 
 -- four steps
-abbrev pub ReachesFour : ℕ → List ℕ → ℕ → Bool → Spans → ℕ → Bool → Type 0
-ReachesFour count s at more x next onward = ((l : ℕ) → l < 4 → span l x ≡ span_from count s at more l) × ((m : ℕ) → span_from count s next onward m ≡ span_from count s at more (suc (suc (suc (suc m)))))
+abbrev pub ReachesFour : ℕ → List ℕ → Option Cursor → Spans → Option Cursor → Type 0
+ReachesFour count s from x next = ((l : ℕ) → l < 4 → span l x ≡ span_from count s from l) × ((m : ℕ) → span_from count s next m ≡ span_from count s from (suc (suc (suc (suc m)))))
 
 -- after i steps from a place: from where the ones to come are read
-unfoldable pub Onward : ℕ → List ℕ → ℕ → ℕ → ℕ → Bool → Type 0
-Onward count s at i next more = (m : ℕ) → span_from count s next more m ≡ span_at count s at (i + m)
+unfoldable pub Onward : ℕ → List ℕ → ℕ → ℕ → Option Cursor → Type 0
+Onward count s at i next = (m : ℕ) → span_from count s next m ≡ span_at count s at (i + m)
 
 -- where it lies, alone
 unfoldable pub plain_span : NamedSpan → Span

@@ -1,9 +1,7 @@
 -- The transactions that name a BUMP, and what each comes to by it, kept in four numbers a transaction: the number of its refusal, the layer and the
 -- sibling, or 0, 0 and its position; then the joins of its climb.
-use Rattle.std.specs.Prelude.{ℕ, ◌+◌, ◌*◌, ◌%◌, ◌≤◌, ◌<◌, ◌≡◌, List, eqb, get_or, set}
+use Rattle.std.specs.Prelude.{Option, ℕ, ◌+◌, ◌*◌, ◌%◌, ◌≤◌, ◌<◌, ◌≡◌, List, eqb, get_or, set, Ok, Err, Some}
 use Rattle.format.specs.declared.bump.BumpHead.{BumpHead}
-use Rattle.format.specs.declared.beef.Anchor.{Anchor}
-use Rattle.format.specs.declared.beef.Anchor.TheVariants.{Bump as InBump}
 use Rattle.format.specs.Parse.{pick}
 use Rattle.format.specs.Bytes.{hash_at}
 use Rattle.format.specs.BeefAnswer.{no_bump}
@@ -14,9 +12,7 @@ use Rattle.spv.specs.Prove.{prove}
 use Rattle.spv.specs.Readings.{path_reading}
 use Rattle.spv.specs.Shapes.{proved_of}
 use Rattle.climbs.specs.Proofs.{joins_in, proved_at}
-use Rattle.bundle.specs.declared.judge.Ruling.{Ruling}
-use Rattle.bundle.specs.declared.judge.Ruling.TheVariants.{Refuses, Passes}
-use Rattle.bundle.specs.Bundle.{trusted}
+use Rattle.bundle.specs.Bundle.{trusted, Ruling, standing}
 use Rattle.bundle.specs.BundleHeads.{head_proving}
 use Rattle.bundle.specs.Ahead.{span_at, span_id}
 
@@ -26,16 +22,16 @@ ENDS_ROOM = 1024
 -- ---- four numbers of a transaction
 
 unfoldable pub end_number : Ruling → ℕ
-end_number (Refuses why) = why.number
-end_number (Passes a n p) = 0
+end_number (Err why) = why.number
+end_number (Ok t) = 0
 
 unfoldable pub end_layer : Ruling → ℕ
-end_layer (Refuses why) = why.layer
-end_layer (Passes a n p) = 0
+end_layer (Err why) = why.layer
+end_layer (Ok t) = 0
 
 unfoldable pub end_place : Ruling → ℕ
-end_place (Refuses why) = why.sibling
-end_place (Passes a n p) = p
+end_place (Err why) = why.sibling
+end_place (Ok t) = t.position
 
 unfoldable pub put_four : List ℕ → ℕ → ℕ → ℕ → ℕ → ℕ → List ℕ
 put_four ends i number layer place joins = set (set (set (set ends (4 * i) number) (4 * i + 1) layer) (4 * i + 2) place) (4 * i + 3) joins
@@ -46,7 +42,7 @@ put_end ends i t joins = put_four ends i (end_number t) (end_layer t) (end_place
 -- the ruling by the BUMP with a number, of the first three
 unfoldable pub ruling_by : ℕ → ℕ → ℕ → ℕ → Ruling
 ruling_by bump number layer place =
-    pick (eqb (number % 256) 0) (Passes 1 bump place) (Refuses (record { number = number % 256; carried = 0; layer = layer; sibling = place }))
+    pick (eqb (number % 256) 0) (Ok (standing 1 bump place)) (Err (record { number = number % 256; carried = 0; layer = layer; sibling = place }))
 
 unfoldable pub ruling_at : List ℕ → ℕ → ℕ → Ruling
 ruling_at ends bump i = ruling_by bump (get_or ends (4 * i) 0) (get_or ends (4 * i + 1) 0) (get_or ends (4 * i + 2) 0)
@@ -116,5 +112,5 @@ JoinsFrom count s bumps at n ends =
     (k : ℕ) → k < n → (span_at count s at k).anchor < MAX_BUMPS → joins_at ends k ≡ mined_joins s bumps (span_at count s at k).anchor (span_id s (span_at count s at k))
 
 -- what an anchored transaction comes to
-abbrev pub Mined : List ℕ → List ℕ → List BumpHead → List ℕ → Anchor → Ruling → Type 0
-Mined s roots bumps id anchor t = (n : ℕ) → anchor ≡ InBump n → n < MAX_BUMPS → t ≡ mined_by s roots bumps n id
+abbrev pub Mined : List ℕ → List ℕ → List BumpHead → List ℕ → Option ℕ → Ruling → Type 0
+Mined s roots bumps id anchor t = (n : ℕ) → anchor ≡ Some n → n < MAX_BUMPS → t ≡ mined_by s roots bumps n id

@@ -1,8 +1,6 @@
 -- The bundle rule (01, "The bundle rule"; 02, Item 9).
-use Rattle.std.specs.Prelude.{ℕ, ◌-◌, ◌%◌, Bool, true, ◌&&◌, List, [], ◌∷◌, ◌++◌, leb, eqb, length, get_or, replicate}
+use Rattle.std.specs.Prelude.{Option, None, ℕ, ◌-◌, ◌%◌, Bool, true, ◌&&◌, List, [], ◌∷◌, ◌++◌, leb, eqb, length, get_or, replicate, Result as Answer, Ok, Err, Some}
 use Rattle.format.specs.declared.transaction.Input.{Input}
-use Rattle.format.specs.declared.beef.Anchor.{Anchor}
-use Rattle.format.specs.declared.beef.Anchor.TheVariants.{Unanchored, Bump as InBump}
 use Rattle.format.specs.Parse.{Parse, ok, fault, pick, whole}
 use Rattle.format.specs.Bytes.{hash_at}
 use Rattle.format.specs.Bump.{Bump}
@@ -11,16 +9,25 @@ use Rattle.format.specs.Id.{txid}
 use Rattle.format.specs.Beef.{BeefEntry, Beef, beef_up_to}
 use Rattle.format.specs.Refusals.{TOO_LONG, UNTRUSTED, SAME_TX, NO_PARENT, BAD_ROOTS, MAX_INPUT, MAX_HEIGHT}
 use Rattle.bundle.specs.declared.table.Record.{Record}
-use Rattle.bundle.specs.declared.judge.Ruling.{Ruling}
-use Rattle.bundle.specs.declared.judge.Ruling.TheVariants.{Refuses, Passes}
-use Rattle.bundle.specs.declared.judge.Verdict.{Verdict}
-use Rattle.bundle.specs.declared.judge.Verdict.TheVariants.{Accepted, Refused}
-use Rattle.spv.specs.Result.{Result, accepted, refused, carrying, blaming}
+use Rattle.bundle.specs.declared.judge.Standing.{Standing}
+use Rattle.spv.specs.declared.rejection.Rejection.{Rejection}
+use Rattle.spv.specs.Result.{Result, accepted, refused, carrying, blaming, answer_of}
 use Rattle.spv.specs.Prove.{Proof, prove}
 use Rattle.spv.specs.Readings.{levels_reading}
 use Rattle.spv.specs.Hashes.{hashes_of, among}
 use Rattle.bundle.specs.Table.{blank_record}
 use Rattle.bundle.specs.Amounts.{Payment, payment_of, ids_of, total, funded}
+
+-- how a transaction stands after the earlier ones: what its record says of its anchor, or a refusal
+abbrev pub Ruling : Type 0
+Ruling = Answer Standing Rejection
+
+abbrev pub standing : ℕ → ℕ → ℕ → Standing
+standing a n i = record { anchored = a; bump = n; position = i }
+
+-- what judging answers
+abbrev pub Verdict : Type 0
+Verdict = Answer ℕ Rejection
 
 -- each input has its parent among the ids
 unfoldable pub rests : List ℕ → List (List ℕ) → List Input → Bool
@@ -29,8 +36,8 @@ rests s ids (input ∷ l) = among (hash_at s input.parent) ids && rests s ids l
 
 -- "An anchored one (byte 01) must climb in its BUMP to a root in the lent list"
 unfoldable pub trusted : List ℕ → ℕ → Result Proof → Ruling
-trusted roots n (refused why) = Refuses why
-trusted roots n (accepted p) = pick (among p.root (hashes_of roots)) (Passes 1 n p.position) (Refuses (carrying UNTRUSTED 0))
+trusted roots n (refused why) = Err why
+trusted roots n (accepted p) = pick (among p.root (hashes_of roots)) (Ok (standing 1 n p.position)) (Err (carrying UNTRUSTED 0))
 
 -- an id by a BUMP of the bundle
 unfoldable pub proving : List ℕ → Bump → List ℕ → Result Proof
@@ -48,29 +55,29 @@ entry_id s e = txid s e.transaction
 
 -- one that is not anchored, as 26, 27 and 28 say
 abbrev pub ruling_of : Result (Unit {0}) → Ruling
-ruling_of (refused why) = Refuses why
-ruling_of (accepted u) = Passes 0 0 0
+ruling_of (refused why) = Err why
+ruling_of (accepted u) = Ok (standing 0 0 0)
 
 module _ (s roots : List ℕ) (fee : ℕ) (bumps : List Bump) where
   -- "Any other must have, for each input, an earlier transaction with the parent's id"; then 26, 27 and 28
-  unfoldable pub anchoring : List Payment → BeefEntry → Anchor → Ruling
-  anchoring earlier e (InBump n) = trusted roots n (proving s (nth_bump bumps n) (entry_id s e))
-  anchoring earlier e Unanchored = pick (rests s (ids_of earlier) e.transaction.inputs) (ruling_of (funded fee earlier (payment_of s e))) (Refuses (carrying NO_PARENT 0))
+  unfoldable pub anchoring : List Payment → BeefEntry → Option ℕ → Ruling
+  anchoring earlier e (Some n) = trusted roots n (proving s (nth_bump bumps n) (entry_id s e))
+  anchoring earlier e None = pick (rests s (ids_of earlier) e.transaction.inputs) (ruling_of (funded fee earlier (payment_of s e))) (Err (carrying NO_PARENT 0))
 
   -- 19, then 13, 14 or 15, 17, or 20, 26, 27, 28
   unfoldable pub ruling : List Payment → BeefEntry → Ruling
-  ruling earlier e = pick (among (entry_id s e) (ids_of earlier)) (Refuses (carrying SAME_TX 0)) (anchoring earlier e e.anchor)
+  ruling earlier e = pick (among (entry_id s e) (ids_of earlier)) (Err (carrying SAME_TX 0)) (anchoring earlier e e.anchor)
 
 -- the record of a transaction
-unfoldable pub entry_row : List ℕ → BeefEntry → ℕ → ℕ → ℕ → Record
-entry_row s e a n i =
+unfoldable pub entry_row : List ℕ → BeefEntry → Standing → Record
+entry_row s e x =
     record {
       start = e.transaction.start;
       length = e.transaction.end - e.transaction.start;
       id = entry_id s e;
-      anchored = a;
-      bump = n;
-      position = i;
+      anchored = x.anchored;
+      bump = x.bump;
+      position = x.position;
       outputs = length e.transaction.outputs;
       total = total e.transaction.outputs;
     }
@@ -84,12 +91,12 @@ ahead r (refused why) = refused why
 ahead r (accepted l) = accepted (r ∷ l)
 
 -- "transactions are judged from the first", each after what is known of the earlier ones; a refusal carries the transaction's number, counted from 0
-module _ {A B : Type 0} (known : A → B) (stands : List B → A → Ruling) (row : A → ℕ → ℕ → ℕ → Record) where
+module _ {A B : Type 0} (known : A → B) (stands : List B → A → Ruling) (row : A → Standing → Record) where
   unfoldable pub judge_from : List B → List A → Judgement
   judge_from earlier [] = accepted []
   judge_from earlier (x ∷ l) =
       elim (stands earlier x)
-      [ Refuses why ↦ refused (blaming (length earlier) why) | Passes a n i ↦ ahead (row x a n i) (judge_from (earlier ++ (known x ∷ [])) l) ]
+      [ Err why ↦ refused (blaming (length earlier) why) | Ok t ↦ ahead (row x t) (judge_from (earlier ++ (known x ∷ [])) l) ]
 
 unfoldable pub judge_entries : List ℕ → List ℕ → ℕ → Beef → Judgement
 judge_entries s roots fee b = judge_from (payment_of s) (ruling s roots fee b.bumps) (entry_row s) [] b.entries
@@ -111,9 +118,8 @@ abbrev pub judge_beef : List ℕ → List ℕ → ℕ → ℕ → Judgement
 judge_beef = judge_up_to MAX_HEIGHT
 
 -- the answer
-unfoldable pub verdict_of : Judgement → Verdict
-verdict_of (refused why) = Refused why
-verdict_of (accepted records) = Accepted (length records)
+abbrev pub verdict_of : Judgement → Verdict
+verdict_of = answer_of length
 
 -- the table of n rows: on acceptance the first are filled and the others zero; a refusal zeroes the whole table
 unfoldable pub table_of : Judgement → ℕ → List Record

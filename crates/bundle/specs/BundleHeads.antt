@@ -1,9 +1,7 @@
 -- The bundle rule over what the code holds of a bundle that was read: heads, by places in the bytes.
-use Rattle.std.specs.Prelude.{◌≡◌, ℕ, zero, suc, ◌+◌, ◌-◌, ◌*◌, ◌<◌, ◌≤◌, Bool, true, false, List, [], ◌∷◌, map, ltb, length, get_or, take}
+use Rattle.std.specs.Prelude.{Option, None, ◌≡◌, ℕ, zero, suc, ◌+◌, ◌-◌, ◌*◌, ◌<◌, ◌≤◌, Bool, true, false, List, [], ◌∷◌, map, ltb, length, get_or, take, Ok, Err, Some}
 use Rattle.format.specs.declared.transaction.TxHead.{TxHead}
 use Rattle.format.specs.declared.bump.BumpHead.{BumpHead}
-use Rattle.format.specs.declared.beef.Anchor.{Anchor}
-use Rattle.format.specs.declared.beef.Anchor.TheVariants.{Unanchored, Bump as InBump}
 use Rattle.format.specs.declared.beef.EntryHead.{EntryHead}
 use Rattle.format.specs.Parse.{pick, otherwise, each}
 use Rattle.format.specs.Bytes.{hash_at}
@@ -14,8 +12,6 @@ use Rattle.format.specs.BeefAnswer.{no_bump, entry_head_of}
 use Rattle.format.specs.Id.{span_hash}
 use Rattle.format.specs.Refusals.{BAD_INDEX, SAME_TX, NO_PARENT, MAX_BUMPS}
 use Rattle.bundle.specs.declared.table.Record.{Record}
-use Rattle.bundle.specs.declared.judge.Ruling.TheVariants.{Refuses, Passes}
-use Rattle.bundle.specs.declared.judge.Ruling.{Ruling}
 use Rattle.spv.specs.Result.{Result, carrying}
 use Rattle.bundle.specs.Table.{flat_head}
 use Rattle.spv.specs.Prove.{prove, Proof}
@@ -23,11 +19,12 @@ use Rattle.spv.specs.Readings.{path_reading}
 use Rattle.spv.specs.Hashes.{hashes_of, among}
 use Rattle.bundle.specs.Amounts.{is_anchored}
 use Rattle.bundle.specs.FlatForm.{column}
-use Rattle.bundle.specs.Bundle.{trusted}
+use Rattle.bundle.specs.declared.judge.Standing.{Standing}
+use Rattle.bundle.specs.Bundle.{trusted, Ruling, standing}
 
 -- the numbers of a transaction in the flat form, v its outputs' total
-abbrev pub numbers_of : TxHead → ℕ → ℕ → ℕ → ℕ → List ℕ
-numbers_of t v a n i = t.start ∷ (t.end - t.start) ∷ n ∷ a ∷ i ∷ t.outputs.count ∷ v ∷ t.inputs.count ∷ t.inputs.at.at ∷ t.outputs.at.at ∷ []
+abbrev pub numbers_of : TxHead → ℕ → Standing → List ℕ
+numbers_of t v x = t.start ∷ (t.end - t.start) ∷ x.bump ∷ x.anchored ∷ x.position ∷ t.outputs.count ∷ v ∷ t.inputs.count ∷ t.inputs.at.at ∷ t.outputs.at.at ∷ []
 
 -- the total of n outputs from a place after others of t in all, as far as they can be read
 unfoldable pub total_from : List ℕ → ℕ → ℕ → ℕ → ℕ
@@ -53,12 +50,12 @@ unfoldable pub head_proving : List ℕ → BumpHead → List ℕ → Result Proo
 head_proving s b id = prove (path_reading s (bump_path_of s b) id)
 
 module _ (s roots : List ℕ) (bumps : List BumpHead) where
-  unfoldable pub head_anchoring : List (List ℕ) → List ℕ → TxHead → Anchor → Ruling
-  head_anchoring earlier id t (InBump n) = pick (ltb n MAX_BUMPS) (trusted roots n (head_proving s (get_or bumps n no_bump) id)) (Refuses (carrying BAD_INDEX 0))
-  head_anchoring earlier id t Unanchored = pick (rests_from s earlier t.inputs.count t.inputs.at.at) (Passes 0 0 0) (Refuses (carrying NO_PARENT 0))
+  unfoldable pub head_anchoring : List (List ℕ) → List ℕ → TxHead → Option ℕ → Ruling
+  head_anchoring earlier id t (Some n) = pick (ltb n MAX_BUMPS) (trusted roots n (head_proving s (get_or bumps n no_bump) id)) (Err (carrying BAD_INDEX 0))
+  head_anchoring earlier id t None = pick (rests_from s earlier t.inputs.count t.inputs.at.at) (Ok (standing 0 0 0)) (Err (carrying NO_PARENT 0))
 
   unfoldable pub head_ruling : List (List ℕ) → List ℕ → EntryHead → Ruling
-  head_ruling earlier id e = pick (among id earlier) (Refuses (carrying SAME_TX 0)) (head_anchoring earlier id e.transaction e.anchor)
+  head_ruling earlier id e = pick (among id earlier) (Err (carrying SAME_TX 0)) (head_anchoring earlier id e.transaction e.anchor)
 
 -- what is judged, by an entry's head
 abbrev pub head_id : List ℕ → EntryHead → List ℕ
@@ -67,8 +64,8 @@ head_id s e = span_hash s e.transaction.start e.transaction.end
 abbrev pub head_stands : List ℕ → List ℕ → List BumpHead → List (List ℕ) → EntryHead → Ruling
 head_stands s roots bumps earlier e = head_ruling s roots bumps earlier (head_id s e) e
 
-abbrev pub head_row : List ℕ → EntryHead → ℕ → ℕ → ℕ → Record
-head_row s e a n i = flat_head (head_id s e) (numbers_of e.transaction (head_total s e.transaction) a n i)
+abbrev pub head_row : List ℕ → EntryHead → Standing → Record
+head_row s e x = flat_head (head_id s e) (numbers_of e.transaction (head_total s e.transaction) x)
 
 -- ---- what the flat form says of them
 
@@ -80,7 +77,7 @@ flag_of false = 0
 abbrev pub no_head : EntryHead
 no_head = record {
   transaction = record { start = 0; end = 0; inputs = record { count = 0; at = record { at = 0 } }; outputs = record { count = 0; at = record { at = 0 } } };
-  anchor = Unanchored;
+  anchor = None;
 }
 
 pub record RowIs (s numbers : List ℕ) (k : ℕ) (e : EntryHead) : Type 0 where

@@ -1,8 +1,8 @@
 -- What the pass for 27 and 28 answers, and what its parts rest on.
-use Rattle.std.specs.Prelude.{ℕ, ◌-◌, ◌<◌, ◌≤◌, ◌≡◌, Bool, true, false, ◌&&◌, List, [], map, ltb, eqb, length, get_or, take, drop}
+use Rattle.std.specs.Prelude.{Result as Answer, Ok, Err, ℕ, ◌-◌, ◌<◌, ◌≤◌, ◌≡◌, Bool, true, false, ◌&&◌, List, [], map, ltb, eqb, length, get_or, take, drop}
 use Rattle.format.specs.Parse.{pick}
-use Rattle.spv.specs.Result.{accepted, refused, carrying, blaming, Result}
-use Rattle.bundle.specs.declared.pass.Fault.{Fault}
+use Rattle.spv.specs.declared.rejection.Rejection.{Rejection}
+use Rattle.spv.specs.Result.{accepted, refused, Result}
 use Rattle.bundle.specs.Amounts.{Payment, AmountRuling, fresh, spends, worths, total}
 use Rattle.bundle.specs.Payments.{no_payment}
 use Rattle.format.specs.Refusals.{U32}
@@ -18,8 +18,13 @@ use Rattle.bundle.specs.Bundle.{Judgement}
 abbrev pub WINDOW : ℕ
 WINDOW = 65536
 
-unfoldable pub fault_of : Fault → AmountRuling
-fault_of f = pick (eqb f.number 0) (accepted tt) (refused (blaming f.entry (carrying f.number 0)))
+-- nothing, or the first refusal
+abbrev pub Checked : Type 0
+Checked = Answer (Unit {0}) Rejection
+
+unfoldable pub amounts_of : Checked → AmountRuling
+amounts_of (Ok u) = accepted tt
+amounts_of (Err why) = refused why
 
 unfoldable pub is_enough : ℕ → ℕ → ℕ → ℕ → Bool
 is_enough fee anchored out sum = pick (eqb anchored 0) (ltb out sum && ltb fee (sum - out)) true
@@ -65,8 +70,8 @@ pub record Settles (numbers sums : List ℕ) (fee n first : ℕ) (l : List Payme
   pub sum : (k : ℕ) → k < n → k < first → (get_or l k no_payment).anchored ≡ false → get_or sums k 0 ≡ worths (take k l) (get_or l k no_payment).inputs
 
 -- the answer of the whole pass
-abbrev pub Judged : List ℕ → List ℕ → List ℕ → ℕ → ℕ → Fault → Type 0
-Judged s ids numbers fee n r = (l : List Payment) → length l ≡ n → Pictured s ids numbers l → fault_of r ≡ fault_in (second fee) n [] l
+abbrev pub Judged : List ℕ → List ℕ → List ℕ → ℕ → ℕ → Checked → Type 0
+Judged s ids numbers fee n r = (l : List Payment) → length l ≡ n → Pictured s ids numbers l → amounts_of r ≡ fault_in (second fee) n [] l
 
 -- so many without a mark
 abbrev pub Blank : ℕ → List ℕ → Type 0

@@ -1,18 +1,17 @@
 -- What the flat form of transactions says of them before 26 is asked, and what is answered for 26, 27 and 28.
-use Rattle.std.specs.Prelude.{ℕ, ◌*◌, ◌<◌, ◌≤◌, ◌≡◌, true, false, List, [], map, length, get_or, take}
+use Rattle.std.specs.Prelude.{ℕ, ◌*◌, ◌<◌, ◌≤◌, ◌≡◌, true, false, List, [], map, length, get_or, take, Option, Some, None}
 use Rattle.format.specs.declared.transaction.Input.{Input}
 use Rattle.format.specs.Parse.{ok, times}
 use Rattle.format.specs.Transaction.{input_field}
 use Rattle.format.specs.Refusals.{U32}
 use Rattle.spv.specs.Hashes.{hashes_of}
-use Rattle.bundle.specs.declared.pass.Fault.{Fault}
 use Rattle.bundle.specs.Amounts.{Payment, outpoint_of, ids_of, total, exist, amounts}
 use Rattle.bundle.specs.Payments.{no_payment, Different}
 use Rattle.bundle.specs.Numbers.{output_count}
 use Rattle.bundle.specs.FlatForm.{column}
 use Rattle.bundle.specs.Walks.{Counted}
 use Rattle.bundle.specs.Second.{fault_in}
-use Rattle.bundle.specs.Pass.{fault_of}
+use Rattle.bundle.specs.Pass.{amounts_of, Checked}
 
 pub record Shown (s ids numbers : List ℕ) (l : List Payment) : Type 0 where
   pub counted : Counted s numbers l
@@ -32,6 +31,11 @@ pub record FirstMissing (l : List Payment) (m : ℕ) : Type 0 where
   pub there : (k : ℕ) → k < m → (get_or l k no_payment).anchored ≡ false → exist (take k l) (get_or l k no_payment).inputs ≡ true
   pub missing : m < length l → ((get_or l m no_payment).anchored ≡ false) × (exist (take m l) (get_or l m no_payment).inputs ≡ false)
 
+-- the first of n, if there is one, that does not pass 26
+unfoldable pub Missing : List Payment → ℕ → Option ℕ → Type 0
+Missing l n (Some m) = FirstMissing l m
+Missing l n None = FirstMissing l n
+
 -- the first refusal by 26, 27 or 28 is answered
-abbrev pub Answers : List ℕ → List ℕ → List ℕ → ℕ → ℕ → Fault → Type 0
-Answers s ids numbers fee n r = (l : List Payment) → length l ≡ n → Shown s ids numbers l → fault_of r ≡ fault_in (amounts fee) n [] l
+abbrev pub Answers : List ℕ → List ℕ → List ℕ → ℕ → ℕ → Checked → Type 0
+Answers s ids numbers fee n r = (l : List Payment) → length l ≡ n → Shown s ids numbers l → amounts_of r ≡ fault_in (amounts fee) n [] l

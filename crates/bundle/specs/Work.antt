@@ -1,7 +1,5 @@
 -- Hash work, counted (02, Item 11): SHA-256 block compressions of judging a bundle, beside the verdict of `judge_beef`.
-use Rattle.std.specs.Prelude.{ℕ, ◌+◌, ◌-◌, ◌*◌, ◌/◌, ◌%◌, List, [], ◌∷◌, ◌++◌, leb, eqb, length, get_or}
-use Rattle.format.specs.declared.beef.Anchor.{Anchor}
-use Rattle.format.specs.declared.beef.Anchor.TheVariants.{Unanchored, Bump as InBump}
+use Rattle.std.specs.Prelude.{Option, None, ℕ, ◌+◌, ◌-◌, ◌*◌, ◌/◌, ◌%◌, List, [], ◌∷◌, ◌++◌, leb, eqb, length, get_or, Ok, Err, Some}
 use Rattle.format.specs.Parse.{Parse, ok, fault, pick}
 use Rattle.format.specs.Bump.{Bump}
 use Rattle.format.specs.Beef.{BeefEntry, Beef, beef_whole}
@@ -11,9 +9,7 @@ use Rattle.spv.specs.Siblings.{written_by, find_in}
 use Rattle.spv.specs.Hashes.{among}
 use Rattle.climbs.specs.Count.{start_cost}
 use Rattle.bundle.specs.Amounts.{Payment, payment_of, ids_of}
-use Rattle.bundle.specs.declared.judge.Ruling.{Ruling}
-use Rattle.bundle.specs.declared.judge.Ruling.TheVariants.{Refuses, Passes}
-use Rattle.bundle.specs.Bundle.{nth_bump, entry_id, ruling}
+use Rattle.bundle.specs.Bundle.{nth_bump, entry_id, ruling, Ruling}
 
 -- "for a transaction of n bytes, (n + 72) / 64 rounded down, plus 1"
 unfoldable pub id_work : ℕ → ℕ
@@ -36,9 +32,9 @@ unfoldable pub bump_cost : List ℕ → Bump → List ℕ → ℕ
 bump_cost s b id = start_cost (written_by s (find_in b.levels)) b.height id (least_offset s id (get_or b.levels 0 []))
 
 module _ (s : List ℕ) (bumps : List Bump) where
-  unfoldable pub anchor_cost : List ℕ → Anchor → ℕ
-  anchor_cost id (InBump n) = bump_cost s (nth_bump bumps n) id
-  anchor_cost id Unanchored = 0
+  unfoldable pub anchor_cost : List ℕ → Option ℕ → ℕ
+  anchor_cost id (Some n) = bump_cost s (nth_bump bumps n) id
+  anchor_cost id None = 0
 
   -- an id equal to an earlier one (19) makes no climb
   unfoldable pub ruling_cost : List Payment → BeefEntry → ℕ
@@ -48,7 +44,7 @@ module _ (s : List ℕ) (bumps : List Bump) where
 module _ {A B : Type 0} (known : A → B) (stands : List B → A → Ruling) (cost : List B → A → ℕ) where
   unfoldable pub cost_from : List B → List A → ℕ
   cost_from earlier [] = 0
-  cost_from earlier (x ∷ l) = cost earlier x + elim (stands earlier x) [ Refuses why ↦ 0 | Passes a n i ↦ cost_from (earlier ++ (known x ∷ [])) l ]
+  cost_from earlier (x ∷ l) = cost earlier x + elim (stands earlier x) [ Err why ↦ 0 | Ok t ↦ cost_from (earlier ++ (known x ∷ [])) l ]
 
 unfoldable pub entries_work : List ℕ → List ℕ → ℕ → Beef → ℕ
 entries_work s roots fee b = ids_work b.entries + JOIN * cost_from (payment_of s) (ruling s roots fee b.bumps) (ruling_cost s b.bumps) [] b.entries

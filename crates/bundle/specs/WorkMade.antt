@@ -1,16 +1,15 @@
 -- What the code adds up of hash work: the ids four at a time, and the joins that were kept of each climb.
-use Rattle.std.specs.Prelude.{ℕ, ◌+◌, ◌-◌, ◌%◌, List, ltb, eqb, get_or}
+use Rattle.std.specs.Prelude.{ℕ, ◌+◌, ◌-◌, ◌%◌, List, ltb, eqb, get_or, Ok, Err}
 use Rattle.format.specs.Parse.{pick}
 use Rattle.format.specs.Refusals.{MAX_INPUT, MAX_BUMPS, SAME_TX, U32}
 use Rattle.spv.specs.declared.rejection.Rejection.{Rejection}
 use Rattle.bundle.specs.Windows.{sum_to}
 use Rattle.bundle.specs.declared.ids.NamedSpan.{NamedSpan}
 use Rattle.bundle.specs.declared.ids.Spans.{Spans}
-use Rattle.bundle.specs.declared.judge.Verdict.{Verdict}
-use Rattle.bundle.specs.declared.judge.Verdict.TheVariants.{Accepted, Refused}
 use Rattle.bundle.specs.Ahead.{span_at}
 use Rattle.bundle.specs.Anchored.{joins_at}
 use Rattle.bundle.specs.Work.{id_work}
+use Rattle.bundle.specs.Bundle.{Verdict}
 
 -- the id of the transaction at a place; none where none can be read
 unfoldable pub span_work : NamedSpan → ℕ
@@ -37,5 +36,5 @@ unfoldable pub climbs_before : Rejection → ℕ → ℕ
 climbs_before why n = pick (ltb why.carried n) (pick (eqb why.number SAME_TX) why.carried (why.carried + 1)) n
 
 unfoldable pub climbs_made : Verdict → ℕ → ℕ
-climbs_made (Accepted m) n = n
-climbs_made (Refused why) n = climbs_before why n
+climbs_made (Ok m) n = n
+climbs_made (Err why) n = climbs_before why n

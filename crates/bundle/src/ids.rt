@@ -1,12 +1,13 @@
 // The ids of a bundle's transactions, four at a time, and the BUMPs that these name (specs/Ahead.antt).
-ghost use Rattle.std.specs.Prelude.{◌≡◌, true, false, ℕ, ◌≤◌, set};
+ghost use Rattle.std.specs.Prelude.{◌≡◌, Some, None, ℕ, ◌≤◌, set};
 ghost use Rattle.format.specs.Refusals.{MAX_TXS};
 ghost use Rattle.lanes.specs.Lanes as L;
 ghost use Rattle.bundle.specs.Ahead.{no_span, anchor_of, plain_span, span, span_id, Reaches, ReachesFour, set_anchors, IdsFrom, AnchorsFrom};
 ghost use Rattle.bundle.specs.WorkMade.{span_work, work_below, group_work, ids_made};
 
+use super::judge::IDS_ROOM;
 use super::work::id_work;
-use format::{Anchor, Beef, Cursor, EntryAnswer};
+use format::{Beef, Cursor};
 use lanes::Nodes;
 use spv::Span;
 
@@ -26,29 +27,27 @@ pub(crate) struct Spans {
     d: NamedSpan,
 }
 
-// A transaction's place, where the next one is read, and whether there can be one.
+// A transaction's place, and where the next one is read, if there can be one.
 #[derive(Clone, Copy)]
 struct Reached {
     span: NamedSpan,
-    next: Cursor,
-    more: bool,
+    next: Option<Cursor>,
 }
 
 // The same of four transactions.
 #[derive(Clone, Copy)]
 struct Group {
     spans: Spans,
-    next: Cursor,
-    more: bool,
+    next: Option<Cursor>,
 }
 
 // The number of the BUMP that an anchor names; past the BUMPs if it names none.
-pub(crate) fn anchor_number(anchor: Anchor) -> u64
+pub(crate) fn anchor_number(anchor: Option<u64>) -> u64
     ensures { result ≡ anchor_of anchor }
 {
     match anchor {
-        Anchor::Bump(n) => n,
-        Anchor::Unanchored => Beef::MAX_BUMPS as u64,
+        Some(n) => n,
+        None => Beef::MAX_BUMPS as u64,
     }
 }
 
@@ -63,66 +62,58 @@ fn no_span() -> NamedSpan
     }
 }
 
-fn none_reached(c: Cursor) -> Reached
-    ensures { (result.span ≡ no_span) × (result.next ≡ c) × (result.more ≡ false) }
+fn none_reached() -> Reached
+    ensures { (result.span ≡ no_span) × (result.next ≡ None) }
 {
     Reached {
         span: no_span(),
-        next: c,
-        more: false,
+        next: None,
     }
 }
 
 // The transaction at a place, if it can be read.
 fn reach(s: &[u8], count: u64, c: Cursor) -> Reached
-    ensures { Reaches count s.now c.at true result.span result.next.at result.more }
+    ensures { Reaches count s.now (Some c) result.span result.next }
 {
-    let field = format::read_entry(s, c, count);
-    let EntryAnswer::Value(e, after) = field else {
-        return none_reached(c);
+    let Ok((e, after)) = format::read_entry(s, c, count) else {
+        return none_reached();
     };
-    let tx = e.transaction;
-    let named = e.anchor;
-    let anchor = anchor_number(named);
-    let start = tx.start;
-    let end = tx.end;
     Reached {
-        span: NamedSpan { start, end, anchor },
-        next: after,
-        more: true,
+        span: NamedSpan {
+            start: e.transaction.start,
+            end: e.transaction.end,
+            anchor: anchor_number(e.anchor),
+        },
+        next: Some(after),
     }
 }
 
-// The same, if one is asked for.
-fn span_at(s: &[u8], count: u64, c: Cursor, more: bool) -> Reached
-    ensures { Reaches count s.now c.at more result.span result.next.at result.more }
+// The same, if there can be one.
+fn span_at(s: &[u8], count: u64, from: Option<Cursor>) -> Reached
+    ensures { Reaches count s.now from result.span result.next }
 {
-    if more {
-        return reach(s, count, c);
+    match from {
+        Some(c) => reach(s, count, c),
+        None => none_reached(),
     }
-    none_reached(c)
 }
 
-// The next four transactions from a place on, if they are asked for and as far as they can be read.
-fn spans_from(s: &[u8], count: u64, start: Cursor, more: bool) -> Group
-    ensures { ReachesFour count s.now start.at more result.spans result.next.at result.more }
+// The next four transactions from a place on, as far as they can be read.
+fn spans_from(s: &[u8], count: u64, from: Option<Cursor>) -> Group
+    ensures { ReachesFour count s.now from result.spans result.next }
 {
-    let first = span_at(s, count, start, more);
-    let a = first.span;
-    let next = first.next;
-    let second = span_at(s, count, next, first.more);
-    let b = second.span;
-    let next = second.next;
-    let third = span_at(s, count, next, second.more);
-    let c = third.span;
-    let next = third.next;
-    let fourth = span_at(s, count, next, third.more);
-    let d = fourth.span;
-    let next = fourth.next;
+    let a = span_at(s, count, from);
+    let b = span_at(s, count, a.next);
+    let c = span_at(s, count, b.next);
+    let d = span_at(s, count, c.next);
     Group {
-        spans: Spans { a, b, c, d },
-        next,
-        more: fourth.more,
+        spans: Spans {
+            a: a.span,
+            b: b.span,
+            c: c.span,
+            d: d.span,
+        },
+        next: d.next,
     }
 }
 
@@ -130,9 +121,10 @@ fn spans_from(s: &[u8], count: u64, start: Cursor, more: bool) -> Group
 fn plain(x: NamedSpan) -> Span
     ensures { result ≡ plain_span x }
 {
-    let start = x.start;
-    let end = x.end;
-    Span { start, end }
+    Span {
+        start: x.start,
+        end: x.end,
+    }
 }
 
 // The ids of transactions at these places; at once if there are four.
@@ -153,7 +145,7 @@ fn set_number(list: &mut [u64], i: usize, x: u64)
 }
 
 // The BUMPs' numbers of four from the i-th on, as far as there is room.
-fn set_anchors(anchors: &mut [u64], i: usize, x: Spans)
+fn set_anchors(anchors: &mut [u64; Beef::MAX_TRANSACTIONS], i: usize, x: Spans)
     requires { i ≤ MAX_TXS }
     ensures { anchors.new ≡ set_anchors anchors.old i x }
 {
@@ -167,15 +159,14 @@ fn set_anchors(anchors: &mut [u64], i: usize, x: Spans)
 fn span_work(x: NamedSpan) -> u64
     ensures { (result ≡ span_work x) × (result ≤ 262146) }
 {
-    let start = x.start;
-    let end = x.end;
-    if end < start {
+    if x.end < x.start {
         return 0;
     }
-    if hash::MAX_INPUT < end - start {
+    let length = x.end - x.start;
+    if hash::MAX_INPUT < length {
         return 0;
     }
-    id_work(end - start)
+    id_work(length)
 }
 
 // The same of the k-th, if it is one of n.
@@ -206,26 +197,20 @@ pub(crate) fn write_ids(
     count: u64,
     start: Cursor,
     n: usize,
-    ids: &mut [u8],
-    anchors: &mut [u64],
+    ids: &mut [u8; IDS_ROOM],
+    anchors: &mut [u64; Beef::MAX_TRANSACTIONS],
 ) -> u64
     requires { n ≤ MAX_TXS }
     ensures { IdsFrom count s.now start.at n ids.new × AnchorsFrom count s.now start.at n anchors.new × (result ≡ ids_made count s.now start.at n) }
 {
-    let mut next = start;
-    let mut more = true;
-    let mut i = 0;
+    let mut next = Some(start);
     let mut work: u64 = 0;
-    while i < n {
-        let group = spans_from(s, count, next, more);
-        let spans = group.spans;
-        let four = ids_of(s, spans);
-        spv::set_four(ids, i, four);
-        set_anchors(anchors, i, spans);
-        work += group_work(n, i, spans);
+    for i in (0..n).step_by(4) {
+        let group = spans_from(s, count, next);
+        spv::set_four(ids, i, ids_of(s, group.spans));
+        set_anchors(anchors, i, group.spans);
+        work += group_work(n, i, group.spans);
         next = group.next;
-        more = group.more;
-        i += 4;
     }
     work
 }

@@ -1,30 +1,27 @@
 // Judging a BEEF against a list of trusted roots (paper 01, "The bundle rule"; specs/Bundle.antt).
-ghost use Rattle.std.specs.Prelude.{◌≡◌, ℕ, ◌+◌, ◌*◌, ◌<◌, ◌≤◌, length, List, []};
+ghost use Rattle.std.specs.Prelude.{◌≡◌, Err, ℕ, ◌+◌, ◌*◌, ◌<◌, ◌≤◌, length, List, []};
 ghost use Rattle.std.proofs.Math.Seq.{paste};
-ghost use Rattle.format.specs.Refusals.{MAX_TXS};
+ghost use Rattle.format.specs.Refusals.{MAX_TXS, refusal_number};
 ghost use Rattle.spv.specs.Result.{carrying, blaming};
 ghost use Rattle.spv.specs.Hashes.{hashes_of, among};
 ghost use Rattle.bundle.specs.Ahead.{IdsFrom};
-ghost use Rattle.bundle.specs.Anchored.{ENDS_ROOM, EndsFrom, Mined};
+ghost use Rattle.bundle.specs.Anchored.{EndsFrom, Mined};
 ghost use Rattle.bundle.specs.Bundle.{judge_from, judge_beef};
 ghost use Rattle.bundle.specs.BundleHeads.{numbers_of, rests_from, head_ruling, head_id, head_stands, head_row, heads_from, Written};
 ghost use Rattle.format.specs.declared.bump.BumpHead.{BumpHead};
 ghost use Rattle.bundle.specs.BundleAnswer.{judgement_of, reached_by};
 ghost use Rattle.bundle.specs.Work.{judge_work};
-ghost use Rattle.bundle.specs.Pass.{fault_of, settled};
+ghost use Rattle.bundle.specs.Pass.{amounts_of, settled};
 ghost use Rattle.bundle.specs.Table.{IDS_ROOM, NUMBERS_ROOM};
 
 use super::anchored::{ENDS_ROOM, climb_bumps, end_at};
 use super::ids::{anchor_number, write_ids};
 use super::outputs::judge_amounts;
-use super::parents::{in_order, is_among, place_among};
-use super::pass::Fault;
+use super::parents::{ORDER_ROOM, in_order, is_among, place_among};
+use super::pass::Checked;
 use super::sums::outputs_total;
 use super::work::work_made;
-use format::refusal::{BAD_INDEX, BAD_ROOTS, NO_PARENT, NO_ROOM, SAME_TX, SHORT, TOO_LONG};
-use format::{
-    Anchor, Beef, BeefAnswer, Cursor, EntryAnswer, EntryHead, InputAnswer, Items, TxHead,
-};
+use format::{Beef, Cursor, EntryHead, Items, Refusal, TxHead};
 use spv::{Rejection, reject, reject_reading};
 
 // The room of the flat form: an id of 32 bytes and ten numbers for each of the most transactions that a bundle has.
@@ -33,11 +30,7 @@ pub(crate) const IDS_ROOM: usize = 8192;
 pub(crate) const NUMBERS_ROOM: usize = 2560;
 
 // What judging answers: the number of transactions, or a refusal.
-#[derive(Clone, Copy)]
-pub enum Verdict {
-    Accepted(usize),
-    Refused(Rejection),
-}
+pub type Verdict = Result<usize, Rejection>;
 
 // A verdict, and the SHA-256 block compressions of judging by the definition.
 #[derive(Clone, Copy)]
@@ -46,66 +39,52 @@ pub struct Judged {
     pub work: u64,
 }
 
-// How a transaction stands after the earlier ones: refused, or passed with what its record says of its anchor: 1, the number of its BUMP and its
-// position in the block, or 0, 0, 0.
+// What the record of a transaction that passes says of its anchor: 1, the number of its BUMP and its position in the block, or 0, 0, 0.
 #[derive(Clone, Copy)]
-pub enum Ruling {
-    Refuses(Rejection),
-    Passes {
-        anchored: u64,
-        bump: u64,
-        position: u64,
-    },
+pub struct Standing {
+    pub anchored: u64,
+    pub bump: u64,
+    pub position: u64,
 }
 
+// How a transaction stands after the earlier ones.
+pub(crate) type Ruling = Result<Standing, Rejection>;
+
 // The numbers of the i-th record, ten for each.
-fn put_numbers(numbers: &mut [u64], i: usize, row: [u64; 10])
+fn put_numbers(numbers: &mut [u64; NUMBERS_ROOM], i: usize, row: [u64; 10])
     requires i_bound { i < MAX_TXS }
-    requires i_in_bounds { 10 * i + 10 ≤ length numbers.old }
     ensures { numbers.new ≡ paste numbers.old (10 * i) row 10 }
 {
     let at = 10 * i;
-    let mut k = 0;
-    while k < 10 {
-        numbers[at + k] = row[k];
-        k += 1;
-    }
+    numbers[at..at + 10].copy_from_slice(&row);
 }
 
 // What the flat form says of a transaction that passes, but for its id: its record's numbers, then where its inputs and outputs are read again.
-fn numbers_of(tx: TxHead, total: u64, anchored: u64, bump: u64, position: u64) -> [u64; 10]
-    ensures { result ≡ numbers_of tx total anchored bump position }
+fn numbers_of(tx: TxHead, total: u64, standing: Standing) -> [u64; 10]
+    ensures { result ≡ numbers_of tx total standing }
 {
-    let start = tx.start;
-    let end = tx.end;
-    let inputs = tx.inputs;
-    let outputs = tx.outputs;
-    let length = if start <= end { end - start } else { 0 };
     [
-        start as u64,
-        length as u64,
-        bump,
-        anchored,
-        position,
-        outputs.count,
+        tx.start as u64,
+        tx.end.saturating_sub(tx.start) as u64,
+        standing.bump,
+        standing.anchored,
+        standing.position,
+        tx.outputs.count,
         total,
-        inputs.count,
-        inputs.at.at as u64,
-        outputs.at.at as u64,
+        tx.inputs.count,
+        tx.inputs.at.at as u64,
+        tx.outputs.at.at as u64,
     ]
 }
 
 // Whether each input has its parent among the ids.
-fn rests_on(s: &[u8], inputs: Items, ids: &[u8], order: &[u64]) -> bool
+fn rests_on(s: &[u8], inputs: Items, ids: &[u8], order: &[u64; ORDER_ROOM]) -> bool
     ensures { result ≡ rests_from s.now (hashes_of ids.now) inputs.count inputs.at.at }
 {
-    let count = inputs.count;
     let mut next = inputs.at;
     let mut parent: usize = 0;
-    let mut i: u64 = 0;
-    while i < count {
-        let field = format::read_input(s, next);
-        let InputAnswer::Value(input, after) = field else {
+    for _ in 0..inputs.count {
+        let Ok((input, after)) = format::read_input(s, next) else {
             return false;
         };
         let x = format::hash_at(s, input.parent);
@@ -114,7 +93,6 @@ fn rests_on(s: &[u8], inputs: Items, ids: &[u8], order: &[u64]) -> bool
             return false;
         }
         next = after;
-        i += 1;
     }
     true
 }
@@ -124,55 +102,51 @@ fn judge_entry(
     s: &[u8],
     mined: Ruling,
     ids: &[u8],
-    order: &[u64],
+    order: &[u64; ORDER_ROOM],
     id: [u8; 32],
     e: EntryHead,
 ) -> Ruling
     ensures { (roots : List ℕ) (bumps : List BumpHead) → Mined s.now roots bumps id e.anchor mined → result ≡ head_ruling s.now roots bumps (hashes_of ids.now) id e }
 {
     if is_among(id, ids) {
-        return Ruling::Refuses(reject(SAME_TX));
+        return Err(reject(Refusal::SameTx));
     }
-    let tx = e.transaction;
-    let anchor = e.anchor;
-    match anchor {
-        Anchor::Bump(n) => {
+    match e.anchor {
+        Some(n) => {
             if Beef::MAX_BUMPS as u64 <= n {
-                return Ruling::Refuses(reject(BAD_INDEX));
+                return Err(reject(Refusal::BadIndex));
             }
             mined
         }
-        Anchor::Unanchored => {
-            if !rests_on(s, tx.inputs, ids, order) {
-                return Ruling::Refuses(reject(NO_PARENT));
+        None => {
+            if !rests_on(s, e.transaction.inputs, ids, order) {
+                return Err(reject(Refusal::NoParent));
             }
-            Ruling::Passes {
+            Ok(Standing {
                 anchored: 0,
                 bump: 0,
                 position: 0,
-            }
+            })
         }
     }
 }
 
-fn refused(number: u8) -> Judged
-    ensures { (result.verdict ≡ Verdict.Refused (carrying number 0)) × (result.work ≡ 0) }
+fn refused(refusal: Refusal) -> Judged
+    ensures { (result.verdict ≡ Err (carrying (refusal_number refusal) 0)) × (result.work ≡ 0) }
 {
     Judged {
-        verdict: Verdict::Refused(reject(number)),
+        verdict: Err(reject(refusal)),
         work: 0,
     }
 }
 
 // The refusal of the n-th transaction.
-fn blame(rejection: Rejection, n: usize) -> Rejection
+pub(crate) fn blame(rejection: Rejection, n: usize) -> Rejection
     ensures { result ≡ blaming n rejection }
 {
     Rejection {
-        number: rejection.number,
         carried: n,
-        layer: rejection.layer,
-        sibling: rejection.sibling,
+        ..rejection
     }
 }
 
@@ -183,15 +157,12 @@ fn judge_entries(
     count: u64,
     start: Cursor,
     n: usize,
-    order: &[u64],
-    ends: &[u64],
-    ids: &[u8],
-    numbers: &mut [u64],
+    order: &[u64; ORDER_ROOM],
+    ends: &[u64; ENDS_ROOM],
+    ids: &[u8; IDS_ROOM],
+    numbers: &mut [u64; NUMBERS_ROOM],
 ) -> Verdict
     requires n_bound { n ≤ MAX_TXS }
-    requires in_bounds { IDS_ROOM ≤ length ids.now }
-    requires in_bounds_2 { NUMBERS_ROOM ≤ length numbers.old }
-    requires in_bounds_3 { ENDS_ROOM ≤ length ends.now }
     requires ids_from { IdsFrom count s.now start.at n ids.now }
     requires at_len { length (heads_from count s.now n start.at) ≡ n }
     ensures { (roots : List ℕ) (bumps : List BumpHead)
@@ -200,37 +171,24 @@ fn judge_entries(
         × Written s.now ids.now numbers.new (heads_from count s.now n start.at) (reached_by result) }
 {
     let mut next = start;
-    let mut i = 0;
-    while i < n {
-        let field = format::read_entry(s, next, count);
-        let EntryAnswer::Value(e, after) = field else {
+    for i in 0..n {
+        let Ok((e, after)) = format::read_entry(s, next, count) else {
             // Each was read before: this is not reached.
-            return Verdict::Refused(blame(reject(SHORT), i));
+            return Err(blame(reject(Refusal::Short), i));
         };
         let tx = e.transaction;
         let id = format::hash_at(ids, 32 * i);
-        let anchor = e.anchor;
-        let mined = end_at(ends, anchor_number(anchor), i);
-        let ruling = judge_entry(s, mined, &ids[..32 * i], order, id, e);
-        match ruling {
-            Ruling::Refuses(rejection) => {
-                return Verdict::Refused(blame(rejection, i));
-            }
-            Ruling::Passes {
-                anchored,
-                bump,
-                position,
-            } => {
-                let outputs = tx.outputs;
-                let total = outputs_total(s, outputs.count, outputs.at);
-                let row = numbers_of(tx, total, anchored, bump, position);
-                put_numbers(numbers, i, row);
+        let mined = end_at(ends, anchor_number(e.anchor), i);
+        match judge_entry(s, mined, &ids[..32 * i], order, id, e) {
+            Ok(standing) => {
+                let total = outputs_total(s, tx.outputs.count, tx.outputs.at);
+                put_numbers(numbers, i, numbers_of(tx, total, standing));
                 next = after;
-                i += 1;
             }
+            Err(rejection) => return Err(blame(rejection, i)),
         }
     }
-    Verdict::Accepted(i)
+    Ok(n)
 }
 
 // How many transactions passed before a verdict on them.
@@ -238,69 +196,56 @@ fn reached(verdict: Verdict) -> usize
     ensures { result ≡ reached_by verdict }
 {
     match verdict {
-        Verdict::Accepted(n) => n,
-        Verdict::Refused(rejection) => rejection.carried,
+        Ok(n) => n,
+        Err(rejection) => rejection.carried,
     }
 }
 
 // A refusal by 26, 27 or 28 comes before the verdict: it is asked only of transactions that passed before.
-fn settle(verdict: Verdict, fault: Fault) -> Verdict
-    ensures { (ids numbers : List ℕ) → judgement_of result ids numbers ≡ settled (fault_of fault) (judgement_of verdict ids numbers) }
+fn settle(verdict: Verdict, amounts: Checked) -> Verdict
+    ensures { (ids numbers : List ℕ) → judgement_of result ids numbers ≡ settled (amounts_of amounts) (judgement_of verdict ids numbers) }
 {
-    let number = fault.number;
-    let entry = fault.entry;
-    if number == 0 {
-        return verdict;
-    }
-    Verdict::Refused(blame(reject(number), entry))
+    amounts?;
+    verdict
 }
 
 // The bundle rule, for the bytes of a BEEF, a list of trusted roots end to end, a fee that is asked of each transaction, and a table of so many rows.
-// What the records say is written in a flat form with room for 256: their ids end to end, and ten numbers for each. Both callers lend that room; the
-// tests of it stand for a `requires`, which the proof of a caller would have to meet.
+// What the records say is written in a flat form with room for 256: their ids end to end, and ten numbers for each.
 pub(crate) fn judge_flat(
     s: &[u8],
     roots: &[u8],
     fee: u64,
     room: usize,
-    ids: &mut [u8],
-    numbers: &mut [u64],
+    ids: &mut [u8; IDS_ROOM],
+    numbers: &mut [u64; NUMBERS_ROOM],
 ) -> Judged
-    ensures { IDS_ROOM ≤ length ids.old → NUMBERS_ROOM ≤ length numbers.old → (judgement_of result.verdict ids.new numbers.new ≡ judge_beef s.now roots.now fee room)
+    ensures { (judgement_of result.verdict ids.new numbers.new ≡ judge_beef s.now roots.now fee room)
         × (result.work ≡ judge_work s.now roots.now fee room) }
 {
-    if ids.len() < IDS_ROOM {
-        return refused(NO_ROOM);
-    }
-    if numbers.len() < NUMBERS_ROOM {
-        return refused(NO_ROOM);
-    }
     if hash::MAX_INPUT < s.len() {
-        return refused(TOO_LONG);
+        return refused(Refusal::TooLong);
     }
     if roots.len() % 32 != 0 {
-        return refused(BAD_ROOTS);
+        return refused(Refusal::BadRoots);
     }
-    let bundle = format::read_bundle(s, room);
-    let answer = bundle.answer;
-    match answer {
-        BeefAnswer::Refused(refusal) => Judged {
-            verdict: Verdict::Refused(reject_reading(refusal)),
+    match format::read_bundle(s, room) {
+        Err(refusal) => Judged {
+            verdict: Err(reject_reading(refusal)),
             work: 0,
         },
-        BeefAnswer::Value(head, _) => {
+        Ok((bundle, _)) => {
             let bumps = bundle.bumps;
-            let count = head.bumps;
-            let start = head.entries;
-            let n = head.transactions;
+            let count = bundle.head.bumps;
+            let start = bundle.head.entries;
+            let n = bundle.head.transactions;
             let mut anchors = [0u64; Beef::MAX_TRANSACTIONS];
             let made = write_ids(s, count as u64, start, n, ids, &mut anchors);
             let mut ends = [0u64; ENDS_ROOM];
             climb_bumps(s, roots, bumps, count, n, &anchors, ids, &mut ends);
             let order = in_order(ids, n);
             let verdict = judge_entries(s, count as u64, start, n, &order, &ends, ids, numbers);
-            let fault = judge_amounts(s, ids, &order, numbers, reached(verdict), fee);
-            let verdict = settle(verdict, fault);
+            let amounts = judge_amounts(s, ids, &order, numbers, reached(verdict), fee);
+            let verdict = settle(verdict, amounts);
             let work = work_made(verdict, made, &anchors, &ends, n);
             Judged { verdict, work }
         }

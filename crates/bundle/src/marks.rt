@@ -1,29 +1,31 @@
 // Marks in a window of outputs (specs/Windows.antt): which transaction spends each.
+ghost use Rattle.format.specs.Refusals.{MAX_TXS};
 ghost use Rattle.std.specs.Prelude.{◌≡◌, ◌||◌, ◌+◌, ◌-◌, ◌<◌, ◌≤◌, ◌*◌, length};
 ghost use Rattle.spv.specs.Hashes.{hashes_of, Distinct};
 ghost use Rattle.bundle.specs.Windows.{mark_one, marked, mark_all, twice, lesser_if, marks_in, first_in};
 ghost use Rattle.bundle.specs.FlatForm.{four_at, through, spent_from, inputs_of, lists_from};
 
-use super::parents::place_among;
-use format::{Cursor, InputAnswer, Items, Number};
+use super::judge::NUMBERS_ROOM;
+use super::parents::{ORDER_ROOM, place_among};
+use super::pass::FIRSTS_ROOM;
+use format::{Cursor, Items};
 
 const U32: u64 = 4294967296;
 
 pub(crate) fn four_at(s: &[u8], at: usize) -> u64
     ensures { result ≡ four_at s.now at }
 {
-    let field = format::read_four(s, Cursor { at });
-    let Number::Value(v, _) = field else {
+    let Ok((v, _)) = format::read_four(s, Cursor { at }) else {
         return 0;
     };
     v
 }
 
 // An output's number through the bundle, by the number of its transaction's first output.
-fn through_bundle(firsts: &[u64], p: usize, v: u64) -> u64
+fn through_bundle(firsts: &[u64; FIRSTS_ROOM], p: usize, v: u64) -> u64
     ensures { result ≡ through firsts.now p v }
 {
-    if firsts.len() <= p {
+    if FIRSTS_ROOM <= p {
         return v % U32;
     }
     firsts[p] % U32 + v % U32
@@ -47,23 +49,14 @@ fn mark_one(marks: &mut [u8], base: u64, x: u64, k: u8) -> bool
     false
 }
 
-fn either(a: bool, b: bool) -> bool
-    ensures { result ≡ (a || b) }
-{
-    if a {
-        return true;
-    }
-    b
-}
-
 // Marks what the inputs spend in a window, and tells whether one was marked before.
 fn mark_inputs(
     s: &[u8],
     count: u64,
     start: Cursor,
     ids: &[u8],
-    order: &[u64],
-    firsts: &[u64],
+    order: &[u64; ORDER_ROOM],
+    firsts: &[u64; FIRSTS_ROOM],
     k: u8,
     base: u64,
     marks: &mut [u8],
@@ -74,26 +67,23 @@ fn mark_inputs(
     let mut next = start;
     let mut parent: usize = 0;
     let mut again = false;
-    let mut i: u64 = 0;
-    while i < count {
-        let field = format::read_input(s, next);
-        let InputAnswer::Value(input, after) = field else {
+    for _ in 0..count {
+        let Ok((input, after)) = format::read_input(s, next) else {
             return again;
         };
         let x = format::hash_at(s, input.parent);
         parent = place_among(x, ids, order, parent);
         let v = four_at(s, input.output);
         let marked = mark_one(marks, base, through_bundle(firsts, parent, v), k);
-        again = either(again, marked);
+        again |= marked;
         next = after;
-        i += 1;
     }
     again
 }
 
 // The inputs of the k-th transaction that count: none if it is anchored.
-pub(crate) fn inputs_of(numbers: &[u64], k: usize) -> Items
-    requires { 10 * k + 10 ≤ length numbers.now }
+pub(crate) fn inputs_of(numbers: &[u64; NUMBERS_ROOM], k: usize) -> Items
+    requires k_bound { k < MAX_TXS }
     ensures { result ≡ inputs_of numbers.now k }
 {
     let at = 10 * k;
@@ -127,29 +117,34 @@ fn earlier(first: usize, k: usize, meant: bool) -> usize
 pub(crate) fn mark_entries(
     s: &[u8],
     ids: &[u8],
-    order: &[u64],
-    numbers: &[u64],
-    firsts: &[u64],
+    order: &[u64; ORDER_ROOM],
+    numbers: &[u64; NUMBERS_ROOM],
+    firsts: &[u64; FIRSTS_ROOM],
     n: usize,
     base: u64,
     marks: &mut [u8],
     first: usize,
 ) -> usize
     requires n_bound { n ≤ 256 }
-    requires n_in_bounds { 10 * n ≤ length numbers.now }
     ensures { Distinct (hashes_of ids.now)
         → (marks.new ≡ marks_in base (length marks.old) 1 marks.old (lists_from s.now (hashes_of ids.now) numbers.now firsts.now 1 (n - 1)))
         × (result ≡ first_in base (length marks.old) 1 marks.old first (lists_from s.now (hashes_of ids.now) numbers.now firsts.now 1 (n - 1))) }
 {
     let mut first = first;
-    let mut k: usize = 1;
-    while k < n {
+    for k in 1..n {
         let inputs = inputs_of(numbers, k);
-        let count = inputs.count;
-        let at = inputs.at;
-        let again = mark_inputs(s, count, at, ids, order, firsts, k as u8, base, marks);
+        let again = mark_inputs(
+            s,
+            inputs.count,
+            inputs.at,
+            ids,
+            order,
+            firsts,
+            k as u8,
+            base,
+            marks,
+        );
         first = earlier(first, k, again);
-        k += 1;
     }
     first
 }

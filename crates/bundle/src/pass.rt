@@ -3,27 +3,26 @@ ghost use Rattle.std.specs.Prelude.{◌≡◌, ◌&&◌, List, [], ltb, ℕ, ◌
 ghost use Rattle.bundle.specs.Amounts.{Payment};
 ghost use Rattle.bundle.specs.FlatForm.{column};
 ghost use Rattle.bundle.specs.Pictured.{Pictured};
-ghost use Rattle.bundle.specs.Pass.{is_enough, fault_of, Counts, Firsts, Reached, Ends, Settles, Judged, WINDOW, Blank};
+ghost use Rattle.bundle.specs.Pass.{is_enough, amounts_of, Counts, Firsts, Reached, Ends, Settles, Judged, WINDOW, Blank};
 ghost use Rattle.bundle.specs.Numbers.{output_count};
-ghost use Rattle.format.specs.Refusals.{U32};
-ghost use Rattle.spv.specs.Result.{accepted};
+ghost use Rattle.format.specs.Refusals.{U32, MAX_TXS};
 ghost use Rattle.bundle.specs.Second.{second, fault_in};
 
+use super::judge::{NUMBERS_ROOM, blame};
 use super::marks::mark_entries;
+use super::parents::ORDER_ROOM;
 use super::sums::{Walk, add_outputs, walk_at};
-use format::refusal::{SPENT_TWICE, TOO_LITTLE};
+use format::{Beef, Refusal};
+use spv::{Rejection, reject};
 
 // The outputs of a window, for each of which a byte names its spender.
 const WINDOW: usize = 65536;
 
-const U32: u64 = 4294967296;
+// Where the outputs of each transaction start, and where those of all end.
+pub(crate) const FIRSTS_ROOM: usize = 257;
 
-// The first refusal: its number and its transaction, or 0 and 0.
-#[derive(Clone, Copy)]
-pub(crate) struct Fault {
-    pub number: u8,
-    pub entry: usize,
-}
+// Nothing, or the first refusal.
+pub(crate) type Checked = Result<(), Rejection>;
 
 fn no_marks() -> [u8; WINDOW]
     ensures { Blank WINDOW result }
@@ -32,9 +31,13 @@ fn no_marks() -> [u8; WINDOW]
 }
 
 // Whether the k-th transaction is anchored, or its inputs come to more than its outputs and the fee. Nothing is added to the fee, which may be any number.
-fn is_enough(numbers: &[u64], sums: &[u64], fee: u64, k: usize) -> bool
-    requires k_in_bounds { 10 * k + 10 ≤ length numbers.now }
-    requires k_in_bounds_2 { k < length sums.now }
+fn is_enough(
+    numbers: &[u64; NUMBERS_ROOM],
+    sums: &[u64; Beef::MAX_TRANSACTIONS],
+    fee: u64,
+    k: usize,
+) -> bool
+    requires k_bound { k < MAX_TXS }
     ensures { result ≡ is_enough fee (column numbers.now 3 k) (column numbers.now 6 k) (get_or sums.now k 0) }
 {
     let at = 10 * k;
@@ -49,42 +52,32 @@ fn is_enough(numbers: &[u64], sums: &[u64], fee: u64, k: usize) -> bool
     fee < sum - total
 }
 
-fn no_firsts() -> [u64; 257]
+fn no_firsts() -> [u64; FIRSTS_ROOM]
     ensures { Blank 257 result }
 {
-    [0u64; 257]
+    [0u64; FIRSTS_ROOM]
 }
 
-fn no_sums() -> [u64; 256]
+fn no_sums() -> [u64; Beef::MAX_TRANSACTIONS]
     ensures { Blank 256 result }
 {
-    [0u64; 256]
+    [0u64; Beef::MAX_TRANSACTIONS]
 }
 
 fn add_count(a: u64, b: u64) -> u64
     ensures { a + b < U32 → result ≡ a + b }
 {
-    if U32 <= a {
-        return 0;
-    }
-    if U32 <= b {
-        return 0;
-    }
-    a + b
+    a.wrapping_add(b)
 }
 
 // Where the outputs of each transaction start, counted through the bundle; after them how many there are.
-fn first_outputs(numbers: &[u64], n: usize) -> [u64; 257]
+fn first_outputs(numbers: &[u64; NUMBERS_ROOM], n: usize) -> [u64; FIRSTS_ROOM]
     requires n_bound { n ≤ 256 }
-    requires n_in_bounds { 10 * n ≤ length numbers.now }
     ensures { (l : List Payment) → length l ≡ n → Counts numbers.now l → Firsts result l }
 {
     let mut firsts = no_firsts();
-    let mut k = 0;
-    while k < n {
-        let count = numbers[10 * k + 5];
-        firsts[k + 1] = add_count(firsts[k], count);
-        k += 1;
+    for k in 0..n {
+        firsts[k + 1] = add_count(firsts[k], numbers[10 * k + 5]);
     }
     firsts
 }
@@ -99,18 +92,17 @@ struct Reach {
 fn one_window(
     s: &[u8],
     ids: &[u8],
-    order: &[u64],
-    numbers: &[u64],
-    firsts: &[u64],
+    order: &[u64; ORDER_ROOM],
+    numbers: &[u64; NUMBERS_ROOM],
+    firsts: &[u64; FIRSTS_ROOM],
     n: usize,
     base: u64,
     count: usize,
     first: usize,
     walk: Walk,
-    sums: &mut [u64],
+    sums: &mut [u64; Beef::MAX_TRANSACTIONS],
 ) -> Reach
     requires n_bound { n ≤ 256 }
-    requires n_in_bounds { 10 * n ≤ length numbers.now }
     requires count_bound { count ≤ WINDOW }
     ensures { (l : List Payment)
         → length l ≡ n
@@ -126,45 +118,30 @@ fn one_window(
     Reach { first, walk }
 }
 
-// How many of so many outputs go into the next window.
-fn window_count(left: u64) -> usize
-    ensures { (result ≤ left) × (result ≤ WINDOW) × (1 ≤ left → 1 ≤ result) }
-{
-    if left < WINDOW as u64 {
-        return left as usize;
-    }
-    WINDOW
-}
-
 fn all_windows(
     s: &[u8],
     ids: &[u8],
-    order: &[u64],
-    numbers: &[u64],
-    firsts: &[u64],
+    order: &[u64; ORDER_ROOM],
+    numbers: &[u64; NUMBERS_ROOM],
+    firsts: &[u64; FIRSTS_ROOM],
     n: usize,
     total: u64,
-    sums: &mut [u64],
+    sums: &mut [u64; Beef::MAX_TRANSACTIONS],
 ) -> usize
     requires le_n { 1 ≤ n }
     requires n_bound { n ≤ 256 }
-    requires n_in_bounds { 10 * n ≤ length numbers.now }
     ensures { (l : List Payment) → length l ≡ n → Pictured s.now ids.now numbers.now l → Firsts firsts.now l → total ≡ output_count l → Blank 256 sums.old → Ends l result sums.new }
 {
+    // Past the last for none, and no Option: it is a bound, before which none spends an output again.
     let mut first = n;
     let mut walk = walk_at(numbers, 0);
-    let mut base: u64 = 0;
-    while base < total {
-        let count = window_count(total - base);
-        if count < 1 {
-            return first;
-        }
+    for base in (0..total).step_by(WINDOW) {
+        let count = (total - base).min(WINDOW as u64) as usize;
         let reach = one_window(
             s, ids, order, numbers, firsts, n, base, count, first, walk, sums,
         );
         first = reach.first;
         walk = reach.walk;
-        base += count as u64;
     }
     first
 }
@@ -173,21 +150,18 @@ fn all_windows(
 pub(crate) fn judge_sums(
     s: &[u8],
     ids: &[u8],
-    order: &[u64],
-    numbers: &[u64],
+    order: &[u64; ORDER_ROOM],
+    numbers: &[u64; NUMBERS_ROOM],
     n: usize,
     fee: u64,
-) -> Fault
+) -> Checked
     ensures { Judged s.now ids.now numbers.now fee n result }
 {
     if n < 1 {
-        return no_fault();
+        return Ok(());
     }
     if 256 < n {
-        return no_fault();
-    }
-    if numbers.len() < 10 * n {
-        return no_fault();
+        return Ok(());
     }
     let firsts = first_outputs(numbers, n);
     let total = firsts[n];
@@ -196,39 +170,24 @@ pub(crate) fn judge_sums(
     first_fault(numbers, &sums, fee, n, first)
 }
 
-pub(crate) fn no_fault() -> Fault
-    ensures { fault_of result ≡ accepted tt }
-{
-    Fault {
-        number: 0,
-        entry: 0,
-    }
-}
-
 // The first refusal among so many transactions, by their sums and by the first of them that spends an output again.
-fn first_fault(numbers: &[u64], sums: &[u64], fee: u64, n: usize, first: usize) -> Fault
-    requires n_in_bounds { 10 * n ≤ length numbers.now }
-    requires n_in_bounds_2 { n ≤ length sums.now }
-    ensures { (l : List Payment) → Settles numbers.now sums.now fee n first l → fault_of result ≡ fault_in (second fee) n [] l }
+fn first_fault(
+    numbers: &[u64; NUMBERS_ROOM],
+    sums: &[u64; Beef::MAX_TRANSACTIONS],
+    fee: u64,
+    n: usize,
+    first: usize,
+) -> Checked
+    requires n_bound { n ≤ 256 }
+    ensures { (l : List Payment) → Settles numbers.now sums.now fee n first l → amounts_of result ≡ fault_in (second fee) n [] l }
 {
-    let mut k = 0;
-    while k < n {
+    for k in 0..n {
         if k == first {
-            return Fault {
-                number: SPENT_TWICE,
-                entry: k,
-            };
+            return Err(blame(reject(Refusal::SpentTwice), k));
         }
         if !is_enough(numbers, sums, fee, k) {
-            return Fault {
-                number: TOO_LITTLE,
-                entry: k,
-            };
+            return Err(blame(reject(Refusal::TooLittle), k));
         }
-        k += 1;
     }
-    Fault {
-        number: 0,
-        entry: 0,
-    }
+    Ok(())
 }

@@ -1,14 +1,13 @@
 // What the inputs of each transaction come to, by the marks of windows (specs/Walks.antt): all outputs are passed once, and each is added to the sum of its spender.
+ghost use Rattle.format.specs.Refusals.{MAX_TXS};
 ghost use Rattle.std.specs.Prelude.{◌≡◌, List, ℕ, ◌+◌, ◌<◌, ◌≤◌, ◌*◌, length, get_or, set};
 ghost use Rattle.bundle.specs.Amounts.{Payment};
 ghost use Rattle.bundle.specs.Walks.{walk_at, onward_of, Counted, Here, Says, Sums};
 ghost use Rattle.bundle.specs.Numbers.{output_count};
 ghost use Rattle.bundle.specs.BundleHeads.{total_from};
 
-use format::{Cursor, Number};
-
-// No sum of a bundle's amounts is above it.
-const LIMIT: u64 = 9223372036854775807;
+use super::judge::NUMBERS_ROOM;
+use format::{Beef, Cursor};
 
 // The total of so many outputs that were read before.
 pub(crate) fn outputs_total(s: &[u8], count: u64, start: Cursor) -> u64
@@ -16,15 +15,12 @@ pub(crate) fn outputs_total(s: &[u8], count: u64, start: Cursor) -> u64
 {
     let mut next = start;
     let mut total: u64 = 0;
-    let mut i: u64 = 0;
-    while i < count {
-        let field = format::read_output(s, next, true, total);
-        let Number::Value(amount, after) = field else {
+    for _ in 0..count {
+        let Ok((amount, after)) = format::read_output(s, next, true, total) else {
             return total;
         };
-        total = total + amount;
+        total += amount;
         next = after;
-        i += 1;
     }
     total
 }
@@ -38,8 +34,8 @@ pub(crate) struct Walk {
 }
 
 // The first output of the k-th transaction.
-pub(crate) fn walk_at(numbers: &[u64], k: usize) -> Walk
-    requires { 10 * k + 10 ≤ length numbers.now }
+pub(crate) fn walk_at(numbers: &[u64; NUMBERS_ROOM], k: usize) -> Walk
+    requires k_bound { k < MAX_TXS }
     ensures { result ≡ walk_at numbers.now k }
 {
     let at = 10 * k;
@@ -53,7 +49,7 @@ pub(crate) fn walk_at(numbers: &[u64], k: usize) -> Walk
 }
 
 // The next output there is: if none is left of a transaction, the first of the next one.
-fn onward(numbers: &[u64], walk: Walk) -> Walk
+fn onward(numbers: &[u64; NUMBERS_ROOM], walk: Walk) -> Walk
     ensures { result ≡ onward_of numbers.now walk }
 {
     if walk.left != 0 {
@@ -63,33 +59,19 @@ fn onward(numbers: &[u64], walk: Walk) -> Walk
     if 256 <= entry {
         return walk;
     }
-    if numbers.len() < 10 * entry + 20 {
+    if NUMBERS_ROOM < 10 * entry + 20 {
         return walk;
     }
     walk_at(numbers, entry + 1)
 }
 
 // Adds to the k-th sum.
-fn add_to(sums: &mut [u64], k: usize, amount: u64)
+fn add_to(sums: &mut [u64; Beef::MAX_TRANSACTIONS], k: usize, amount: u64)
     ensures { k < length sums.old → get_or sums.old k 0 + amount < 9223372036854775808 → sums.new ≡ set sums.old k (get_or sums.old k 0 + amount) }
 {
-    if sums.len() <= k {
-        return;
+    if k < sums.len() {
+        sums[k] = sums[k].wrapping_add(amount);
     }
-    let sum = sums[k];
-    if LIMIT < sum {
-        return;
-    }
-    if LIMIT < amount {
-        return;
-    }
-    sums[k] = sum + amount;
-}
-
-fn small(b: u8) -> usize
-    ensures { result ≡ b }
-{
-    b as usize
 }
 
 fn mark_at(marks: &[u8], j: usize) -> usize
@@ -98,17 +80,17 @@ fn mark_at(marks: &[u8], j: usize) -> usize
     if marks.len() <= j {
         return 0;
     }
-    small(marks[j])
+    marks[j] as usize
 }
 
 // Adds so many outputs from a place on, each to the sum that its mark names.
 pub(crate) fn add_outputs(
     s: &[u8],
-    numbers: &[u64],
+    numbers: &[u64; NUMBERS_ROOM],
     marks: &[u8],
     count: usize,
     walk: Walk,
-    sums: &mut [u64],
+    sums: &mut [u64; Beef::MAX_TRANSACTIONS],
 ) -> Walk
     ensures { (l : List Payment)
         → (spender : ℕ → ℕ)
@@ -122,11 +104,9 @@ pub(crate) fn add_outputs(
         × Here s.now l result (m + count) }
 {
     let mut walk = walk;
-    let mut j = 0;
-    while j < count {
+    for j in 0..count {
         let here = onward(numbers, walk);
-        let field = format::read_output(s, here.next, false, 0);
-        let Number::Value(amount, after) = field else {
+        let Ok((amount, after)) = format::read_output(s, here.next, false, 0) else {
             return walk;
         };
         if here.left < 1 {
@@ -138,7 +118,6 @@ pub(crate) fn add_outputs(
             left: here.left - 1,
             next: after,
         };
-        j += 1;
     }
     walk
 }

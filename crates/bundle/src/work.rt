@@ -2,13 +2,12 @@
 ghost use Rattle.std.specs.Prelude.{◌≡◌, ◌+◌, ◌*◌, ◌<◌, ◌≤◌, length};
 ghost use Rattle.format.specs.Refusals.{MAX_TXS};
 ghost use Rattle.bundle.specs.Windows.{sum_to};
-ghost use Rattle.bundle.specs.Anchored.{ENDS_ROOM};
 ghost use Rattle.bundle.specs.Work.{id_work, JOIN};
 ghost use Rattle.bundle.specs.WorkMade.{kept_joins, climbs_before, climbs_made};
 
+use super::anchored::ENDS_ROOM;
 use super::judge::Verdict;
-use format::Beef;
-use format::refusal::SAME_TX;
+use format::{Beef, Refusal};
 use spv::Rejection;
 
 // No climb takes as many joins.
@@ -24,10 +23,8 @@ pub(crate) fn id_work(n: usize) -> u64
 }
 
 // The joins of the k-th transaction's climb, as they were kept; none if it names no BUMP.
-fn kept_joins(anchors: &[u64], ends: &[u64], k: usize) -> u64
+fn kept_joins(anchors: &[u64; Beef::MAX_TRANSACTIONS], ends: &[u64; ENDS_ROOM], k: usize) -> u64
     requires k_bound { k < MAX_TXS }
-    requires k_in_bounds { k < length anchors.now }
-    requires in_bounds { ENDS_ROOM ≤ length ends.now }
     ensures { (result ≡ kept_joins anchors.now ends.now k) × (result < 4294967296) }
 {
     if Beef::MAX_BUMPS as u64 <= anchors[k] {
@@ -37,17 +34,13 @@ fn kept_joins(anchors: &[u64], ends: &[u64], k: usize) -> u64
 }
 
 // The joins of the first n climbs.
-fn joins_made(anchors: &[u64], ends: &[u64], n: usize) -> u64
+fn joins_made(anchors: &[u64; Beef::MAX_TRANSACTIONS], ends: &[u64; ENDS_ROOM], n: usize) -> u64
     requires n_bound { n ≤ MAX_TXS }
-    requires n_in_bounds { n ≤ length anchors.now }
-    requires in_bounds { ENDS_ROOM ≤ length ends.now }
     ensures { (result ≡ sum_to (kept_joins anchors.now ends.now) n) × (result ≤ 4294967296 * n) }
 {
     let mut joins: u64 = 0;
-    let mut k = 0;
-    while k < n {
+    for k in 0..n {
         joins += kept_joins(anchors, ends, k);
-        k += 1;
     }
     joins
 }
@@ -59,7 +52,7 @@ fn climbs_before(rejection: Rejection, n: usize) -> usize
     if n <= rejection.carried {
         return n;
     }
-    if rejection.number == SAME_TX {
+    if rejection.number == Refusal::SameTx.number() {
         return rejection.carried;
     }
     rejection.carried + 1
@@ -70,17 +63,21 @@ fn climbs_made(verdict: Verdict, n: usize) -> usize
     ensures { (result ≡ climbs_made verdict n) × (result ≤ n) }
 {
     match verdict {
-        Verdict::Accepted(_) => n,
-        Verdict::Refused(rejection) => climbs_before(rejection, n),
+        Ok(_) => n,
+        Err(rejection) => climbs_before(rejection, n),
     }
 }
 
 // The work of judging n transactions to a verdict, after that of their ids.
-pub(crate) fn work_made(verdict: Verdict, ids: u64, anchors: &[u64], ends: &[u64], n: usize) -> u64
+pub(crate) fn work_made(
+    verdict: Verdict,
+    ids: u64,
+    anchors: &[u64; Beef::MAX_TRANSACTIONS],
+    ends: &[u64; ENDS_ROOM],
+    n: usize,
+) -> u64
     requires ids_bound { ids ≤ 67109376 }
     requires n_bound { n ≤ MAX_TXS }
-    requires n_in_bounds { n ≤ length anchors.now }
-    requires in_bounds { ENDS_ROOM ≤ length ends.now }
     ensures { result ≡ ids + JOIN * sum_to (kept_joins anchors.now ends.now) (climbs_made verdict n) }
 {
     let climbs = climbs_made(verdict, n);

@@ -1,11 +1,9 @@
 -- Laws of the count of joins (02, Item 11).
-use Rattle.std.proofs.Common.{◌≡◌, ℕ, zero, suc, ◌+◌, ◌-◌, ◌*◌, ◌/◌, ◌^◌, ◌<◌, ◌≤◌, Bool, true, false, List, ◌++◌, get_or, sym, refl, ap, ◌∙◌, ap₂, zero-lt-suc, pow-suc, arith}
+use Rattle.std.proofs.Common.{◌≡◌, Option, Some, None, ℕ, zero, suc, ◌+◌, ◌-◌, ◌*◌, ◌/◌, ◌^◌, ◌<◌, ◌≤◌, Bool, true, false, List, ◌++◌, get_or, sym, refl, ap, ◌∙◌, ap₂, zero-lt-suc, pow-suc, arith}
 use native.Mathlib.Nat.{pow-zero}
 use Rattle.hash.specs.Sha256.{sha256d}
 use Rattle.format.specs.declared.leaf.Leaf.{Leaf}
 use Rattle.format.specs.Parse.{pick}
-use Rattle.path.specs.declared.path.Start.{Start}
-use Rattle.path.specs.declared.path.Start.TheVariants.{At, Nowhere}
 use Rattle.spv.specs.Result.{accepted}
 use Rattle.spv.specs.Climb.{Sibling, value, copied, absent, Siblings, Step, joins, fails, step, odd, sibling_position, sibling_positions, ascend, ascend_by, end_of, end_by}
 use Rattle.spv.proofs.ClimbLaws.{ascended}
@@ -220,7 +218,7 @@ module _ (w v : Siblings) (h : ℕ) (f : (k q : ℕ) → k < h → w k q ≡ v k
           ∙ sym (climb_joins_lem v k n j c a b (at (joins a b) e))
       go (fails number) e up = climb_fails w k n j c number e ∙ cost_same k (sibling_position j) below ∙ sym (climb_fails v k n j c number (at (fails number) e))
 
-  pub start-same : (id : List ℕ) (x : Start) → start_cost w h id x ≡ start_cost v h id x
+  pub start-same : (id : List ℕ) (x : Option ℕ) → start_cost w h id x ≡ start_cost v h id x
   unfolding start_cost
-  start-same id (At i) = climb_cost_same 0 h i id (omega arith)
-  start-same id Nowhere = refl
+  start-same id (Some i) = climb_cost_same 0 h i id (omega arith)
+  start-same id None = refl

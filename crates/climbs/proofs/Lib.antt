@@ -6,7 +6,6 @@ pub mod OrderLaws
 pub mod TogetherLaws
 pub mod RiseLaws
 pub mod ProofsLaws
-pub mod ClientsShapesLaws
 pub mod ClientsLaws
 pub mod WaitingLaws
 pub mod ReachLaws

@@ -1,6 +1,8 @@
 -- Laws of proofs in rows: all rows climbed say what each id's own proof says.
-use Rattle.std.proofs.Common.{◌≡◌, ℕ, zero, suc, ◌+◌, ◌*◌, ◌/◌, ◌^◌, ◌<◌, ◌≤◌, Bool, true, false, ◌&&◌, eqb, ltb, leb, List, [], ◌∷◌, ◌++◌, length, get_or, take, drop, set, replicate, sym, refl, ap, ◌∙◌, subst, ap₂, append_assoc, div-one, add-one, arith, length-append, length-drop, take-append-drop, length-take-le, take_all, get_or-set_other, get_or-set_same, take_at, ext_get_or, drop_at, le-ltb, lt-ltb, eq-eqb, ne_eqb, eqb-true, le-leb, leb-true}
+use Rattle.std.proofs.Common.{◌≡◌, Option, Some, None, Ok, Err, ℕ, zero, suc, ◌+◌, ◌*◌, ◌/◌, ◌^◌, ◌<◌, ◌≤◌, Bool, true, false, ◌&&◌, eqb, ltb, leb, List, [], ◌∷◌, ◌++◌, length, get_or, take, drop, set, replicate, sym, refl, ap, ◌∙◌, subst, ap₂, append_assoc, div-one, add-one, arith, length-append, length-drop, take-append-drop, length-take-le, take_all, get_or-set_other, get_or-set_same, take_at, ext_get_or, drop_at, le-ltb, lt-ltb, eq-eqb, ne_eqb, eqb-true, le-leb, leb-true}
+use Rattle.std.specs.Option.{unwrap_or}
 use lib.ListN.{length-replicate, get_or-append}
+use Rattle.std.proofs.lemmas.List.{get_or-replicate}
 use lib.Seq.{take-append-le, drop-append-le}
 use borrow.Author.Tests.{lt-leb, eqb-false}
 use Rattle.hash.specs.Sha256.{sha256d}
@@ -13,8 +15,6 @@ use Rattle.format.specs.Parse.{pick}
 use Rattle.format.specs.Refusals.{NOT_LISTED}
 use Rattle.path.specs.declared.path.Form.{Form}
 use Rattle.path.specs.declared.path.Path.{Path}
-use Rattle.path.specs.declared.path.Start.{Start}
-use Rattle.path.specs.declared.path.Start.TheVariants.{At, Nowhere}
 use Rattle.path.specs.Path.{leaf_in, start_in}
 use Rattle.spv.specs.Result.{Result, accepted, refused, carrying, at_sibling}
 use Rattle.spv.specs.Climb.{Siblings, sibling_position, odd, Step, joins, fails, step, Ascent, ascend_by, ascend, end_by, end_of}
@@ -57,6 +57,15 @@ first_more f n l v b g e i h = go (eqb i n) refl
     go : (t : Bool) → eqb i n ≡ t → get_or (set l n v) i 0 ≡ f i
     go true q = let z = eqb-true i n q in ap (λ (m : ℕ). get_or (set l n v) m 0) z ∙ get_or-set_same l n v 0 b ∙ e ∙ ap f (sym z)
     go false q = let z = eqb-false i n q in get_or-set_other l n i v 0 z ∙ g i (omega arith)
+
+pub start_or : (x : Option ℕ) → unwrap_or x 0 ≡ start_row x
+unfolding start_row
+start_or (Some i) = refl
+start_or None = refl
+
+pub first-zeros : (n : ℕ) (l : List ℕ) → l ≡ replicate n 0 → First (λ _. 0) n l
+unfolding First
+first-zeros n l e i b = rw e (get_or-replicate n i 0 0 b)
 
 pub first_rows : (f : ℕ → ℕ) (n : ℕ) (l : List ℕ) → length l ≡ n → First f n l → l ≡ rows f n
 unfolding First
@@ -111,34 +120,6 @@ module _ (f : ℕ → List ℕ) (each : (i : ℕ) → length (f i) ≡ 32) where
 
 -- ---- whether there is room
 
-module _ (layers count states hashes : ℕ) where
-  pub many-layers : 64 < layers → has_room layers count states hashes ≡ false
-  unfolding has_room
-  many-layers a = rw (lt-leb layers 64 a)
-
-  module _ (few : layers ≤ 64) where
-    pub many-rows : 256 < count → has_room layers count states hashes ≡ false
-    unfolding has_room
-    many-rows b = rw (le-leb layers 64 few, lt-leb count 256 b)
-
-    module _ (some : count ≤ 256) where
-      pub few_states : states < count → has_room layers count states hashes ≡ false
-      unfolding has_room
-      few_states c = rw (le-leb layers 64 few, le-leb count 256 some, lt-leb count states c)
-
-      pub room_last : count ≤ states → has_room layers count states hashes ≡ leb (32 * count) hashes
-      unfolding has_room
-      room_last c = rw (le-leb layers 64 few, le-leb count 256 some, le-leb count states c)
-
-module _ (path : Path) (count states hashes : ℕ) where
-  pub fits-levels : path.form ≡ Form.Bump → fits path count states hashes ≡ has_room path.layers count states hashes
-  unfolding fits
-  fits-levels e = ap (λ (x : Form). is_bump x && has_room path.layers count states hashes) e
-
-  pub fits-none : is_bump path.form ≡ false → fits path count states hashes ≡ false
-  unfolding fits
-  fits-none e = ap (λ (t : Bool). t && has_room path.layers count states hashes) e
-
 pub record Fitting (path : Path) (count states hashes : ℕ) : Type 0 where
   pub levels : Levels path
   pub some : count ≤ 256
@@ -181,9 +162,6 @@ module _ (state : ℕ) (hashes : List ℕ) (i : ℕ) where
 
 pub closed-end : (m n : ℕ) (states hashes states' hashes' : List ℕ) → m ≡ n → Closed m states hashes states' hashes' → Closed n states hashes states' hashes'
 closed-end m n states hashes states' hashes' e v = rw e at v
-
-pub closed_none : (states hashes : List ℕ) → Closed 0 states hashes states hashes
-closed_none states hashes = record { state = λ i b. absurd (omega arith); hash = λ i b. absurd (omega arith); left = λ i b. (refl, refl) }
 
 module _ (n : ℕ) (states hashes states₁ hashes₁ states₂ hashes₂ : List ℕ) (v : Closed n states hashes states₁ hashes₁) (inside : n < length states₁) (room : 32 * n + 32 ≤ length hashes₁)
     (es : states₂ ≡ set states₁ n (closed_state (get_or states₁ n 0))) (eh : hashes₂ ≡ closed_hashes (get_or states₁ n 0) hashes₁ n) where
@@ -253,33 +231,33 @@ closed-hash start state c = go (ltb state 128)
 -- ---- one proof
 
 -- what the climb of an id comes to, from where it stands
-unfoldable climb_from : Siblings → ℕ → List ℕ → Start → Result (List ℕ)
-climb_from σ h id (At i) = end_of id (ascend σ 0 h i id)
-climb_from σ h id Nowhere = refused (carrying NOT_LISTED 0)
+unfoldable climb_from : Siblings → ℕ → List ℕ → Option ℕ → Result (List ℕ)
+climb_from σ h id (Some i) = end_of id (ascend σ 0 h i id)
+climb_from σ h id None = refused (carrying NOT_LISTED 0)
 
-leads_begun : (σ : Siblings) (h : ℕ) (id : List ℕ) (x : Start) → leads σ h (start_row x) (begun_row x) id ≡ climb_from σ h id x
+leads_begun : (σ : Siblings) (h : ℕ) (id : List ℕ) (x : Option ℕ) → leads σ h (start_row x) (begun_row x) id ≡ climb_from σ h id x
 unfolding start_row begun_row climb_from leads
-leads_begun σ h id (At i) = leads-start σ h i id
-leads_begun σ h id Nowhere = ap refused (refusal-none 0)
+leads_begun σ h id (Some i) = leads-start σ h i id
+leads_begun σ h id None = ap refused (refusal-none 0)
 
-owes_begun : (w : Siblings) (h : ℕ) (id : List ℕ) (x : Start) → owes w h (start_row x) (begun_row x) id ≡ start_cost w h id x
+owes_begun : (w : Siblings) (h : ℕ) (id : List ℕ) (x : Option ℕ) → owes w h (start_row x) (begun_row x) id ≡ start_cost w h id x
 unfolding start_row begun_row start_cost owes
-owes_begun w h id (At i) = owes-start w h i id
-owes_begun w h id Nowhere = refl
+owes_begun w h id (Some i) = owes-start w h i id
+owes_begun w h id None = refl
 
-climb_root : (σ : Siblings) (h : ℕ) (id : List ℕ) (x : Start) → climb_from σ h id x ≡ root_by (prove (starting σ h id x))
+climb_root : (σ : Siblings) (h : ℕ) (id : List ℕ) (x : Option ℕ) → climb_from σ h id x ≡ root_by (prove (starting σ h id x))
 unfolding climb_from starting prove_by settle hits root_by
-climb_root σ h id Nowhere = refl
-climb_root σ h id (At i) = go (end_of id (ascend σ 0 h i id))
+climb_root σ h id None = refl
+climb_root σ h id (Some i) = go (end_of id (ascend σ 0 h i id))
   where
     go : (v : Result (List ℕ)) → v ≡ root_by (settle any (proof_of σ h i id) v)
     go (accepted r) = refl
     go (refused why) = refl
 
-climb_same : (σ τ : Siblings) (h : ℕ) (id : List ℕ) → ((k q : ℕ) → k < h → σ k q ≡ τ k q) → (x : Start) → climb_from σ h id x ≡ climb_from τ h id x
+climb_same : (σ τ : Siblings) (h : ℕ) (id : List ℕ) → ((k q : ℕ) → k < h → σ k q ≡ τ k q) → (x : Option ℕ) → climb_from σ h id x ≡ climb_from τ h id x
 unfolding climb_from
-climb_same σ τ h id f (At i) = ap (end_of id) (ascend-same σ τ h f i id)
-climb_same σ τ h id f Nowhere = refl
+climb_same σ τ h id f (Some i) = ap (end_of id) (ascend-same σ τ h f i id)
+climb_same σ τ h id f None = refl
 
 -- ---- all rows have climbed
 
@@ -319,7 +297,7 @@ module _ (s : List ℕ) (path : Path) (v : Levels path) (starts states hashes co
   unfolding Settled First owes_at joins_in
   cost_row i b =
       let w : Siblings = written_by s (find_at Layout.Bump s path.at) in
-      let x : Start = start_in s path (id_at hashes i) in
+      let x : Option ℕ = start_in s path (id_at hashes i) in
       let h : ℕ = path.layers in
       let e = settled i (omega arith) (omega arith) in
       let z = none i b in
@@ -372,21 +350,21 @@ unfolding root_in path_reading climb_from root_row
 root-long s path id e =
     ap (λ (v : Result (List ℕ)). length (root_row v)) (sym (climb_root (path_siblings s path) path.layers id (start_in s path id))) ∙ go (start_in s path id)
   where
-    go : (x : Start) → length (root_row (climb_from (path_siblings s path) path.layers id x)) ≡ 32
-    go (At i) = climb_long (path_siblings s path) path.layers 0 i id e
-    go Nowhere = length-replicate {A = ℕ} 32 0
+    go : (x : Option ℕ) → length (root_row (climb_from (path_siblings s path) path.layers id x)) ≡ 32
+    go (Some i) = climb_long (path_siblings s path) path.layers 0 i id e
+    go None = length-replicate {A = ℕ} 32 0
 
 -- start, state and root of one proof say what it proves
-proof-row : (σ : Siblings) (h : ℕ) (id : List ℕ) → h ≤ 64 → (x : Start)
-    → pick (eqb (state_row (root_by (prove (starting σ h id x)))) 0) (accepted_of (start_row x) h id (root_row (root_by (prove (starting σ h id x))))) (proved_of (refused (refusal_of (start_row x) (state_row (root_by (prove (starting σ h id x)))))))
+proof-row : (σ : Siblings) (h : ℕ) (id : List ℕ) → h ≤ 64 → (x : Option ℕ)
+    → pick (eqb (state_row (root_by (prove (starting σ h id x)))) 0) (Ok (accepted_of (start_row x) h id (root_row (root_by (prove (starting σ h id x)))))) (Err (refusal_of (start_row x) (state_row (root_by (prove (starting σ h id x))))))
     ≡ proved_of (prove (starting σ h id x))
-unfolding starting prove_by settle hits root_by start_row state_row root_row proved_of
-proof-row σ h id b Nowhere = ap (λ (y : Rejection). proved_of (refused y)) (refusal-none 0)
-proof-row σ h id b (At i) = go (end_of id (ascend σ 0 h i id)) refl
+unfolding starting prove_by settle hits root_by start_row state_row root_row
+proof-row σ h id b None = ap (λ (y : Rejection). proved_of (refused y)) (refusal-none 0)
+proof-row σ h id b (Some i) = go (end_of id (ascend σ 0 h i id)) refl
   where
     go : (v : Result (List ℕ)) → end_of id (ascend σ 0 h i id) ≡ v
-        → pick (eqb (state_row (root_by (settle any (proof_of σ h i id) v))) 0) (accepted_of i h id (root_row (root_by (settle any (proof_of σ h i id) v))))
-        (proved_of (refused (refusal_of i (state_row (root_by (settle any (proof_of σ h i id) v))))))
+        → pick (eqb (state_row (root_by (settle any (proof_of σ h i id) v))) 0) (Ok (accepted_of i h id (root_row (root_by (settle any (proof_of σ h i id) v)))))
+        (Err (refusal_of i (state_row (root_by (settle any (proof_of σ h i id) v)))))
         ≡ proved_of (settle any (proof_of σ h i id) v)
     go (accepted r) e = refl
     go (refused why) e =
@@ -491,10 +469,10 @@ module _ (s : List ℕ) (path : Path) (starts states hashes costs : List ℕ) wh
 -- ---- for those who call
 
 -- the joins of a proof by levels that were read
-pub joins-levels : (s : List ℕ) (path : Path) (h : ℕ) (levels : List (List Leaf)) (id : List ℕ) (x : Start) → LeadsTo s path h levels → start_in s path id ≡ x → joins_in s path id ≡ start_cost (written_by s (find_in levels)) h id x
+pub joins-levels : (s : List ℕ) (path : Path) (h : ℕ) (levels : List (List Leaf)) (id : List ℕ) (x : Option ℕ) → LeadsTo s path h levels → start_in s path id ≡ x → joins_in s path id ≡ start_cost (written_by s (find_in levels)) h id x
 unfolding joins_in
 joins-levels s path h levels id x l e =
-    ap₂ (λ (n : ℕ) (y : Start). start_cost (written_by s (leaf_in s path)) n id y) l.layers e
+    ap₂ (λ (n : ℕ) (y : Option ℕ). start_cost (written_by s (leaf_in s path)) n id y) l.layers e
     ∙ start-same (written_by s (leaf_in s path)) (written_by s (find_in levels)) h (λ k q b. ap (sibling s) (l.leaf k q b)) id x
 
 module _ (s : List ℕ) (path : Path) (starts states hashes : List ℕ) (room : fits path (length starts) (length states) (length hashes) ≡ true) (i : ℕ) (b : i < length starts) where
@@ -528,10 +506,10 @@ module _ (s : List ℕ) (path : Path) (starts states hashes : List ℕ) (room : 
 -- ---- the answer of a row
 
 module _ (layers : ℕ) (id starts states hashes : List ℕ) (i start : ℕ) (es : start ≡ get_or starts i 0) where
-  pub proved-root : (root : List ℕ) → get_or states i 0 ≡ 0 → root ≡ hash_at hashes (32 * i) → accepted_of start layers id root ≡ proved_at layers id starts states hashes i
+  pub proved-root : (root : List ℕ) → get_or states i 0 ≡ 0 → root ≡ hash_at hashes (32 * i) → Ok (accepted_of start layers id root) ≡ proved_at layers id starts states hashes i
   unfolding proved_at
   proved-root root e f = rw (eq-eqb (get_or states i 0) 0 e, es, f)
 
-  pub proved-refusal : (state : ℕ) (why : Rejection) → state ≡ get_or states i 0 → (state ≡ 0 → ⊥) → why ≡ refusal_of start state → proved_of (refused why) ≡ proved_at layers id starts states hashes i
+  pub proved-refusal : (state : ℕ) (why : Rejection) → state ≡ get_or states i 0 → (state ≡ 0 → ⊥) → why ≡ refusal_of start state → Err why ≡ proved_at layers id starts states hashes i
   unfolding proved_at
   proved-refusal state why e ne f = rw (f, es, e) (rw (ne_eqb (get_or states i 0) 0 (λ z. ne (e ∙ z))))

@@ -1,22 +1,21 @@
 -- Laws of climbs in rows: one layer more leads where the row led, and at the end a row has come there.
-use Rattle.std.proofs.Common.{◌≡◌, ℕ, ◌+◌, ◌-◌, ◌*◌, ◌/◌, ◌%◌, ◌^◌, ◌<◌, ◌≤◌, Bool, true, false, eqb, ltb, List, ◌++◌, length, get_or, set, sym, refl, ap, ◌∙◌, le_trans, le_refl, div-one, arith, get_or-set_other, get_or-set_same, shr-shr, le-ltb, lt-ltb, eq-eqb, ne_eqb, eqb-true}
+use Rattle.std.proofs.Common.{◌≡◌, Result as Answer, Ok, Err, ℕ, ◌+◌, ◌-◌, ◌*◌, ◌/◌, ◌%◌, ◌^◌, ◌<◌, ◌≤◌, Bool, true, false, eqb, ltb, List, ◌++◌, length, get_or, set, sym, refl, ap, ◌∙◌, subst, le_trans, le_refl, div-one, arith, get_or-set_other, get_or-set_same, shr-shr, le-ltb, lt-ltb, eq-eqb, ne_eqb, eqb-true}
 use native.Mathlib.Nat.{sub-zero}
 use borrow.Author.Tests.{eqb-false}
 use Rattle.hash.specs.Sha256.{sha256d}
+use Rattle.hash.proofs.Sha256Laws.{sha256d-length}
+use Rattle.format.specs.declared.refusal.Refusal.{Refusal}
 use Rattle.format.specs.Bytes.{same, set_hash, hash_at}
 use Rattle.format.proofs.BytesLaws.{set-inside}
 use Rattle.format.specs.Parse.{pick}
-use Rattle.format.specs.Refusals.{NOT_LISTED, MISSING, TWIN}
+use Rattle.format.specs.Refusals.{NOT_LISTED, MISSING, TWIN, refusal_number}
 use Rattle.spv.specs.Result.{carrying, at_sibling}
 use Rattle.spv.specs.Climb.{Sibling, value, copied, absent, Siblings, sibling_position, odd, Step, joins, fails, joined, step, ascend, end_by, end_of}
 use Rattle.spv.proofs.ClimbLaws.{turn-joins, turn-fails, turn-none}
-use Rattle.spv.specs.Shapes.{joined_of}
-use Rattle.spv.proofs.ShapesLaws.{told-joins, told-fails}
+use Rattle.spv.specs.Shapes.{step_of}
 use Rattle.spv.proofs.Stored.{stored_here, stored_other}
-use Rattle.spv.specs.declared.climb.StepKind.{StepKind}
-use Rattle.spv.specs.declared.climb.StepKind.TheVariants.{Joins, Fails}
-use Rattle.spv.specs.declared.climb.Joined.{Joined}
-use Rattle.climbs.specs.Row.{number_of, sibling_at, refusal_of, leads, leads_at, came, state_by, hashes_by, states_after, hashes_after, Moved}
+use Rattle.spv.specs.declared.climb.Halves.{Halves}
+use Rattle.climbs.specs.Row.{number_of, sibling_at, refusal_of, leads, leads_at, came, made_of, state_by, hashes_by, states_after, hashes_after, Moved}
 
 -- ---- one row
 
@@ -114,58 +113,73 @@ module _ (σ : Siblings) (layer : ℕ) (starts states hashes states' hashes' : L
 
 -- ---- a row one layer on
 
-module _ (states hashes : List ℕ) (row k : ℕ) (t : Joined) (parent : List ℕ) where
+-- what a layer made is what a step says
+abbrev pub Makes : Answer (List ℕ) Refusal → Step → Type 0
+Makes (Ok parent) st = (l : List ℕ) × (r : List ℕ) × (st ≡ joins l r) × (parent ≡ sha256d (l ++ r))
+Makes (Err refusal) st = st ≡ fails (refusal_number refusal)
+
+pub makes : (turned : Answer Halves Refusal) (st : Step) → step_of turned ≡ st → Makes (made_of turned) st
+makes (Ok h) st e = (h.left, h.right, sym e, refl)
+makes (Err refusal) st e = sym e
+
+pub makes_by : (made : Answer (List ℕ) Refusal) (turned : Answer Halves Refusal) (st : Step) → made ≡ made_of turned → step_of turned ≡ st → Makes made st
+makes_by made turned st e f = rw e (makes turned st f)
+
+module _ (states hashes : List ℕ) (row k : ℕ) (made : Answer (List ℕ) Refusal) where
   abbrev states₁ : List ℕ
-  states₁ = states_after states row k t.kind
+  states₁ = states_after states row k made
 
   abbrev hashes₁ : List ℕ
-  hashes₁ = hashes_after states hashes row k t.kind parent
+  hashes₁ = hashes_after states hashes row k made
 
   pub advance_stays : (get_or states row 0 ≡ k → ⊥) → (states₁ ≡ states) × (hashes₁ ≡ hashes)
   unfolding states_after hashes_after
   advance_stays ne = let e = ne_eqb (get_or states row 0) k ne in (rw e, rw e)
 
   module _ (here : get_or states row 0 ≡ k) where
-    pub advance-joins : t.kind ≡ Joins → (states₁ ≡ set states row (k + 1)) × (hashes₁ ≡ set_hash hashes row parent)
+    pub advance-joins : (parent : List ℕ) → made ≡ Ok parent → (states₁ ≡ set states row (k + 1)) × (hashes₁ ≡ set_hash hashes row parent)
     unfolding states_after hashes_after state_by hashes_by
-    advance-joins e = let z = eq-eqb (get_or states row 0) k here in (rw (z, e), rw (z, e))
+    advance-joins parent e = let z = eq-eqb (get_or states row 0) k here in (rw (z, e), rw (z, e))
 
-    pub advance-fails : (number : ℕ) → t.kind ≡ Fails number → (states₁ ≡ set states row (64 * number + k)) × (hashes₁ ≡ hashes)
+    pub advance-fails : (refusal : Refusal) → made ≡ Err refusal → (states₁ ≡ set states row (64 * refusal_number refusal + k)) × (hashes₁ ≡ hashes)
     unfolding states_after hashes_after state_by hashes_by
-    advance-fails number e = let z = eq-eqb (get_or states row 0) k here in (rw (z, e), rw (z, e))
+    advance-fails refusal e = let z = eq-eqb (get_or states row 0) k here in (rw (z, e), rw (z, e))
 
--- what was hashed is what the row hashes beside its sibling: it leads where it led
-module _ (σ : Siblings) (starts states hashes : List ℕ) (row k : ℕ) (t : Joined) (parent : List ℕ) (few : k < 64) (here : get_or states row 0 ≡ k) (inside : row < length states) (room : 32 * row + 32 ≤ length hashes)
-    (told : t ≡ joined_of (step (σ k (sibling_position (get_or starts row 0 / 2 ^ k))) (odd (get_or starts row 0 / 2 ^ k)) (hash_at hashes (32 * row)))) (made : parent ≡ sha256d (t.left ++ t.right)) (whole : length parent ≡ 32) where
+-- what was made is what the row makes beside its sibling: it leads where it led
+module _ (σ : Siblings) (starts states hashes : List ℕ) (row k : ℕ) (made : Answer (List ℕ) Refusal) (few : k < 64) (here : get_or states row 0 ≡ k) (inside : row < length states) (room : 32 * row + 32 ≤ length hashes)
+    (told : Makes made (step (σ k (sibling_position (get_or starts row 0 / 2 ^ k))) (odd (get_or starts row 0 / 2 ^ k)) (hash_at hashes (32 * row)))) where
   abbrev the_step : Step
   the_step = step (σ k (sibling_position (get_or starts row 0 / 2 ^ k))) (odd (get_or starts row 0 / 2 ^ k)) (hash_at hashes (32 * row))
 
   abbrev states₂ : List ℕ
-  states₂ = states_after states row k t.kind
+  states₂ = states_after states row k made
 
   abbrev hashes₂ : List ℕ
-  hashes₂ = hashes_after states hashes row k t.kind parent
+  hashes₂ = hashes_after states hashes row k made
 
   pub advance_moves : Moved σ (k + 1) starts states hashes states₂ hashes₂ × (k < get_or states₂ row 0)
   unfolding leads_at
-  advance_moves = go t.kind refl
+  advance_moves = go made refl
     where
-      go : (q : StepKind) → t.kind ≡ q → Moved σ (k + 1) starts states hashes states₂ hashes₂ × (k < get_or states₂ row 0)
-      go Joins g =
-          let e : (states₂ ≡ set states row (k + 1)) × (hashes₂ ≡ set_hash hashes row parent) = advance-joins states hashes row k t parent here g in
+      go : (q : Answer (List ℕ) Refusal) → made ≡ q → Moved σ (k + 1) starts states hashes states₂ hashes₂ × (k < get_or states₂ row 0)
+      go (Ok parent) g =
+          let v : Makes (Ok parent) the_step = subst (λ (z : Answer (List ℕ) Refusal). Makes z the_step) g told in
+          let whole : length parent ≡ 32 = ap length v.3 ∙ sha256d-length (v.0 ++ v.1) in
+          let e : (states₂ ≡ set states row (k + 1)) × (hashes₂ ≡ set_hash hashes row parent) = advance-joins states hashes row k made here parent g in
           let p = set-inside hashes row parent (omega arith) in
           let s : get_or states₂ row 0 ≡ k + 1 = ap (λ (l : List ℕ). get_or l row 0) e.0 ∙ get_or-set_same states row (k + 1) 0 inside in
           let c : hash_at hashes₂ (32 * row) ≡ parent = ap (λ (l : List ℕ). hash_at l (32 * row)) (e.1 ∙ p) ∙ stored_here hashes parent row whole room in (
             moved-one σ (k + 1) starts states hashes states₂ hashes₂ row
-                (λ h b. rw (s, c, here) (leads-joins σ h (get_or starts row 0) k (hash_at hashes (32 * row)) (omega arith) few t.left t.right parent (told-joins t the_step told g) made))
+                (λ h b. rw (s, c, here) (leads-joins σ h (get_or starts row 0) k (hash_at hashes (32 * row)) (omega arith) few v.0 v.1 parent v.2 v.3))
                 (omega (arith, s, here))
                 (λ i ne. ap (λ (l : List ℕ). get_or l i 0) e.0 ∙ get_or-set_other states row i (k + 1) 0 ne)
                 (λ i ne. ap (λ (l : List ℕ). hash_at l (32 * i)) (e.1 ∙ p) ∙ stored_other hashes parent row whole room i ne),
             omega (arith, s),
           )
-      go (Fails number) g =
-          let e : (states₂ ≡ set states row (64 * number + k)) × (hashes₂ ≡ hashes) = advance-fails states hashes row k t parent here number g in
-          let f = told-fails t the_step number told g in
+      go (Err refusal) g =
+          let f : the_step ≡ fails (refusal_number refusal) = subst (λ (z : Answer (List ℕ) Refusal). Makes z the_step) g told in
+          let number : ℕ = refusal_number refusal in
+          let e : (states₂ ≡ set states row (64 * number + k)) × (hashes₂ ≡ hashes) = advance-fails states hashes row k made here refusal g in
           let n = fails-number (σ k (sibling_position (get_or starts row 0 / 2 ^ k))) (odd (get_or starts row 0 / 2 ^ k)) (hash_at hashes (32 * row)) number f in
           let s : get_or states₂ row 0 ≡ 64 * number + k = ap (λ (l : List ℕ). get_or l row 0) e.0 ∙ get_or-set_same states row (64 * number + k) 0 inside in (
             moved-one σ (k + 1) starts states hashes states₂ hashes₂ row

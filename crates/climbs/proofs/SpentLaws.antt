@@ -1,25 +1,21 @@
 -- Laws of what rows spend.
-use Rattle.std.proofs.Common.{◌≡◌, ℕ, suc, ◌+◌, ◌-◌, ◌*◌, ◌/◌, ◌%◌, ◌^◌, ◌<◌, ◌≤◌, Bool, true, false, eqb, ltb, List, ◌++◌, length, get_or, set, sym, refl, ap, ◌∙◌, subst, le_trans, le_refl, div-one, arith, length-set, get_or-set_other, get_or-set_same, pow_mono, le-ltb, lt-ltb, eq-eqb, ne_eqb, eqb-true}
+use Rattle.std.proofs.Common.{◌≡◌, Option, Some, None, Result as Answer, Ok, Err, ℕ, suc, ◌+◌, ◌-◌, ◌*◌, ◌/◌, ◌%◌, ◌^◌, ◌<◌, ◌≤◌, Bool, true, false, eqb, ltb, List, ◌++◌, length, get_or, set, sym, refl, ap, ◌∙◌, subst, le_trans, le_refl, div-one, arith, length-set, get_or-set_other, get_or-set_same, pow_mono, le-ltb, lt-ltb, eq-eqb, ne_eqb, eqb-true}
 use native.Mathlib.Nat.{sub-zero}
 use lib.Seq.{set_out}
 use borrow.Author.Tests.{eqb-false}
 use Rattle.hash.specs.Sha256.{sha256d}
+use Rattle.hash.proofs.Sha256Laws.{sha256d-length}
+use Rattle.format.specs.declared.refusal.Refusal.{Refusal}
+use Rattle.format.specs.Refusals.{refusal_number}
 use Rattle.format.specs.Bytes.{set_hash, hash_at}
 use Rattle.format.proofs.BytesLaws.{set-inside}
 use Rattle.format.specs.Parse.{pick}
-use Rattle.path.specs.declared.path.Start.{Start}
-use Rattle.path.specs.declared.path.Start.TheVariants.{At, Nowhere}
 use Rattle.spv.specs.Climb.{Sibling, value, copied, absent, Siblings, sibling_position, odd, Step, joins, fails, step}
 use Rattle.spv.specs.Values.{has_value, join_of, worked_out}
 use Rattle.spv.specs.Joins.{joins_by}
-use Rattle.spv.specs.Shapes.{joined_of}
-use Rattle.spv.proofs.ShapesLaws.{told-joins, told-fails}
 use Rattle.spv.proofs.Stored.{stored_here, stored_other}
-use Rattle.spv.specs.declared.climb.StepKind.{StepKind}
-use Rattle.spv.specs.declared.climb.StepKind.TheVariants.{Joins, Fails}
-use Rattle.spv.specs.declared.climb.Joined.{Joined}
 use Rattle.climbs.specs.Row.{states_after, hashes_after, Reached}
-use Rattle.climbs.proofs.RowLaws.{half_above, fails-number, advance-joins, advance-fails}
+use Rattle.climbs.proofs.RowLaws.{half_above, fails-number, Makes, advance-joins, advance-fails}
 use Rattle.climbs.specs.Order.{Placed}
 use Rattle.climbs.specs.Pass.{is_written}
 use Rattle.climbs.specs.Count.{join_cost, cost_of, climb_cost, start_cost}
@@ -79,30 +75,30 @@ spent-up w layer above starts s h c s' h' c' b f = record { total = λ n i l. f.
 
 -- ---- a row one layer on
 
-module _ (w : Siblings) (starts states hashes costs : List ℕ) (row k n : ℕ) (t : Joined) (parent : List ℕ) (few : k < 64) (here : get_or states row 0 ≡ k) (inside : row < length states) (room : 32 * row + 32 ≤ length hashes)
-    (told : t ≡ joined_of (step (worked_out w k (sibling_position (get_or starts row 0 / 2 ^ k))) (odd (get_or starts row 0 / 2 ^ k)) (hash_at hashes (32 * row)))) (made : parent ≡ sha256d (t.left ++ t.right)) (whole : length parent ≡ 32)
+module _ (w : Siblings) (starts states hashes costs : List ℕ) (row k n : ℕ) (made : Answer (List ℕ) Refusal) (few : k < 64) (here : get_or states row 0 ≡ k) (inside : row < length states) (room : 32 * row + 32 ≤ length hashes)
+    (told : Makes made (step (worked_out w k (sibling_position (get_or starts row 0 / 2 ^ k))) (odd (get_or starts row 0 / 2 ^ k)) (hash_at hashes (32 * row))))
     (cost : n ≡ cost_of w k (sibling_position (get_or starts row 0 / 2 ^ k))) where
   abbrev the_step : Step
   the_step = step (worked_out w k (sibling_position (get_or starts row 0 / 2 ^ k))) (odd (get_or starts row 0 / 2 ^ k)) (hash_at hashes (32 * row))
 
   abbrev states₂ : List ℕ
-  states₂ = states_after states row k t.kind
+  states₂ = states_after states row k made
 
   abbrev hashes₂ : List ℕ
-  hashes₂ = hashes_after states hashes row k t.kind parent
+  hashes₂ = hashes_after states hashes row k made
 
   abbrev costs₂ : List ℕ
-  costs₂ = costs_after states costs row k t.kind n
+  costs₂ = costs_after states costs row k made n
 
-  costs_are : (q : StepKind) → t.kind ≡ q → costs₂ ≡ set costs row ((get_or costs row 0 + paid q n) % U64)
+  costs_are : (q : Answer (List ℕ) Refusal) → made ≡ q → costs₂ ≡ set costs row ((get_or costs row 0 + paid q n) % U64)
   unfolding costs_after
   costs_are q e = let z = eq-eqb (get_or states row 0) k here in rw (z, e)
 
   pub advance-spends : Spent w (k + 1) starts states hashes costs states₂ hashes₂ costs₂
   unfolding owes_at paid
-  advance-spends = go t.kind refl
+  advance-spends = go made refl
     where
-      make : (q : StepKind) → t.kind ≡ q → ((h : ℕ) → k + 1 ≤ h → row < length costs → (get_or costs₂ row 0 + owes_at w h starts states₂ hashes₂ row) % U64 ≡ (get_or costs row 0 + owes_at w h starts states hashes row) % U64)
+      make : (q : Answer (List ℕ) Refusal) → made ≡ q → ((h : ℕ) → k + 1 ≤ h → row < length costs → (get_or costs₂ row 0 + owes_at w h starts states₂ hashes₂ row) % U64 ≡ (get_or costs row 0 + owes_at w h starts states hashes row) % U64)
           → ((i : ℕ) → (i ≡ row → ⊥) → get_or states₂ i 0 ≡ get_or states i 0) → ((i : ℕ) → (i ≡ row → ⊥) → hash_at hashes₂ (32 * i) ≡ hash_at hashes (32 * i)) → ((i : ℕ) → (i ≡ row → ⊥) → get_or costs₂ i 0 ≡ get_or costs i 0)
           → Spent w (k + 1) starts states hashes costs states₂ hashes₂ costs₂
       make q g f u v x = record { total = λ h i b l. at h i b l (eqb i row) refl; kept = ap length (costs_are q g) ∙ length-set costs row ((get_or costs row 0 + paid q n) % U64) }
@@ -111,31 +107,34 @@ module _ (w : Siblings) (starts states hashes costs : List ℕ) (row k n : ℕ) 
           at h i b l true e = let z = eqb-true i row e in rw z (f h b (subst (λ (m : ℕ). m < length costs) z l))
           at h i b l false e = let z = eqb-false i row e in rw (u i z, v i z, x i z)
 
-      other : (q : StepKind) → t.kind ≡ q → (i : ℕ) → (i ≡ row → ⊥) → get_or costs₂ i 0 ≡ get_or costs i 0
+      other : (q : Answer (List ℕ) Refusal) → made ≡ q → (i : ℕ) → (i ≡ row → ⊥) → get_or costs₂ i 0 ≡ get_or costs i 0
       other q g i ne = ap (λ (l : List ℕ). get_or l i 0) (costs_are q g) ∙ get_or-set_other costs row i ((get_or costs row 0 + paid q n) % U64) 0 ne
 
-      go : (q : StepKind) → t.kind ≡ q → Spent w (k + 1) starts states hashes costs states₂ hashes₂ costs₂
-      go Joins g =
-          let e : (states₂ ≡ set states row (k + 1)) × (hashes₂ ≡ set_hash hashes row parent) = advance-joins states hashes row k t parent here g in
+      go : (q : Answer (List ℕ) Refusal) → made ≡ q → Spent w (k + 1) starts states hashes costs states₂ hashes₂ costs₂
+      go (Ok parent) g =
+          let v : Makes (Ok parent) the_step = subst (λ (z : Answer (List ℕ) Refusal). Makes z the_step) g told in
+          let whole : length parent ≡ 32 = ap length v.3 ∙ sha256d-length (v.0 ++ v.1) in
+          let e : (states₂ ≡ set states row (k + 1)) × (hashes₂ ≡ set_hash hashes row parent) = advance-joins states hashes row k made here parent g in
           let p = set-inside hashes row parent (omega arith) in
           let s : get_or states₂ row 0 ≡ k + 1 = ap (λ (l : List ℕ). get_or l row 0) e.0 ∙ get_or-set_same states row (k + 1) 0 inside in
           let c : hash_at hashes₂ (32 * row) ≡ parent = ap (λ (l : List ℕ). hash_at l (32 * row)) (e.1 ∙ p) ∙ stored_here hashes parent row whole room in
-          let m : row < length costs → get_or costs₂ row 0 ≡ (get_or costs row 0 + (n + 1)) % U64 = (λ l. ap (λ (l : List ℕ). get_or l row 0) (costs_are Joins g) ∙ get_or-set_same costs row ((get_or costs row 0 + (n + 1)) % U64) 0 l) in
-          make Joins g
-          (λ h b l. rw (s, c, here, m l) (let o = owes-joins w h (get_or starts row 0) k (hash_at hashes (32 * row)) (omega arith) few t.left t.right parent (told-joins t the_step told g) made in omega arith))
+          let m : row < length costs → get_or costs₂ row 0 ≡ (get_or costs row 0 + (n + 1)) % U64 = (λ l. ap (λ (l : List ℕ). get_or l row 0) (costs_are (Ok parent) g) ∙ get_or-set_same costs row ((get_or costs row 0 + (n + 1)) % U64) 0 l) in
+          make (Ok parent) g
+          (λ h b l. rw (s, c, here, m l) (let o = owes-joins w h (get_or starts row 0) k (hash_at hashes (32 * row)) (omega arith) few v.0 v.1 parent v.2 v.3 in omega arith))
           (λ i ne. ap (λ (l : List ℕ). get_or l i 0) e.0 ∙ get_or-set_other states row i (k + 1) 0 ne)
           (λ i ne. ap (λ (l : List ℕ). hash_at l (32 * i)) (e.1 ∙ p) ∙ stored_other hashes parent row whole room i ne)
-          (other Joins g)
-      go (Fails number) g =
-          let e : (states₂ ≡ set states row (64 * number + k)) × (hashes₂ ≡ hashes) = advance-fails states hashes row k t parent here number g in
-          let f = told-fails t the_step number told g in
+          (other (Ok parent) g)
+      go (Err refusal) g =
+          let f : the_step ≡ fails (refusal_number refusal) = subst (λ (z : Answer (List ℕ) Refusal). Makes z the_step) g told in
+          let number : ℕ = refusal_number refusal in
+          let e : (states₂ ≡ set states row (64 * number + k)) × (hashes₂ ≡ hashes) = advance-fails states hashes row k made here refusal g in
           let s : get_or states₂ row 0 ≡ 64 * number + k = ap (λ (l : List ℕ). get_or l row 0) e.0 ∙ get_or-set_same states row (64 * number + k) 0 inside in
-          let m : row < length costs → get_or costs₂ row 0 ≡ (get_or costs row 0 + n) % U64 = (λ l. ap (λ (l : List ℕ). get_or l row 0) (costs_are (Fails number) g) ∙ get_or-set_same costs row ((get_or costs row 0 + n) % U64) 0 l) in
-          make (Fails number) g
+          let m : row < length costs → get_or costs₂ row 0 ≡ (get_or costs row 0 + n) % U64 = (λ l. ap (λ (l : List ℕ). get_or l row 0) (costs_are (Err refusal) g) ∙ get_or-set_same costs row ((get_or costs row 0 + n) % U64) 0 l) in
+          make (Err refusal) g
           (λ h b l. rw (s, e.1, here, m l) (let o = owes-fails w h (get_or starts row 0) k (hash_at hashes (32 * row)) (omega arith) few number f in omega arith))
           (λ i ne. ap (λ (l : List ℕ). get_or l i 0) e.0 ∙ get_or-set_other states row i (64 * number + k) 0 ne)
           (λ i ne. ap (λ (l : List ℕ). hash_at l (32 * i)) e.1)
-          (other (Fails number) g)
+          (other (Err refusal) g)
 
 -- ---- all rows climbed
 
@@ -147,10 +146,10 @@ cost_fits w h start c b =
     let p : 2 ^ h ≤ 2 ^ 64 = pow_mono b in
     omega arith
 
-pub start_fits : (w : Siblings) (h : ℕ) (id : List ℕ) (x : Start) → h ≤ 64 → start_cost w h id x < U64
+pub start_fits : (w : Siblings) (h : ℕ) (id : List ℕ) (x : Option ℕ) → h ≤ 64 → start_cost w h id x < U64
 unfolding start_cost
-start_fits w h id (At i) b = cost_fits w h i id b
-start_fits w h id Nowhere b = omega arith
+start_fits w h id (Some i) b = cost_fits w h i id b
+start_fits w h id None b = omega arith
 
 pub all_settled : (w : Siblings) (h : ℕ) (starts order s x c s' x' c' : List ℕ) → Placed starts order (length starts) → length order ≡ length starts → Spent w h starts s x c s' x' c' → Reached order s' h 0 (length order)
     → Settled w h starts s x c c'
@@ -203,24 +202,24 @@ cost_joined w k q ne few f l r el er = go (has_value (join_of w k q)) refl ∙ s
 
 -- ---- what charging a row writes
 
-module _ (states costs : List ℕ) (row layer n : ℕ) (kind : StepKind) where
-  pub charge_stays : (get_or states row 0 ≡ layer → ⊥) → costs_after states costs row layer kind n ≡ costs
+module _ (states costs : List ℕ) (row layer n : ℕ) (made : Answer (List ℕ) Refusal) where
+  pub charge_stays : (get_or states row 0 ≡ layer → ⊥) → costs_after states costs row layer made n ≡ costs
   unfolding costs_after
   charge_stays ne = rw (ne_eqb (get_or states row 0) layer ne)
 
-  pub charge-none : length costs ≤ row → costs_after states costs row layer kind n ≡ costs
+  pub charge-none : length costs ≤ row → costs_after states costs row layer made n ≡ costs
   unfolding costs_after
   charge-none b = go (eqb (get_or states row 0) layer)
     where
-      go : (t : Bool) → pick t (set costs row ((get_or costs row 0 + paid kind n) % U64)) costs ≡ costs
-      go true = set_out costs row ((get_or costs row 0 + paid kind n) % U64) b
+      go : (t : Bool) → pick t (set costs row ((get_or costs row 0 + paid made n) % U64)) costs ≡ costs
+      go true = set_out costs row ((get_or costs row 0 + paid made n) % U64) b
       go false = refl
 
   module _ (here : get_or states row 0 ≡ layer) (v : ℕ) where
-    pub charge-joins : kind ≡ Joins → v ≡ (get_or costs row 0 + (n + 1) % U64) % U64 → costs_after states costs row layer kind n ≡ set costs row v
+    pub charge-joins : (parent : List ℕ) → made ≡ Ok parent → v ≡ (get_or costs row 0 + (n + 1) % U64) % U64 → costs_after states costs row layer made n ≡ set costs row v
     unfolding costs_after paid
-    charge-joins e f = let z : (get_or costs row 0 + (n + 1)) % U64 ≡ v = omega arith in rw (eq-eqb (get_or states row 0) layer here, e, z)
+    charge-joins parent e f = let z : (get_or costs row 0 + (n + 1)) % U64 ≡ v = omega arith in rw (eq-eqb (get_or states row 0) layer here, e, z)
 
-    pub charge-fails : (number : ℕ) → kind ≡ Fails number → v ≡ (get_or costs row 0 + n) % U64 → costs_after states costs row layer kind n ≡ set costs row v
+    pub charge-fails : (refusal : Refusal) → made ≡ Err refusal → v ≡ (get_or costs row 0 + n) % U64 → costs_after states costs row layer made n ≡ set costs row v
     unfolding costs_after paid
-    charge-fails number e f = rw (eq-eqb (get_or states row 0) layer here, e, sym f)
+    charge-fails refusal e f = rw (eq-eqb (get_or states row 0) layer here, e, sym f)

@@ -1,6 +1,5 @@
 -- The pass over the tree makes every climb.
-use Rattle.std.proofs.Common.{◌≡◌, ℕ, ◌+◌, ◌-◌, ◌*◌, ◌/◌, ◌^◌, ◌<◌, ◌≤◌, Bool, true, false, eqb, List, length, get_or, sym, refl, ap, ◌∙◌, subst, ap₂, le_refl, arith, shr_lt, lt-ltb, eqb-true}
-use borrow.Author.Tests.{eqb-false}
+use Rattle.std.proofs.Common.{◌≡◌, ℕ, ◌+◌, ◌-◌, ◌*◌, ◌/◌, ◌^◌, ◌<◌, ◌≤◌, false, List, length, get_or, sym, ap, ◌∙◌, subst, ap₂, le_refl, arith, shr_lt, lt-ltb}
 use Rattle.format.specs.declared.level.Layout.{Layout}
 use Rattle.format.specs.Bytes.{hash_at}
 use Rattle.path.specs.declared.path.Form.{Form}
@@ -11,7 +10,7 @@ use Rattle.spv.specs.Values.{value_by, value_of, worked_out}
 use Rattle.spv.specs.Siblings.{sibling, written_by, find_at, path_siblings}
 use Rattle.spv.proofs.SiblingsLaws.{join-bump}
 use Rattle.spv.specs.PositionFits.{PositionFits}
-use Rattle.climbs.specs.Row.{start_of, leads_at, came_at, Under, Reached, Moved}
+use Rattle.climbs.specs.Row.{leads_at, came_at, Under, Reached, Moved}
 use Rattle.climbs.specs.Order.{Placed}
 use Rattle.climbs.specs.Pass.{Spot}
 use Rattle.climbs.specs.Together.{Levels, Climbed}
@@ -32,14 +31,6 @@ low-above x h b l = let e : 64 - h + h ≡ 64 = omega arith in shr_lt (64 - h) h
 
 pub spot_tree : (starts order : List ℕ) (h q lo hi : ℕ) → h ≤ 64 → PositionFits h q → lo ≤ hi → hi ≤ length order → Under starts order h q lo hi → Spot starts order h q lo hi false
 spot_tree starts order h q lo hi b low s w u = record { layers = b; below = λ e. let z : ◌≡◌ {A = ℕ} 0 1 = cc in absurd (omega arith); low = low; span = s; within = w; under = u }
-
--- the rows of a tree are one at least
-pub tree_goes : (starts order : List ℕ) (h q lo hi n : ℕ) → lo ≤ hi → lo < n → (hi < n → start_of starts order hi / 2 ^ h ≡ q → ⊥) → start_of starts order lo / 2 ^ h ≡ q → lo < hi
-tree_goes starts order h q lo hi n a b f e = go (eqb lo hi) refl
-  where
-    go : (t : Bool) → eqb lo hi ≡ t → lo < hi
-    go true g = let z = eqb-true lo hi g in absurd (f (omega arith) (subst (λ (m : ℕ). start_of starts order m / 2 ^ h ≡ q) z e))
-    go false g = let z = eqb-false lo hi g in omega arith
 
 pub reached-end : (order states : List ℕ) (h lo n m : ℕ) → n ≡ m → Reached order states h lo n → Reached order states h lo m
 reached-end order states h lo n m e r = rw e at r

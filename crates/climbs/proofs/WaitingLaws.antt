@@ -1,5 +1,9 @@
 -- Laws of the all-clients check by rows.
-use Rattle.std.proofs.Common.{◌≡◌, ℕ, zero, suc, ◌+◌, ◌-◌, ◌*◌, ◌<◌, ◌≤◌, Bool, true, false, ltb, List, length, get_or, take, set, replicate, sym, refl, ap, ◌∙◌, ap₂, add-one, arith, length-take-le, get_or-set_other, get_or-take, get_or-set_same, ltb-false, ltb-true, le-ltb, lt-ltb}
+use Rattle.std.proofs.Common.{◌≡◌, Result as Answer, Ok, Err, ℕ, zero, suc, ◌+◌, ◌-◌, ◌*◌, ◌<◌, ◌≤◌, Bool, true, false, ltb, List, length, get_or, take, set, replicate, sym, refl, ap, ◌∙◌, ap₂, add-one, arith, length-take-le, get_or-set_other, get_or-take, get_or-set_same, ltb-false, ltb-true, le-ltb, lt-ltb, eqb, eqb-true}
+use borrow.Author.Tests.{eqb-false}
+use Rattle.std.specs.Result.{IsErrAnd}
+use Rattle.std.proofs.lemmas.Result.{err_from_is_err_and}
+use Rattle.std.proofs.lemmas.List.{get_or-replicate, length-replicate}
 use native.Mathlib.Nat.{sub-zero}
 use lib.ListN.{get_or-eq_default}
 use lib.Seq.{paste}
@@ -22,59 +26,56 @@ use Rattle.spv.specs.Siblings.{written_by, find_at, path_siblings}
 use Rattle.spv.specs.Values.{worked_out}
 use Rattle.spv.proofs.Stored.{stored_here, stored_other}
 use Rattle.spv.specs.declared.rejection.Rejection.{Rejection}
-use Rattle.spv.specs.declared.prove.Status.TheVariants.{Unread}
-use Rattle.spv.specs.declared.climb.End.{End}
-use Rattle.spv.specs.declared.climb.End.TheVariants.{Root, Stop}
-use Rattle.spv.specs.declared.climb.Climbed.{Climbed}
-use Rattle.climbs.specs.declared.want.Want.{Want}
 use Rattle.climbs.specs.Row.{refusal_of, leads, leads_at, came, came_at}
 use Rattle.climbs.specs.Together.{Levels, Roomy}
 use Rattle.climbs.specs.Together as T
-use Rattle.climbs.specs.Begun.{First}
-use Rattle.climbs.specs.ClientsShapes.{end_under, end_says, wanted_to, pending, clients_in, want_says, refused_check, checked_of}
-use Rattle.climbs.specs.Waiting.{climb_of, rows_say, Lent}
+use Rattle.climbs.specs.ClientsShapes.{end_says, wanted_to, pending, clients_in, checked_of}
+use Rattle.climbs.specs.Waiting.{climb_of, rows_say}
 use Rattle.climbs.proofs.RowLaws.{leads-start}
 use Rattle.climbs.specs.LookUp.{looked_up}
 use Rattle.climbs.proofs.LookUpLaws.{one_path}
 use Rattle.climbs.proofs.TogetherLaws.{path_worked}
-use Rattle.climbs.proofs.ClientsShapesLaws.{told_halts}
 use Rattle.climbs.proofs.ClientsLaws.{follow-same, follow-twice, turn-leaf, turn_short, turn_last, clients_in_same}
 use Rattle.spv.specs.Prove.{Target, hits, settle, proof_of, prove_by, any, bound}
+
+-- ---- what a function returns by `?`
+
+pub err_is : {T E : Type 0} (r : Answer T E) (why : E) → IsErrAnd r (λ y. y ≡ why) → r ≡ Err why
+err_is r why e = let p = err_from_is_err_and r e in p.1 ∙ ap Err p.2
 
 -- ---- one climb
 
 pub ends_said : (v : Result (List ℕ)) → end_says (climbed_of v) ≡ v
-unfolding end_says end_under climbed_of
 ends_said (accepted r) = refl
 ends_said (refused why) = refl
 
 -- where a row has come to
 module _ (starts states hashes : List ℕ) (i state : ℕ) (es : state ≡ get_or states i 0) where
-  pub row-root : (root : List ℕ) → root ≡ hash_at hashes (32 * i) → state < 128 → ◌≡◌ {A = Climbed} (record { end = Root; root = root }) (climbed_of (came_at starts states hashes i))
-  unfolding came_at came climbed_of
+  pub row-root : (root : List ℕ) → root ≡ hash_at hashes (32 * i) → state < 128 → Ok root ≡ climbed_of (came_at starts states hashes i)
+  unfolding came_at came
   row-root root e b = let c : get_or states i 0 < 128 = omega arith in rw (lt-ltb (get_or states i 0) 128 c, e)
 
-  pub row-stop : (start : ℕ) (why : Rejection) → start ≡ get_or starts i 0 → why ≡ refusal_of start state → 128 ≤ state → ◌≡◌ {A = Climbed} (record { end = Stop why; root = replicate 32 0 }) (climbed_of (came_at starts states hashes i))
-  unfolding came_at came climbed_of
+  pub row-stop : (start : ℕ) (why : Rejection) → start ≡ get_or starts i 0 → why ≡ refusal_of start state → 128 ≤ state → Err why ≡ climbed_of (came_at starts states hashes i)
+  unfolding came_at came
   row-stop start why e f b = let c : 128 ≤ get_or states i 0 = omega arith in rw (le-ltb (get_or states i 0) 128 c, f, e, es)
 
-module _ (w : Target) (x : Climbed) where
-  pub wanted_stop : (why : Rejection) → x.end ≡ Stop why → refused why ≡ wanted_to w (end_says x)
-  unfolding wanted_to end_says end_under
-  wanted_stop why e = sym (ap (λ (z : End). wanted_to w (end_under x.root z)) e)
+module _ (w : Target) (x : Answer (List ℕ) Rejection) where
+  pub wanted_stop : (why : Rejection) → x ≡ Err why → refused why ≡ wanted_to w (end_says x)
+  unfolding wanted_to
+  wanted_stop why e = sym (ap (λ (z : Answer (List ℕ) Rejection). wanted_to w (end_says z)) e)
 
-  wanted_root : x.end ≡ Root → (b : Bool) → hits w x.root ≡ b → wanted_to w (end_says x) ≡ pick b (accepted (bound x.root)) (refused (carrying ROOTS_DIFFER 0))
-  unfolding wanted_to end_says end_under
-  wanted_root e b f =
-      ap (λ (z : End). wanted_to w (end_under x.root z)) e
-      ∙ ap (λ (z : Bool). pick z (accepted (bound x.root)) (refused (carrying ROOTS_DIFFER 0))) f
+  module _ (root : List ℕ) (e : x ≡ Ok root) where
+    wanted_root : (b : Bool) → hits w root ≡ b → wanted_to w (end_says x) ≡ pick b (accepted (bound root)) (refused (carrying ROOTS_DIFFER 0))
+    unfolding wanted_to
+    wanted_root b f =
+        ap (λ (z : Answer (List ℕ) Rejection). wanted_to w (end_says z)) e
+        ∙ ap (λ (z : Bool). pick z (accepted (bound root)) (refused (carrying ROOTS_DIFFER 0))) f
 
-  module _ (e : x.end ≡ Root) where
-    pub wanted_hit : hits w x.root ≡ true → accepted (bound x.root) ≡ wanted_to w (end_says x)
-    wanted_hit f = sym (wanted_root e true f)
+    pub wanted_hit : hits w root ≡ true → accepted (bound root) ≡ wanted_to w (end_says x)
+    wanted_hit f = sym (wanted_root true f)
 
-    pub wanted_miss : hits w x.root ≡ false → refused (carrying ROOTS_DIFFER 0) ≡ wanted_to w (end_says x)
-    wanted_miss f = sym (wanted_root e false f)
+    pub wanted_miss : hits w root ≡ false → refused (carrying ROOTS_DIFFER 0) ≡ wanted_to w (end_says x)
+    wanted_miss f = sym (wanted_root false f)
 
 -- what a client leaf leaves wanted, by the end of its climb
 module _ (σ : Siblings) (h : ℕ) (s : List ℕ) (w : Target) (offset p : ℕ) where
@@ -108,24 +109,32 @@ pending_on v m x y t e f =
     ∙ follow-same (pending v m x) (λ w. wanted_to w t) (λ w. wanted_to w (v m)) (λ w. ap (wanted_to w) f)
     ∙ sym (ap (λ (n : ℕ). pending v n x) (add-one m))
 
-pub pending-refused : (v : ℕ → Result (List ℕ)) (m : ℕ) (why : Rejection) → pending v m (refused why) ≡ refused why
+pending-refused : (v : ℕ → Result (List ℕ)) (m : ℕ) (why : Rejection) → pending v m (refused why) ≡ refused why
 unfolding pending
 pending-refused v zero why = refl
 pending-refused v (suc m) why = ap (λ (z : Result Target). follow z (λ w. wanted_to w (v m))) (pending-refused v m why)
+
+-- a refusal of one of them ends it
+pub pending-halts : (v : ℕ → Result (List ℕ)) (m n : ℕ) (x : Result Target) (why : Rejection) → m ≤ n → refused why ≡ pending v m x → refused why ≡ pending v n x
+unfolding pending
+pending-halts v m zero x why b e = let z : m ≡ 0 = omega arith in rw z at e
+pending-halts v m (suc n) x why b e = go (λ l. pending-halts v m n x why l e) (eqb m (suc n)) refl
+  where
+    go : (m ≤ n → refused why ≡ pending v n x) → (t : Bool) → eqb m (suc n) ≡ t → refused why ≡ pending v (suc n) x
+    go below true f = rw (eqb-true m (suc n) f) at e
+    go below false f = let ne = eqb-false m (suc n) f in ap (λ (z : Result Target). follow z (λ w. wanted_to w (v n))) (below (omega arith))
 
 -- ---- a leaf is read
 
 module _ (σ : Siblings) (h : ℕ) (s : List ℕ) (leaf : Leaf) where
   -- a client that climbs at once
-  pub alone_client : (x : Result Target) (y : Climbed) (p : ℕ) (hash : List ℕ) → leaf.kind ≡ Client p → hash ≡ hash_at s p → y ≡ climbed_of (end_of hash (ascend σ 0 h leaf.offset hash))
-      → follow x (λ w. wanted_to w (end_says y)) ≡ follow x (λ w. after_leaf σ h s w leaf)
-  alone_client x y p hash e f g =
-      follow-same x (λ w. wanted_to w (end_says y)) (λ w. after_leaf σ h s w leaf)
-      (λ w.
+  pub alone_client : (w : Target) (y : Answer (List ℕ) Rejection) (p : ℕ) (hash : List ℕ) → leaf.kind ≡ Client p → hash ≡ hash_at s p → y ≡ climbed_of (end_of hash (ascend σ 0 h leaf.offset hash))
+      → wanted_to w (end_says y) ≡ after_leaf σ h s w leaf
+  alone_client w y p hash e f g =
       ap (wanted_to w) (ap end_says g ∙ ends_said (end_of hash (ascend σ 0 h leaf.offset hash)))
       ∙ ap (λ (c : List ℕ). wanted_to w (end_of c (ascend σ 0 h leaf.offset c))) f
       ∙ client_wanted σ h s w leaf.offset p
-      ∙ sym (ap (after_kind σ h s w leaf.offset) e))
+      ∙ sym (ap (after_kind σ h s w leaf.offset) e)
 
   follow-none : (x : Result Target) (f : Target → Result Target) → ((w : Target) → f w ≡ accepted w) → x ≡ follow x f
   follow-none (accepted w) f e = sym (e w)
@@ -169,13 +178,12 @@ module _ (σ : Siblings) (h : ℕ) (s : List ℕ) (leaf : Leaf) (starts hashes :
 
 -- ---- the first rows climb
 
-pub zeros-past : (f : ℕ → ℕ) (l : List ℕ) → ((i : ℕ) → f i ≡ 0) → First f (length l) l → (i : ℕ) → get_or l i 0 ≡ 0
-unfolding First
-zeros-past f l z v i = go (ltb i (length l)) refl
+pub zeros-throughout : (l : List ℕ) (n : ℕ) → l ≡ replicate n 0 → (i : ℕ) → get_or l i 0 ≡ 0
+zeros-throughout l n e i = rw e (go (ltb i n) refl)
   where
-    go : (t : Bool) → ltb i (length l) ≡ t → get_or l i 0 ≡ 0
-    go true e = v i (ltb-true i (length l) e) ∙ z i
-    go false e = get_or-eq_default l 0 (ltb-false i (length l) e)
+    go : (t : Bool) → ltb i n ≡ t → ◌≡◌ {A = ℕ} (get_or (replicate n 0) i 0) 0
+    go true f = get_or-replicate n i 0 0 (ltb-true i n f)
+    go false f = let b = ltb-false i n f in get_or-eq_default (replicate n 0) 0 (simp length-replicate b)
 
 pub rows_climbed : (σ : Siblings) (h : ℕ) (starts states hashes states' hashes' : List ℕ) (count : ℕ) (x : Result Target) → count ≤ length starts → ((i : ℕ) → get_or states i 0 ≡ 0)
     → T.Climbed σ h (take count starts) states hashes states' hashes'
@@ -196,30 +204,9 @@ pub levels-bump : (s : List ℕ) (head : BumpHead) (path : Path) → path ≡ bu
 unfolding bump_path_of
 levels-bump s head path e = rw e (record { bump = refl; few = omega arith })
 
-pub lent_on : (a b c d a' b' c' d' : List ℕ) → length a' ≡ length a → length b' ≡ length b → length c' ≡ length c → length d' ≡ length d → Lent a b c d → Lent a' b' c' d'
-lent_on a b c d a' b' c' d' e f g h r =
-    let p = r.some in
-    let q = r.few in
-    let s = r.places in
-    let t = r.each in
-    let u = r.room in
-    record { some = omega arith; few = omega arith; places = omega arith; each = omega arith; room = omega arith }
-
--- the first of them
-pub lent_first : (a b c d a' b' c' : List ℕ) (count : ℕ) → length a' ≡ count → length b' ≡ count → length c' ≡ length c → count ≤ length a → Lent a b c d → Roomy a' b' c' d
-lent_first a b c d a' b' c' count e f g h r =
-    let q = r.few in
-    let t = r.each in
-    let u = r.room in
-    record { few = omega arith; places = omega arith; each = omega arith; room = omega arith }
-
 pub rows_none : (σ : Siblings) (h : ℕ) (starts hashes : List ℕ) (x : Result Target) → rows_say σ h starts hashes 0 x ≡ x
 unfolding rows_say pending
 rows_none σ h starts hashes x = refl
-
-pub rows-refused : (σ : Siblings) (h : ℕ) (starts hashes : List ℕ) (count : ℕ) (want : Want) (f : Rejection) → want.status ≡ Unread f → rows_say σ h starts hashes count (want_says want) ≡ refused f
-unfolding rows_say
-rows-refused σ h starts hashes count want f e = ap (pending (climb_of σ h starts hashes) count) (told_halts want f e) ∙ pending-refused (climb_of σ h starts hashes) count f
 
 -- ---- a level's clients: with x wanted, what is left from here comes to what was asked at the start
 
@@ -235,8 +222,7 @@ module _ (σ : Siblings) (h : ℕ) (s : List ℕ) (n start : ℕ) (x₀ : Result
     pub checking-end : n ≤ m → follow x closing ≡ follow x₀ (λ w. clients_in σ h s n start w)
     checking-end b = follow-same x closing (λ w. clients_in σ h s (n - m) at w) (λ w. sym (turn_last σ h s n m at w b)) ∙ v.kept
 
-    pub checking_halts : (f : Rejection) → x ≡ refused f → refused_check f ≡ checked_of (follow x₀ (λ w. clients_in σ h s n start w))
-    unfolding checked_of
+    pub checking_halts : (f : Rejection) → x ≡ refused f → Err f ≡ checked_of (follow x₀ (λ w. clients_in σ h s n start w))
     checking_halts f e = ap checked_of (sym (ap (λ (y : Result Target). follow y (λ w. clients_in σ h s (n - m) at w)) e) ∙ v.kept)
 
     module _ (b : m < n) where
@@ -255,12 +241,11 @@ module _ (σ : Siblings) (h : ℕ) (s : List ℕ) (n start : ℕ) (x₀ : Result
           }
 
 -- a path by itself
-pub own_clients : (s : List ℕ) (path : Path) (t y : List ℕ) (n at : ℕ) (x : Result Target) → Levels path → length y ≡ 0 → x ≡ accepted any
-    → checked_of (follow x (λ w. clients_in (worked_out (looked_up s path.at t y)) path.layers s n at w)) ≡ checked_of (clients_in (path_siblings s path) path.layers s n at any)
-own_clients s path t y n at x v e f =
-    ap (λ (z : Result Target). checked_of (follow z (λ w. clients_in (worked_out (looked_up s path.at t y)) path.layers s n at w))) f
-    ∙ ap checked_of (ap (λ (z : Siblings). clients_in (worked_out z) path.layers s n at any) (one_path s path.at t y e)
-    ∙ clients_in_same (worked_out (written_by s (find_at Layout.Bump s path.at))) (path_siblings s path) path.layers s n at any (path_worked s path v))
+pub own_clients : (s : List ℕ) (path : Path) (t y : List ℕ) (n at : ℕ) → Levels path → length y ≡ 0
+    → clients_in (worked_out (looked_up s path.at t y)) path.layers s n at any ≡ clients_in (path_siblings s path) path.layers s n at any
+own_clients s path t y n at v e =
+    ap (λ (z : Siblings). clients_in (worked_out z) path.layers s n at any) (one_path s path.at t y e)
+    ∙ clients_in_same (worked_out (written_by s (find_at Layout.Bump s path.at))) (path_siblings s path) path.layers s n at any (path_worked s path v)
 
 pub pending-none : (v : ℕ → Result (List ℕ)) (x : Result Target) → x ≡ pending v 0 x
 unfolding pending

@@ -1,16 +1,14 @@
 -- Rows on their way to proofs: as they begin, and as they are closed once all have climbed.
-use Rattle.std.specs.Prelude.{◌≡◌, ℕ, ◌+◌, ◌*◌, ◌%◌, ◌<◌, ◌≤◌, List, replicate, nat_le, nat_lt, slice_index}
+use Rattle.std.specs.Prelude.{◌≡◌, Option, Some, None, ℕ, ◌+◌, ◌*◌, ◌%◌, ◌<◌, ◌≤◌, List, replicate, nat_le, nat_lt, slice_index}
 use Rattle.format.specs.Parse.{pick}
 use Rattle.format.specs.Bytes.{set_hash, hash_at}
 use Rattle.format.specs.Refusals.{NOT_LISTED}
-use Rattle.path.specs.declared.path.Start.{Start}
-use Rattle.path.specs.declared.path.Start.TheVariants.{At, Nowhere}
 use Rattle.climbs.specs.Row.{number_of}
 
 -- no layer made; refused at once if the id stands nowhere
-unfoldable pub begun_row : Start → ℕ
-begun_row (At position) = 0
-begun_row Nowhere = 64 * NOT_LISTED
+unfoldable pub begun_row : Option ℕ → ℕ
+begun_row (Some position) = 0
+begun_row None = 64 * NOT_LISTED
 
 -- the first n of a list are those of f
 unfoldable pub First : (ℕ → ℕ) → ℕ → List ℕ → Type 0

@@ -1,47 +1,30 @@
 -- What the answers of the all-clients check say, and the check over a level's bytes.
-use Rattle.std.specs.Prelude.{ℕ, zero, suc, List, replicate}
+use Rattle.std.specs.Prelude.{Result as Answer, Ok, Err, Option, ℕ, zero, suc, List}
 use Rattle.format.specs.declared.level.Layout.{Layout}
 use Rattle.format.specs.Parse.{pick, otherwise}
 use Rattle.format.specs.Field.{varint}
 use Rattle.format.specs.Refusals.{NOT_LISTED, ROOTS_DIFFER}
 use Rattle.path.specs.Unchecked.{unchecked_leaf}
-use Rattle.spv.specs.Result.{Result, accepted, refused, carrying, follow}
+use Rattle.spv.specs.Result.{Result, answer_of, accepted, refused, carrying, follow}
 use Rattle.spv.specs.Climb.{Siblings}
 use Rattle.spv.specs.Clients.{after_leaf, closing}
-use Rattle.spv.specs.declared.climb.Climbed.{Climbed}
-use Rattle.spv.specs.declared.climb.End.{End}
-use Rattle.spv.specs.declared.climb.End.TheVariants.{Root, Stop}
 use Rattle.spv.specs.declared.rejection.Rejection.{Rejection}
-use Rattle.spv.specs.declared.prove.Status.{Status}
-use Rattle.spv.specs.declared.prove.Status.TheVariants.{Read, Unread}
-use Rattle.climbs.specs.declared.want.Agreement.{Agreement}
-use Rattle.climbs.specs.declared.want.Checked.{Checked}
-use Rattle.climbs.specs.declared.want.Want.{Want}
-use Rattle.spv.specs.Prove.{target_of, Target, hits, any, bound}
-
-unfoldable pub refused_check : Rejection → Checked
-refused_check why = record { agreement = Agreement.Refused why; root = replicate 32 0 }
+use Rattle.spv.specs.Prove.{Target, hits, any, bound}
+use Rattle.spv.specs.Shapes.{bound_to}
 
 -- the answer of the check: the root, or a refusal
-unfoldable pub checked_of : Result (List ℕ) → Checked
-checked_of (accepted r) = record { agreement = Agreement.Agreed; root = r }
-checked_of (refused why) = refused_check why
+abbrev pub checked_of : Result (List ℕ) → Answer (List ℕ) Rejection
+checked_of = answer_of (λ root. root)
 
 -- what a leaf leaves wanted
-unfoldable pub want_by : Target → Status → Result Target
-want_by w Read = accepted w
-want_by w (Unread why) = refused why
-
-unfoldable pub want_says : Want → Result Target
-want_says r = want_by (target_of r.bound r.root) r.status
+abbrev pub want_says : Answer (Option (List ℕ)) Rejection → Result Target
+want_says (Ok wanted) = accepted (bound_to wanted)
+want_says (Err why) = refused why
 
 -- what the end of a climb says
-unfoldable pub end_under : List ℕ → End → Result (List ℕ)
-end_under root Root = accepted root
-end_under root (Stop why) = refused why
-
-unfoldable pub end_says : Climbed → Result (List ℕ)
-end_says x = end_under x.root x.end
+abbrev pub end_says : Answer (List ℕ) Rejection → Result (List ℕ)
+end_says (Ok root) = accepted root
+end_says (Err why) = refused why
 
 -- the root wanted after a climb came to its end: 14 or 15, then 16
 unfoldable pub wanted_to : Target → Result (List ℕ) → Result Target

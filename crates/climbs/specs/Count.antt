@@ -1,10 +1,8 @@
 -- The joins that a climb makes, by the definition (02, Item 11): "a computed sibling costs its own join and those of its children, a copy none, and a
 -- sibling that can't be had none; a refused climb counts the layers below its fault and, for 15, what the sibling there cost".
-use Rattle.std.specs.Prelude.{ℕ, zero, suc, ◌+◌, ◌*◌, ◌/◌, List, ◌++◌}
+use Rattle.std.specs.Prelude.{Option, Some, None, ℕ, zero, suc, ◌+◌, ◌*◌, ◌/◌, List, ◌++◌}
 use Rattle.hash.specs.Sha256.{sha256d}
 use Rattle.format.specs.Parse.{pick}
-use Rattle.path.specs.declared.path.Start.{Start}
-use Rattle.path.specs.declared.path.Start.TheVariants.{At, Nowhere}
 use Rattle.spv.specs.Climb.{Siblings, joins, fails, step, odd, sibling_position}
 use Rattle.spv.specs.Values.{has_value, join_of, worked_out}
 use Rattle.spv.specs.Joins.{joins_by}
@@ -28,6 +26,6 @@ module _ (w : Siblings) where
       [ joins a b ↦ cost_of k (sibling_position j) + 1 + climb_cost (suc k) n (j / 2) (sha256d (a ++ b)) | fails number ↦ cost_of k (sibling_position j) ]
 
   -- the climb of an id over h layers, from where it stands; one that stands nowhere makes none
-  unfoldable pub start_cost : ℕ → List ℕ → Start → ℕ
-  start_cost h id (At i) = climb_cost 0 h i id
-  start_cost h id Nowhere = 0
+  unfoldable pub start_cost : ℕ → List ℕ → Option ℕ → ℕ
+  start_cost h id (Some i) = climb_cost 0 h i id
+  start_cost h id None = 0

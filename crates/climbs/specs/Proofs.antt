@@ -1,19 +1,18 @@
 -- Proofs of many ids by one path: each row of a list of hashes holds an id, and gets what the id's own proof comes to.
-use Rattle.std.specs.Prelude.{ℕ, zero, suc, ◌+◌, ◌*◌, Bool, true, false, ◌&&◌, List, [], ◌++◌, length, drop, replicate, ◌==◌, nat_le, slice_index}
+use Rattle.std.specs.Prelude.{Option, Some, None, Result as Answer, Ok, Err, ℕ, zero, suc, ◌+◌, ◌*◌, Bool, true, false, ◌&&◌, List, [], ◌++◌, length, drop, replicate, ◌==◌, nat_le, slice_index}
 use Rattle.format.specs.Parse.{pick}
 use Rattle.format.specs.Bytes.{hash_at}
 use Rattle.path.specs.declared.path.Form.{Form}
 use Rattle.path.specs.declared.path.Path.{Path}
-use Rattle.path.specs.declared.path.Start.{Start}
-use Rattle.path.specs.declared.path.Start.TheVariants.{At, Nowhere}
 use Rattle.path.specs.Path.{LAYERS, leaf_in, start_in}
 use Rattle.spv.specs.Result.{Result, accepted, refused}
 use Rattle.spv.specs.Prove.{Proof, prove}
 use Rattle.spv.specs.Readings.{path_reading}
 use Rattle.spv.specs.Rows.{rows}
 use Rattle.spv.specs.Siblings.{written_by}
-use Rattle.spv.specs.Shapes.{accepted_of, proved_of}
+use Rattle.spv.specs.Shapes.{accepted_of}
 use Rattle.spv.specs.declared.prove.Proved.{Proved}
+use Rattle.spv.specs.declared.rejection.Rejection.{Rejection}
 use Rattle.climbs.specs.Row.{refusal_of}
 use Rattle.climbs.specs.Count.{start_cost}
 
@@ -47,9 +46,9 @@ unfoldable pub joins_in : List ℕ → Path → List ℕ → ℕ
 joins_in s path id = start_cost (written_by s (leaf_in s path)) path.layers id (start_in s path id)
 
 -- a row's start: where the id stands, 0 if nowhere
-unfoldable pub start_row : Start → ℕ
-start_row (At position) = position
-start_row Nowhere = 0
+unfoldable pub start_row : Option ℕ → ℕ
+start_row (Some position) = position
+start_row None = 0
 
 -- a row's state: 0 if accepted; of a refusal 64 times its number, and its layer
 unfoldable pub state_row : Result (List ℕ) → ℕ
@@ -90,6 +89,6 @@ module _ (s : List ℕ) (path : Path) (starts states hashes : List ℕ) where
       (rows (λ i. joins_in s path (id_at hashes i)) (length starts) ++ drop (length starts) costs) costs
 
 -- what a row says of an id
-unfoldable pub proved_at : ℕ → List ℕ → List ℕ → List ℕ → List ℕ → ℕ → Proved
+unfoldable pub proved_at : ℕ → List ℕ → List ℕ → List ℕ → List ℕ → ℕ → Answer Proved Rejection
 proved_at layers id starts states hashes i =
-    pick (slice_index states i == 0) (accepted_of (slice_index starts i) layers id (hash_at hashes (32 * i))) (proved_of (refused (refusal_of (slice_index starts i) (slice_index states i))))
+    pick (slice_index states i == 0) (Ok (accepted_of (slice_index starts i) layers id (hash_at hashes (32 * i)))) (Err (refusal_of (slice_index starts i) (slice_index states i)))

@@ -10,8 +10,6 @@ use Rattle.spv.specs.Result.{Result, accepted, refused, carrying}
 use Rattle.spv.specs.Climb.{Siblings}
 use Rattle.spv.specs.Prove.{bound}
 use Rattle.spv.specs.Values.{worked_out}
-use Rattle.climbs.specs.declared.want.Agreement.{Agreement}
-use Rattle.climbs.specs.declared.want.Checked.{Checked}
 use Rattle.climbs.specs.ClientsShapes.{clients_in}
 use Rattle.climbs.specs.LookUp.{looked_up}
 use Rattle.climbs.specs.Proofs.{is_bump}
@@ -19,13 +17,6 @@ use Rattle.climbs.specs.Proofs.{is_bump}
 unfoldable pub is_accepted : Result (List ℕ) → Bool
 is_accepted (accepted r) = true
 is_accepted (refused why) = false
-
-abbrev pub is_agreed : Agreement → Bool
-is_agreed Agreement.Agreed = true
-is_agreed (Agreement.Refused why) = false
-
-unfoldable pub agrees : Checked → Bool
-agrees checked = is_agreed checked.agreement
 
 -- each client of the level at a place of s climbs to r
 unfoldable pub level_reaches : Siblings → ℕ → List ℕ → List ℕ → ℕ → Bool

@@ -1,14 +1,15 @@
 -- Climbs in rows: row i has a start, a state and a hash. The state is the number of layers made while the climb goes on; of one that was refused it is
 -- 64 times the refusal's number, and its layer: 13 of one that was never begun, 14 or 15.
-use Rattle.std.specs.Prelude.{◌≡◌, ℕ, ◌+◌, ◌-◌, ◌*◌, ◌/◌, ◌%◌, ◌^◌, ◌<◌, ◌≤◌, List, length, ◌==◌, ◌≢◌, nat_lt, slice_index, slice_set}
+use Rattle.std.specs.Prelude.{◌≡◌, Result as Answer, Ok, Err, ℕ, ◌+◌, ◌-◌, ◌*◌, ◌/◌, ◌%◌, ◌^◌, ◌<◌, ◌≤◌, List, ◌++◌, length, ◌==◌, ◌≢◌, nat_lt, slice_index, slice_set}
 use Rattle.format.specs.Parse.{pick}
-use Rattle.format.specs.Refusals.{NOT_LISTED, MISSING, TWIN}
+use Rattle.format.specs.declared.refusal.Refusal.{Refusal}
+use Rattle.format.specs.Refusals.{NOT_LISTED, MISSING, TWIN, refusal_number}
+use Rattle.hash.specs.Sha256.{sha256d}
 use Rattle.format.specs.Bytes.{hash_at, set_hash}
 use Rattle.spv.specs.Result.{Result, accepted, refused}
 use Rattle.spv.specs.Climb.{Siblings, sibling_position, ascend, end_of}
 use Rattle.spv.specs.declared.rejection.Rejection.{Rejection}
-use Rattle.spv.specs.declared.climb.StepKind.{StepKind}
-use Rattle.spv.specs.declared.climb.StepKind.TheVariants.{Joins, Fails}
+use Rattle.spv.specs.declared.climb.Halves.{Halves}
 
 unfoldable pub number_of : ℕ → ℕ
 number_of state = pick (nat_lt state (64 * MISSING)) NOT_LISTED (pick (nat_lt state (64 * TWIN)) MISSING TWIN)
@@ -35,20 +36,25 @@ came start state c = pick (nat_lt state 128) (accepted c) (refused (refusal_of s
 unfoldable pub came_at : List ℕ → List ℕ → List ℕ → ℕ → Result (List ℕ)
 came_at starts states hashes i = came (slice_index starts i) (slice_index states i) (hash_at hashes (32 * i))
 
--- one layer more: how a layer that was joined, or that fails, leaves a row that stands there
-unfoldable pub state_by : ℕ → StepKind → ℕ
-state_by layer Joins = layer + 1
-state_by layer (Fails number) = 64 * number + layer
+-- what a layer makes: the parent of what is hashed, or the refusal
+abbrev pub made_of : Answer Halves Refusal → Answer (List ℕ) Refusal
+made_of (Ok h) = Ok (sha256d (h.left ++ h.right))
+made_of (Err refusal) = Err refusal
 
-unfoldable pub hashes_by : List ℕ → ℕ → StepKind → List ℕ → List ℕ
-hashes_by hashes row Joins parent = set_hash hashes row parent
-hashes_by hashes row (Fails number) parent = hashes
+-- one layer more: how it leaves a row that stands there
+unfoldable pub state_by : ℕ → Answer (List ℕ) Refusal → ℕ
+state_by layer (Ok parent) = layer + 1
+state_by layer (Err refusal) = 64 * refusal_number refusal + layer
 
-unfoldable pub states_after : List ℕ → ℕ → ℕ → StepKind → List ℕ
-states_after states row layer kind = pick (slice_index states row == layer) (slice_set states row (state_by layer kind)) states
+unfoldable pub hashes_by : List ℕ → ℕ → Answer (List ℕ) Refusal → List ℕ
+hashes_by hashes row (Ok parent) = set_hash hashes row parent
+hashes_by hashes row (Err refusal) = hashes
 
-unfoldable pub hashes_after : List ℕ → List ℕ → ℕ → ℕ → StepKind → List ℕ → List ℕ
-hashes_after states hashes row layer kind parent = pick (slice_index states row == layer) (hashes_by hashes row kind parent) hashes
+unfoldable pub states_after : List ℕ → ℕ → ℕ → Answer (List ℕ) Refusal → List ℕ
+states_after states row layer made = pick (slice_index states row == layer) (slice_set states row (state_by layer made)) states
+
+unfoldable pub hashes_after : List ℕ → List ℕ → ℕ → ℕ → Answer (List ℕ) Refusal → List ℕ
+hashes_after states hashes row layer made = pick (slice_index states row == layer) (hashes_by hashes row made) hashes
 
 -- ---- the rows in the order of their starts
 

@@ -1,10 +1,9 @@
 -- The joins that each row has spent (02, Item 11), in an array beside its state and hash: with those that it still owes they are always the same.
-use Rattle.std.specs.Prelude.{◌≡◌, ℕ, ◌+◌, ◌-◌, ◌*◌, ◌/◌, ◌%◌, ◌^◌, ◌<◌, ◌≤◌, Bool, List, length, ◌==◌, nat_lt, slice_index, slice_set}
+use Rattle.std.specs.Prelude.{◌≡◌, Result as Answer, Ok, Err, ℕ, ◌+◌, ◌-◌, ◌*◌, ◌/◌, ◌%◌, ◌^◌, ◌<◌, ◌≤◌, Bool, List, length, ◌==◌, nat_lt, slice_index, slice_set}
 use Rattle.format.specs.Parse.{pick}
 use Rattle.format.specs.Bytes.{hash_at}
 use Rattle.spv.specs.Climb.{Siblings}
-use Rattle.spv.specs.declared.climb.StepKind.{StepKind}
-use Rattle.spv.specs.declared.climb.StepKind.TheVariants.{Joins, Fails}
+use Rattle.format.specs.declared.refusal.Refusal.{Refusal}
 use Rattle.climbs.specs.Count.{climb_cost}
 
 -- costs are kept modulo 2 ^ 64, so that no step needs to know that they fit; they do (`cost_fits`)
@@ -19,13 +18,13 @@ unfoldable pub owes_at : Siblings → ℕ → List ℕ → List ℕ → List ℕ
 owes_at w h starts states hashes i = owes w h (slice_index starts i) (slice_index states i) (hash_at hashes (32 * i))
 
 -- what one layer costs beside a sibling that cost n: its own join too, if it was made
-unfoldable pub paid : StepKind → ℕ → ℕ
-paid Joins n = n + 1
-paid (Fails number) n = n
+unfoldable pub paid : Answer (List ℕ) Refusal → ℕ → ℕ
+paid (Ok parent) n = n + 1
+paid (Err refusal) n = n
 
 -- a row that stands at a layer pays for it; one that has no cost changes nothing
-unfoldable pub costs_after : List ℕ → List ℕ → ℕ → ℕ → StepKind → ℕ → List ℕ
-costs_after states costs row layer kind n = pick (slice_index states row == layer) (slice_set costs row ((slice_index costs row + paid kind n) % U64)) costs
+unfoldable pub costs_after : List ℕ → List ℕ → ℕ → ℕ → Answer (List ℕ) Refusal → ℕ → List ℕ
+costs_after states costs row layer made n = pick (slice_index states row == layer) (slice_set costs row ((slice_index costs row + paid made n) % U64)) costs
 
 -- a node's join, by what its children cost
 unfoldable pub joined_cost : Bool → ℕ → ℕ → ℕ

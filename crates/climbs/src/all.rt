@@ -13,11 +13,12 @@ use super::order::order_rows;
 use super::pass::{split, visit};
 use super::rise::rise_rows;
 use super::row::above;
+use path::LAYERS;
 
 // Every tree that rows lie in: in a path that was read there is one.
 fn visit_trees(
     s: &[u8],
-    places: &[usize],
+    places: &[usize; LAYERS],
     starts: &[u64],
     order: &[u16],
     states: &mut [u16],
@@ -27,11 +28,12 @@ fn visit_trees(
     layers: usize,
     costs: &mut [u64],
 )
-    requires { (layers ≤ 64) × Setting places.now starts.now order.now states.old hashes.old }
+    requires { (layers ≤ 64) × Setting starts.now order.now states.old hashes.old }
     ensures { (Moved (worked_out (looked_up s.now places.now t.now others.now)) layers starts.now states.old hashes.old states.new hashes.new)
         × (Reached order.now states.new layers 0 (length order.now))
         × Spent (looked_up s.now places.now t.now others.now) layers starts.now states.old hashes.old costs.old states.new hashes.new costs.new }
 {
+    // Each turn passes as many rows as lie in one tree.
     let mut lo = 0;
     while lo < order.len() {
         let row = order[lo] as usize;
@@ -48,7 +50,7 @@ fn visit_trees(
 // All rows to their ends, each from where it stands, by what one path has written, or two between them; each pays what it owes.
 pub(crate) fn climb_both(
     s: &[u8],
-    places: &[usize],
+    places: &[usize; LAYERS],
     t: &[u8],
     others: &[usize],
     layers: usize,
@@ -58,7 +60,7 @@ pub(crate) fn climb_both(
     hashes: &mut [u8],
     costs: &mut [u64],
 )
-    requires { (layers ≤ 64) × (length places.now ≡ 64) × Roomy starts.now order.old states.old hashes.old }
+    requires { (layers ≤ 64) × Roomy starts.now order.old states.old hashes.old }
     ensures { Climbed (worked_out (looked_up s.now places.now t.now others.now)) layers starts.now states.old hashes.old states.new hashes.new
         × Settled (looked_up s.now places.now t.now others.now) layers starts.now states.old hashes.old costs.old costs.new }
 {
@@ -72,7 +74,7 @@ pub(crate) fn climb_both(
 // The same by one path.
 pub(crate) fn climb_rows(
     s: &[u8],
-    places: &[usize],
+    places: &[usize; LAYERS],
     layers: usize,
     starts: &[u64],
     order: &mut [u16],
@@ -80,7 +82,7 @@ pub(crate) fn climb_rows(
     hashes: &mut [u8],
     costs: &mut [u64],
 )
-    requires { (layers ≤ 64) × (length places.now ≡ 64) × Roomy starts.now order.old states.old hashes.old }
+    requires { (layers ≤ 64) × Roomy starts.now order.old states.old hashes.old }
     ensures { Climbed (worked_out (written_by s.now (find_at Layout.Bump s.now places.now))) layers starts.now states.old hashes.old states.new hashes.new
         × Settled (written_by s.now (find_at Layout.Bump s.now places.now)) layers starts.now states.old hashes.old costs.old costs.new }
 {

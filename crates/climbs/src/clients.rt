@@ -1,6 +1,6 @@
 // A BUMP's all-clients check (01, "The climb"; specs/ClientsShapes.antt): the clients climb together, as many as there is room for.
-ghost use Rattle.std.specs.Prelude.{◌≡◌, ℕ, ◌+◌, ◌*◌, ◌<◌, ◌≤◌, length};
-ghost use Rattle.spv.specs.Result.{Result, follow};
+ghost use Rattle.std.specs.Prelude.{◌≡◌, ℕ, ◌+◌, ◌*◌, ◌<◌, ◌≤◌, length, MatchResult};
+ghost use Rattle.spv.specs.Result.{Result, accepted, refused, follow};
 ghost use Rattle.spv.specs.Climb.{Siblings};
 ghost use Rattle.spv.specs.Siblings.{path_siblings};
 ghost use Rattle.spv.specs.Values.{worked_out};
@@ -12,48 +12,40 @@ ghost use Rattle.climbs.specs.Waiting.{rows_say, Lent};
 ghost use Rattle.climbs.specs.Together.{Levels};
 ghost use Rattle.climbs.specs.Begun.{First};
 ghost use Rattle.spv.specs.Prove.{Target, any};
+ghost use Rattle.spv.specs.Shapes.{bound_to};
 
 use super::all::climb_both;
 use super::prove::ROWS;
 use super::row::row_end;
-use super::want::{
-    Checked, Want, close_check, close_short, refused_check, unbound, unlisted, want_after,
-};
-use format::{BumpAnswer, Cursor, Kind, Layout, Leaf, Number};
-use path::{LeafAnswer, Path};
-use spv::{Status, climb_from, reject_reading};
+use super::want::{Want, close, want_by};
+use format::{Cursor, Kind, Layout, Leaf, Refusal};
+use path::Path;
+use spv::{Rejection, climb_from, reject};
 
 // The bytes of the hashes of so many rows.
 const ROWS_ROOM: usize = 8192;
 
 // What is wanted so far, and how many clients have not climbed yet.
 #[derive(Clone, Copy)]
-pub struct Waiting {
-    pub want: Want,
-    pub count: usize,
+struct Waiting {
+    wanted: Option<[u8; 32]>,
+    count: usize,
 }
 
 // What is wanted after the ends of the first rows, in their order.
-fn want_rows(want: Want, count: usize, starts: &[u64], states: &[u16], hashes: &[u8]) -> Want
-    ensures { want_says result ≡ pending (came_at starts.now states.now hashes.now) count (want_says want) }
+fn want_rows(
+    mut wanted: Option<[u8; 32]>,
+    count: usize,
+    starts: &[u64],
+    states: &[u16],
+    hashes: &[u8],
+) -> Want
+    ensures { want_says result ≡ pending (came_at starts.now states.now hashes.now) count (accepted (bound_to wanted)) }
 {
-    let mut now = want;
-    let mut i: usize = 0;
-    while i < count {
-        now = want_after(now, row_end(starts, states, hashes, i));
-        i += 1;
+    for i in 0..count {
+        wanted = want_by(wanted, row_end(starts, states, hashes, i))?;
     }
-    now
-}
-
-fn clear(states: &mut [u16])
-    ensures { First (λ _. 0) (length states.old) states.new }
-{
-    let mut i: usize = 0;
-    while i < states.len() {
-        states[i] = 0;
-        i += 1;
-    }
+    Ok(wanted)
 }
 
 // The first rows climb.
@@ -62,7 +54,7 @@ fn settle_rows(
     path: Path,
     t: &[u8],
     others: &[usize],
-    want: Want,
+    wanted: Option<[u8; 32]>,
     count: usize,
     starts: &[u64],
     order: &mut [u16],
@@ -70,9 +62,9 @@ fn settle_rows(
     hashes: &mut [u8],
 ) -> Want
     requires { (count ≤ length starts.now) × Lent starts.now order.old states.old hashes.old × Levels path }
-    ensures { want_says result ≡ rows_say (worked_out (looked_up s.now path.at t.now others.now)) path.layers starts.now hashes.old count (want_says want) }
+    ensures { want_says result ≡ rows_say (worked_out (looked_up s.now path.at t.now others.now)) path.layers starts.now hashes.old count (accepted (bound_to wanted)) }
 {
-    clear(states);
+    states.fill(0);
     let places = path.at;
     let mut uncounted = [0u64; 0];
     climb_both(
@@ -87,7 +79,7 @@ fn settle_rows(
         hashes,
         &mut uncounted,
     );
-    want_rows(want, count, starts, states, hashes)
+    want_rows(wanted, count, starts, states, hashes)
 }
 
 // A client takes the next row; other leaves change nothing.
@@ -95,8 +87,7 @@ fn take_row(s: &[u8], leaf: Leaf, count: usize, starts: &mut [u64], hashes: &mut
     requires { (count < length starts.old) × (32 * length starts.old ≤ length hashes.old) }
     ensures { (result ≤ count + 1) × ((σ : Siblings) (h : ℕ) (x : Result Target) → rows_say σ h starts.new hashes.new result x ≡ follow (rows_say σ h starts.old hashes.old count x) (λ w. after_leaf σ h s.now w leaf)) }
 {
-    let kind = leaf.kind;
-    match kind {
+    match leaf.kind {
         Kind::Client(place) => {
             let hash = format::hash_at(s, place);
             starts[count] = leaf.offset;
@@ -114,27 +105,27 @@ fn make_room(
     path: Path,
     t: &[u8],
     others: &[usize],
-    want: Want,
+    wanted: Option<[u8; 32]>,
     count: usize,
     starts: &[u64],
     order: &mut [u16],
     states: &mut [u16],
     hashes: &mut [u8],
-) -> Waiting
+) -> Result<Waiting, Rejection>
     requires { (count ≤ length starts.now) × Lent starts.now order.old states.old hashes.old × Levels path }
-    ensures { (result.count < length starts.now)
-        × (rows_say (worked_out (looked_up s.now path.at t.now others.now)) path.layers starts.now hashes.new result.count (want_says result.want)
-        ≡ rows_say (worked_out (looked_up s.now path.at t.now others.now)) path.layers starts.now hashes.old count (want_says want)) }
+    ensures { MatchResult result
+        (λ waiting. (waiting.count < length starts.now)
+        × (rows_say (worked_out (looked_up s.now path.at t.now others.now)) path.layers starts.now hashes.new waiting.count (accepted (bound_to waiting.wanted))
+        ≡ rows_say (worked_out (looked_up s.now path.at t.now others.now)) path.layers starts.now hashes.old count (accepted (bound_to wanted))))
+        (λ why. refused why ≡ rows_say (worked_out (looked_up s.now path.at t.now others.now)) path.layers starts.now hashes.old count (accepted (bound_to wanted))) }
 {
     if count < starts.len() {
-        return Waiting { want, count };
+        return Ok(Waiting { wanted, count });
     }
-    Waiting {
-        want: settle_rows(
-            s, path, t, others, want, count, starts, order, states, hashes,
-        ),
-        count: 0,
-    }
+    let wanted = settle_rows(
+        s, path, t, others, wanted, count, starts, order, states, hashes,
+    )?;
+    Ok(Waiting { wanted, count: 0 })
 }
 
 // The clients among count leaves of u from c, in written order, with a root wanted of the first one or not.
@@ -144,48 +135,37 @@ fn check_each(
     path: Path,
     t: &[u8],
     others: &[usize],
-    wanted: Want,
+    mut wanted: Option<[u8; 32]>,
     c: Cursor,
     count: u64,
     starts: &mut [u64],
     order: &mut [u16],
     states: &mut [u16],
     hashes: &mut [u8],
-) -> Checked
+) -> Result<[u8; 32], Rejection>
     requires { Lent starts.old order.old states.old hashes.old × Levels path }
-    ensures { result ≡ checked_of (follow (want_says wanted) (λ w. clients_in (worked_out (looked_up s.now path.at t.now others.now)) path.layers u.now count c.at w)) }
+    ensures { result ≡ checked_of (clients_in (worked_out (looked_up s.now path.at t.now others.now)) path.layers u.now count c.at (bound_to wanted)) }
 {
-    let mut want = wanted;
     let mut rows: usize = 0;
     let mut next = c;
-    let mut i: u64 = 0;
-    while i < count {
-        let field = path::leaf_at(u, next, Layout::Bump);
-        let LeafAnswer::Value(leaf, after) = field else {
-            return close_short(settle_rows(
-                s, path, t, others, want, rows, starts, order, states, hashes,
-            ));
+    for _ in 0..count {
+        let Ok((leaf, after)) = path::leaf_at(u, next, Layout::Bump) else {
+            settle_rows(
+                s, path, t, others, wanted, rows, starts, order, states, hashes,
+            )?;
+            return Err(reject(Refusal::NotListed));
         };
         let taken = take_row(u, leaf, rows, starts, hashes);
         let waiting = make_room(
-            s, path, t, others, want, taken, starts, order, states, hashes,
-        );
-        want = waiting.want;
+            s, path, t, others, wanted, taken, starts, order, states, hashes,
+        )?;
+        wanted = waiting.wanted;
         rows = waiting.count;
-        let status = want.status;
-        match status {
-            Status::Unread(rejection) => {
-                return refused_check(rejection);
-            }
-            Status::Read => {
-                next = after;
-                i += 1;
-            }
-        }
+        next = after;
     }
-    close_check(settle_rows(
-        s, path, t, others, want, rows, starts, order, states, hashes,
-    ))
+    close(settle_rows(
+        s, path, t, others, wanted, rows, starts, order, states, hashes,
+    )?)
 }
 
 // The same, with room for the rows.
@@ -195,12 +175,12 @@ pub(crate) fn check_many(
     path: Path,
     t: &[u8],
     others: &[usize],
-    wanted: Want,
+    wanted: Option<[u8; 32]>,
     c: Cursor,
     count: u64,
-) -> Checked
+) -> Result<[u8; 32], Rejection>
     requires { Levels path }
-    ensures { result ≡ checked_of (follow (want_says wanted) (λ w. clients_in (worked_out (looked_up s.now path.at t.now others.now)) path.layers u.now count c.at w)) }
+    ensures { result ≡ checked_of (clients_in (worked_out (looked_up s.now path.at t.now others.now)) path.layers u.now count c.at (bound_to wanted)) }
 {
     let mut starts = [0u64; ROWS];
     let mut order = [0u16; ROWS];
@@ -223,49 +203,45 @@ pub(crate) fn check_many(
 }
 
 // The clients of a path by itself.
-fn check_own(s: &[u8], path: Path, c: Cursor, count: u64) -> Checked
+fn check_own(s: &[u8], path: Path, c: Cursor, count: u64) -> Result<[u8; 32], Rejection>
     requires { Levels path }
     ensures { result ≡ checked_of (clients_in (path_siblings s.now path) path.layers s.now count c.at any) }
 {
     let none = [0usize; 0];
-    check_many(s, s, path, s, &none, unbound(), c, count)
+    check_many(s, s, path, s, &none, None, c, count)
 }
 
 // A client climbs at once.
-fn take_alone(s: &[u8], path: Path, want: Want, leaf: Leaf) -> Want
-    ensures { want_says result ≡ follow (want_says want) (λ w. after_leaf (path_siblings s.now path) path.layers s.now w leaf) }
+fn take_alone(s: &[u8], path: Path, wanted: Option<[u8; 32]>, leaf: Leaf) -> Want
+    ensures { want_says result ≡ after_leaf (path_siblings s.now path) path.layers s.now (bound_to wanted) leaf }
 {
-    let kind = leaf.kind;
-    match kind {
+    match leaf.kind {
         Kind::Client(place) => {
             let hash = format::hash_at(s, place);
-            want_after(want, climb_from(s, path, leaf.offset, hash))
+            want_by(wanted, climb_from(s, path, leaf.offset, hash))
         }
-        Kind::Plain(_) => want,
-        Kind::Copy => want,
+        Kind::Plain(_) => Ok(wanted),
+        Kind::Copy => Ok(wanted),
     }
 }
 
 // The same of so few leaves that a pass over the tree would take longer than it saves.
-fn check_few(s: &[u8], path: Path, c: Cursor, count: u64) -> Checked
+fn check_few(s: &[u8], path: Path, c: Cursor, count: u64) -> Result<[u8; 32], Rejection>
     ensures { result ≡ checked_of (clients_in (path_siblings s.now path) path.layers s.now count c.at any) }
 {
-    let mut want = unbound();
+    let mut wanted = None;
     let mut next = c;
-    let mut i: u64 = 0;
-    while i < count {
-        let field = path::leaf_at(s, next, Layout::Bump);
-        let LeafAnswer::Value(leaf, after) = field else {
-            return close_short(want);
+    for _ in 0..count {
+        let Ok((leaf, after)) = path::leaf_at(s, next, Layout::Bump) else {
+            return Err(reject(Refusal::NotListed));
         };
-        want = take_alone(s, path, want, leaf);
+        wanted = take_alone(s, path, wanted, leaf)?;
         next = after;
-        i += 1;
     }
-    close_check(want)
+    close(wanted)
 }
 
-fn check_leaves(s: &[u8], path: Path, c: Cursor, count: u64) -> Checked
+fn check_leaves(s: &[u8], path: Path, c: Cursor, count: u64) -> Result<[u8; 32], Rejection>
     requires { Levels path }
     ensures { result ≡ checked_of (clients_in (path_siblings s.now path) path.layers s.now count c.at any) }
 {
@@ -275,26 +251,20 @@ fn check_leaves(s: &[u8], path: Path, c: Cursor, count: u64) -> Checked
     check_own(s, path, c, count)
 }
 
-fn check_level(s: &[u8], path: Path, c: Cursor) -> Checked
+fn check_level(s: &[u8], path: Path, c: Cursor) -> Result<[u8; 32], Rejection>
     requires { Levels path }
     ensures { result ≡ checked_of (clients_of_level (path_siblings s.now path) path.layers s.now c.at) }
 {
-    let field = format::read_varint(s, c);
-    let Number::Value(count, next) = field else {
-        return unlisted();
+    let Ok((count, next)) = format::read_varint(s, c) else {
+        return Err(reject(Refusal::NotListed));
     };
     check_leaves(s, path, next, count)
 }
 
-// Check all client leaves of a BUMP.
-pub fn check_clients(s: &[u8]) -> Checked
+// The root that all client leaves of a BUMP come to.
+pub fn check_clients(s: &[u8]) -> Result<[u8; 32], Rejection>
     ensures { result ≡ checked_of (bump_clients s.now) }
 {
-    let answer = format::read_bump(s);
-    let BumpAnswer::Value(head, _) = answer else {
-        return refused_check(reject_reading(answer.refusal()));
-    };
-    let path = path::bump_path(s, head);
-    let levels = head.levels;
-    check_level(s, path, levels)
+    let (head, _) = format::read_bump(s)?;
+    check_level(s, path::bump_path(s, head), head.levels)
 }

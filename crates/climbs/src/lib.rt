@@ -16,4 +16,3 @@ mod want;
 pub use clients::check_clients;
 pub use prove::{ROWS, prove_all, proved_at};
 pub use reach::both_reach;
-pub use want::{Agreement, Checked};

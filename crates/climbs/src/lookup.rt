@@ -8,17 +8,16 @@ ghost use Rattle.climbs.specs.LookUp.{prefer, looked_up};
 ghost use Rattle.climbs.specs.Pass.{is_written};
 
 use format::{Cursor, Layout};
-use path::Found;
-use spv::{Node, NodeKind, absent_node, has_value, written_node};
+use path::LAYERS;
+use spv::{Node, has_value, written_node};
 
 // What is written at a position of the level at a place.
 fn node_at(s: &[u8], at: usize, position: u64) -> Node
     ensures { sibling_of result ≡ sibling s.now (leaf_of_level Layout.Bump s.now at position) }
 {
-    let found = path::find_in_level(s, Cursor { at }, Layout::Bump, position);
-    match found {
-        Found::Here(kind) => written_node(s, kind),
-        Found::Missing => absent_node(),
+    match path::find_in_level(s, Cursor { at }, Layout::Bump, position) {
+        Some(kind) => written_node(s, kind),
+        None => Node::Absent,
     }
 }
 
@@ -26,40 +25,39 @@ fn node_at(s: &[u8], at: usize, position: u64) -> Node
 fn prefer(a: Node, b: Node) -> Node
     ensures { sibling_of result ≡ prefer (sibling_of a) (sibling_of b) }
 {
-    let kind = a.kind;
-    match kind {
-        NodeKind::Value => a,
-        NodeKind::Copied => {
+    match a {
+        Node::Value(_) => a,
+        Node::Copied => {
             if has_value(b) {
                 return b;
             }
             a
         }
-        NodeKind::Absent => b,
+        Node::Absent => b,
     }
 }
 
+#[tactic(auto, unfolding(crate::specs::Pass::is_written))]
 pub(crate) fn is_written(node: Node) -> bool
     ensures { result ≡ is_written (sibling_of node) }
 {
-    let kind = node.kind;
-    match kind {
-        NodeKind::Value => true,
-        NodeKind::Copied => true,
-        NodeKind::Absent => false,
+    match node {
+        Node::Value(_) => true,
+        Node::Copied => true,
+        Node::Absent => false,
     }
 }
 
 // By the places of the levels of one path, and of another one if there are any.
 pub(crate) fn look_up(
     s: &[u8],
-    places: &[usize],
+    places: &[usize; LAYERS],
     t: &[u8],
     others: &[usize],
     layer: usize,
     position: u64,
 ) -> Node
-    requires { layer < length places.now }
+    requires { layer < 64 }
     ensures { sibling_of result ≡ looked_up s.now places.now t.now others.now layer position }
 {
     let first = node_at(s, places[layer], position);

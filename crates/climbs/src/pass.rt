@@ -1,90 +1,70 @@
 // One pass over the tree (specs/Pass.antt): a node's children first, then each climb under them takes one step, then the node's own value.
-ghost use Rattle.std.specs.Prelude.{◌≡◌, ◌+◌, ◌*◌, ◌/◌, ◌^◌, ◌<◌, ◌≤◌, true, false, ◌&&◌, ◌||◌, length, ◌≢◌, slice_index};
+ghost use Rattle.std.specs.Prelude.{◌≡◌, ◌+◌, ◌*◌, ◌/◌, ◌^◌, ◌<◌, ◌≤◌, true, false, length, ◌≢◌, slice_index};
 ghost use Rattle.climbs.specs.LookUp.{looked_up};
 ghost use Rattle.spv.specs.Shapes.{sibling_of};
+ghost use Rattle.spv.specs.Values.{has_value};
 ghost use Rattle.climbs.specs.Row.{Rows, NotAt, Reached, Under};
-ghost use Rattle.climbs.specs.Pass.{join_children, unknown_node, beside_of, Made, Seen, Stepped, AllStepped, Charged, Setting, Spot, Visited, VisitedCost};
+ghost use Rattle.climbs.specs.Pass.{join_children, known_sibling, beside_of, Made, Seen, Needed, Stepped, AllStepped, Charged, Setting, Spot, Visited, VisitedCost};
 
 use super::count::{charge, join_cost};
 use super::lookup::{is_written, look_up};
-use super::row::{above, advance, turn};
-use spv::{Node, NodeKind, absent_node, has_value, join_both};
+use super::row::{above, advance, join_halves, state_at, turn};
+use path::LAYERS;
+use spv::{Node, has_value, join_both};
 
-// A node's value, if it was asked for, and the joins that it cost.
+// A node's value, and the joins that it cost.
 #[derive(Clone, Copy)]
 pub struct Known {
-    pub known: bool,
     pub node: Node,
     pub joins: u64,
 }
 
-fn unknown() -> Known
-    ensures { result ≡ unknown_node }
-{
-    Known {
-        known: false,
-        node: absent_node(),
-        joins: 0,
-    }
-}
-
-pub(crate) fn both(a: bool, b: bool) -> bool
-    ensures { result ≡ a && b }
-{
-    if a { b } else { false }
-}
-
-pub(crate) fn either(a: bool, b: bool) -> bool
-    ensures { result ≡ a || b }
-{
-    if a { true } else { b }
-}
-
-// What is written at a layer and position, if it is asked for; known only if something is.
+// What is written at a layer and position, if it is asked for and something is.
 pub(crate) fn written_at(
     s: &[u8],
-    places: &[usize],
+    places: &[usize; LAYERS],
     t: &[u8],
     others: &[usize],
     layer: usize,
     position: u64,
     want: bool,
-) -> Known
-    requires { want ≡ true → layer < length places.now }
+) -> Option<Known>
+    requires { want ≡ true → layer < 64 }
     ensures { Seen (looked_up s.now places.now t.now others.now) layer position want result }
 {
     if !want {
-        return unknown();
+        return None;
     }
     let node = look_up(s, places, t, others, layer, position);
-    Known {
-        known: is_written(node),
-        node,
-        joins: 0,
+    if !is_written(node) {
+        return None;
     }
+    Some(Known { node, joins: 0 })
 }
 
 // The join of two children as the climb takes them: a copy on the right has the value of the left one.
 fn join_children(l: Node, r: Node) -> Node
     ensures { sibling_of result ≡ join_children (sibling_of l) (sibling_of r) }
 {
-    let kind = r.kind;
-    match kind {
-        NodeKind::Value => join_both(l, r),
-        NodeKind::Copied => join_both(l, l),
-        NodeKind::Absent => absent_node(),
+    match r {
+        Node::Value(_) => join_both(l, r),
+        Node::Copied => join_both(l, l),
+        Node::Absent => Node::Absent,
     }
 }
 
-// The same with what it cost.
-fn join_known(l: Known, r: Known) -> Known
-    ensures { Made l r result }
+// The same with what it cost; without one of the two there is nothing to join.
+fn join_known(l: Option<Known>, r: Option<Known>) -> Known
+    ensures { Made l r (Some result) }
 {
-    let a = l.node;
-    let b = r.node;
-    let node = join_children(a, b);
+    let (Some(l), Some(r)) = (l, r) else {
+        return Known {
+            node: Node::Absent,
+            joins: 0,
+        };
+    };
+    let node = join_children(l.node, r.node);
     Known {
-        known: true,
         node,
         joins: join_cost(has_value(node), l.joins, r.joins),
     }
@@ -102,65 +82,46 @@ pub(crate) fn split(
     requires { (layer ≤ 64) × (lo ≤ hi) × (hi ≤ length order.now) × Rows order.now (length starts.now) }
     ensures { (lo ≤ result) × (result ≤ hi) × (Under starts.now order.now layer position lo result) × (result < hi → slice_index starts.now (slice_index order.now result) / 2 ^ layer ≢ position) }
 {
-    let mut m = lo;
-    while m < hi {
+    for m in lo..hi {
         let row = order[m] as usize;
         if above(starts[row], layer) != position {
             return m;
         }
-        m += 1;
     }
-    m
+    hi
 }
 
 // Whether one of the rows from lo to hi in order stands at a layer.
 fn waiting(order: &[u16], states: &[u16], layer: usize, lo: usize, hi: usize) -> bool
-    requires { (hi ≤ length order.now) × Rows order.now (length states.now) }
+    requires { (lo ≤ hi) × (hi ≤ length order.now) × Rows order.now (length states.now) }
     ensures { result ≡ false → NotAt order.now states.now layer lo hi }
 {
-    let mut i = lo;
-    while i < hi {
-        let row = order[i] as usize;
-        let state = states[row] as usize;
-        if state == layer {
-            return true;
-        }
-        i += 1;
-    }
-    false
+    order[lo..hi]
+        .iter()
+        .any(|row| state_at(states, *row as usize) == layer)
 }
 
 // Whether one of them has not come up to a layer.
 fn behind(order: &[u16], states: &[u16], layer: usize, lo: usize, hi: usize) -> bool
-    requires { (hi ≤ length order.now) × Rows order.now (length states.now) }
+    requires { (lo ≤ hi) × (hi ≤ length order.now) × Rows order.now (length states.now) }
     ensures { result ≡ false → Reached order.now states.now layer lo hi }
 {
-    let mut i = lo;
-    while i < hi {
-        let row = order[i] as usize;
-        let state = states[row] as usize;
-        if state < layer {
-            return true;
-        }
-        i += 1;
-    }
-    false
+    order[lo..hi]
+        .iter()
+        .any(|row| state_at(states, *row as usize) < layer)
 }
 
 // What stands beside position j, of two children, the first at an even position.
-fn beside(j: u64, left: u64, l: Known, r: Known) -> Known
+fn beside(j: u64, left: u64, l: Option<Known>, r: Option<Known>) -> Option<Known>
     ensures { result ≡ beside_of j left l r }
 {
     if j == left {
         return r;
     }
-    if j == 0 {
-        return unknown();
-    }
-    if j - 1 == left {
+    if j > 0 && j - 1 == left {
         return l;
     }
-    unknown()
+    None
 }
 
 // A row takes one step at a layer, if it stands there, beside one of the two children, and pays for it.
@@ -171,8 +132,8 @@ fn step_row(
     row: usize,
     layer: usize,
     left: u64,
-    l: Known,
-    r: Known,
+    l: Option<Known>,
+    r: Option<Known>,
     costs: &mut [u64],
 )
     requires { (row < length starts.now) × (length starts.now ≤ length states.old) × (32 * length starts.now ≤ length hashes.old) × (layer < 64) }
@@ -184,19 +145,12 @@ fn step_row(
         return;
     }
     let j = above(starts[row], layer);
-    let x = beside(j, left, l, r);
-    if !x.known {
+    let Some(x) = beside(j, left, l, r) else {
         return;
-    }
-    let node = x.node;
-    let o = j % 2 == 1;
-    let t = turn(hashes, row, o, node);
-    let a = t.left;
-    let b = t.right;
-    let parent = hash::join(a, b);
-    let kind = t.kind;
-    charge(states, row, layer, kind, x.joins, costs);
-    advance(states, hashes, row, layer, t, parent);
+    };
+    let made = join_halves(turn(hashes, row, j % 2 == 1, x.node));
+    charge(states, row, layer, made, x.joins, costs);
+    advance(states, hashes, row, layer, made);
 }
 
 // The rows from lo to hi in order take one step at a layer.
@@ -209,19 +163,17 @@ fn step_rows(
     left: u64,
     lo: usize,
     hi: usize,
-    l: Known,
-    r: Known,
+    l: Option<Known>,
+    r: Option<Known>,
     costs: &mut [u64],
 )
     requires { (lo ≤ hi) × (hi ≤ length order.now) × Rows order.now (length starts.now) × (length starts.now ≤ length states.old) × (32 * length starts.now ≤ length hashes.old) × (layer < 64) }
     ensures { AllStepped starts.now order.now states.old hashes.old states.new hashes.new layer left lo hi l r
         × Charged starts.now states.old hashes.old costs.old states.new hashes.new costs.new layer left l r }
 {
-    let mut i = lo;
-    while i < hi {
+    for i in lo..hi {
         let row = order[i] as usize;
         step_row(starts, states, hashes, row, layer, left, l, r, costs);
-        i += 1;
     }
 }
 
@@ -236,11 +188,11 @@ fn step_children(
     left: u64,
     lo: usize,
     hi: usize,
-    l: Known,
-    r: Known,
+    l: Option<Known>,
+    r: Option<Known>,
     need: bool,
     costs: &mut [u64],
-) -> Known
+) -> Option<Known>
     requires { (lo ≤ hi) × (hi ≤ length order.now) × Rows order.now (length starts.now) × (length starts.now ≤ length states.old) × (32 * length starts.now ≤ length hashes.old) × (layer < 64) }
     ensures { AllStepped starts.now order.now states.old hashes.old states.new hashes.new layer left lo hi l r
         × Charged starts.now states.old hashes.old costs.old states.new hashes.new costs.new layer left l r
@@ -249,16 +201,30 @@ fn step_children(
     step_rows(
         starts, order, states, hashes, layer, left, lo, hi, l, r, costs,
     );
-    if !need {
-        return unknown();
+    if need { Some(join_known(l, r)) } else { None }
+}
+
+// Whether a value is to be worked out: it is wanted, and nothing is written there.
+fn needs_join(want: bool, here: Option<Known>) -> bool
+    ensures { Needed want here result }
+{
+    want && here.is_none()
+}
+
+// Whether a node is known to have a value.
+fn is_valued(node: Option<Known>) -> bool
+    ensures { result ≡ has_value (known_sibling node) }
+{
+    match node {
+        Some(known) => has_value(known.node),
+        None => false,
     }
-    join_known(l, r)
 }
 
 // The climbs of the rows from lo to hi in order, which lie under a layer and position, up to that layer; and the value there, if it is wanted.
 pub(crate) fn visit(
     s: &[u8],
-    places: &[usize],
+    places: &[usize; LAYERS],
     starts: &[u64],
     order: &[u16],
     states: &mut [u16],
@@ -271,35 +237,32 @@ pub(crate) fn visit(
     hi: usize,
     want: bool,
     costs: &mut [u64],
-) -> Known
-    requires setting { Setting places.now starts.now order.now states.old hashes.old }
+) -> Option<Known>
+    requires setting { Setting starts.now order.now states.old hashes.old }
     requires spot { Spot starts.now order.now layer position lo hi want }
     ensures { Visited (looked_up s.now places.now t.now others.now) starts.now order.now states.old hashes.old states.new hashes.new layer position lo hi want result
         × VisitedCost (looked_up s.now places.now t.now others.now) starts.now states.old hashes.old costs.old states.new hashes.new costs.new layer position want result }
 {
     let here = written_at(s, places, t, others, layer, position, want);
-    let need = both(want, !here.known);
-    let node = here.node;
+    let need = needs_join(want, here);
     if layer == 0 {
-        return Known {
-            known: want,
-            node,
-            joins: 0,
-        };
+        if need {
+            return Some(Known {
+                node: Node::Absent,
+                joins: 0,
+            });
+        }
+        return here;
     }
-    if either(need, behind(order, states, layer, lo, hi)) {
+    if need || behind(order, states, layer, lo, hi) {
         let below = layer - 1;
         let left = 2 * position;
         let m = split(starts, order, below, left, lo, hi);
-        let want_l = either(need, behind(order, states, layer, m, hi));
+        let want_l = need || behind(order, states, layer, m, hi);
         let l = visit(
             s, places, starts, order, states, hashes, t, others, below, left, lo, m, want_l, costs,
         );
-        let l_node = l.node;
-        let want_r = either(
-            both(need, has_value(l_node)),
-            waiting(order, states, below, lo, m),
-        );
+        let want_r = need && is_valued(l) || waiting(order, states, below, lo, m);
         let r = visit(
             s,
             places,
@@ -325,9 +288,5 @@ pub(crate) fn visit(
             starts, order, states, hashes, below, left, lo, hi, l, r, false, costs,
         );
     }
-    Known {
-        known: want,
-        node,
-        joins: 0,
-    }
+    here
 }

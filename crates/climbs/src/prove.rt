@@ -7,10 +7,9 @@ ghost use Rattle.climbs.specs.Begun.{begun_row, First, closed_state, closed_hash
 ghost use Rattle.climbs.specs.Proofs.{has_room, fits, root_in, start_row, state_row, root_row, end_to_end, id_at, joins_in, starts_of, states_of, roots_of, costs_of, proved_at};
 
 use super::all::climb_rows;
-use super::count::clear_costs;
 use super::row::{closed_state, rejection_of, root_at, start_at, state_at};
-use path::{Form, LAYERS, Path, Start};
-use spv::{Proved, accepted, refused_proof};
+use path::{Form, LAYERS, Path};
+use spv::{Proved, Rejection};
 
 // Rows that are proved at once.
 pub const ROWS: usize = 256;
@@ -21,45 +20,22 @@ const NOWHERE: u16 = 832;
 fn has_room(layers: usize, count: usize, states: usize, hashes: usize) -> bool
     ensures { result ≡ has_room layers count states hashes }
 {
-    if LAYERS < layers {
-        return false;
-    }
-    if ROWS < count {
-        return false;
-    }
-    if states < count {
-        return false;
-    }
-    32 * count <= hashes
+    layers <= LAYERS && count <= ROWS && count <= states && 32 * count <= hashes
 }
 
 // Whether there are levels, and room for so many rows.
 fn rows_fit(path: Path, count: usize, states: usize, hashes: usize) -> bool
     ensures { result ≡ fits path count states hashes }
 {
-    let form = path.form;
-    match form {
-        Form::Bump => has_room(path.layers, count, states, hashes),
-        Form::Cmp => false,
-        Form::Tsc => false,
-    }
+    matches!(path.form, Form::Bump) && has_room(path.layers, count, states, hashes)
 }
 
-fn start_row(start: Start) -> u64
-    ensures { result ≡ start_row start }
-{
-    match start {
-        Start::At(position) => position,
-        Start::Nowhere => 0,
-    }
-}
-
-fn begun_row(start: Start) -> u16
+fn begun_row(start: Option<u64>) -> u16
     ensures { result ≡ begun_row start }
 {
     match start {
-        Start::At(_) => 0,
-        Start::Nowhere => NOWHERE,
+        Some(_) => 0,
+        None => NOWHERE,
     }
 }
 
@@ -69,13 +45,11 @@ fn begin_rows(s: &[u8], path: Path, starts: &mut [u64], states: &mut [u16], hash
     ensures { First (λ i. start_row (start_in s.now path (id_at hashes.now i))) (length starts.old) starts.new
         × First (λ i. begun_row (start_in s.now path (id_at hashes.now i))) (length starts.old) states.new }
 {
-    let mut i: usize = 0;
-    while i < starts.len() {
+    for i in 0..starts.len() {
         let id = format::hash_at(hashes, 32 * i);
         let start = path::find_id(s, path, id);
-        starts[i] = start_row(start);
+        starts[i] = start.unwrap_or(0);
         states[i] = begun_row(start);
-        i += 1;
     }
 }
 
@@ -95,10 +69,8 @@ fn close_rows(states: &mut [u16], hashes: &mut [u8])
     requires { 32 * length states.old ≤ length hashes.old }
     ensures { Closed (length states.old) states.old hashes.old states.new hashes.new }
 {
-    let mut i: usize = 0;
-    while i < states.len() {
+    for i in 0..states.len() {
         close_row(states, hashes, i);
-        i += 1;
     }
 }
 
@@ -119,7 +91,7 @@ fn prove_rows(
         × (costs.new ≡ rows (λ i. joins_in s.now path (id_at hashes.old i)) (length costs.old)) }
 {
     begin_rows(s, path, starts, states, hashes);
-    clear_costs(costs);
+    costs.fill(0);
     let places = path.at;
     let count = starts.len();
     climb_rows(
@@ -157,10 +129,7 @@ fn prove_ordered(
 fn counted(count: usize, costs: usize) -> usize
     ensures { result ≡ counted_of count costs }
 {
-    if count <= costs {
-        return count;
-    }
-    0
+    if count <= costs { count } else { 0 }
 }
 
 // Prove the ids in the rows of `hashes` by one path, as many as there are starts: each gets the start, the state and the root of its own proof, and
@@ -201,14 +170,19 @@ pub fn proved_at(
     states: &[u16],
     hashes: &[u8],
     row: usize,
-) -> Proved
+) -> Result<Proved, Rejection>
     ensures { result ≡ proved_at layers id starts.now states.now hashes.now row }
 {
     let start = start_at(starts, row);
     let state = state_at(states, row);
     if state == 0 {
         let root = root_at(hashes, row);
-        return accepted(start, layers, id, root);
+        return Ok(Proved {
+            position: start,
+            layers,
+            id,
+            root,
+        });
     }
-    refused_proof(rejection_of(start, state))
+    Err(rejection_of(start, state))
 }

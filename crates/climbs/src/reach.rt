@@ -2,36 +2,19 @@
 ghost use Rattle.std.specs.Prelude.{◌≡◌, ◌&&◌, length, nat_le};
 ghost use Rattle.path.specs.Path.{LAYERS};
 ghost use Rattle.spv.specs.Values.{worked_out};
-ghost use Rattle.climbs.specs.ClientsShapes.{checked_of};
 ghost use Rattle.climbs.specs.LookUp.{looked_up};
 ghost use Rattle.climbs.specs.Proofs.{is_bump};
-ghost use Rattle.climbs.specs.Reach.{agrees, level_reaches, both_reach};
+ghost use Rattle.climbs.specs.Reach.{level_reaches, both_reach};
 ghost use Rattle.climbs.specs.Together.{Levels};
 
 use super::clients::check_many;
-use super::want::{Agreement, Checked, bound_to};
-use format::{Cursor, Number};
+use format::Cursor;
 use path::{Form, LAYERS, Path};
-
-fn agrees(checked: Checked) -> bool
-    ensures { result ≡ agrees checked }
-{
-    let agreement = checked.agreement;
-    match agreement {
-        Agreement::Agreed => true,
-        Agreement::Refused(_) => false,
-    }
-}
 
 fn has_levels(path: Path) -> bool
     ensures { result ≡ is_bump path.form && nat_le path.layers LAYERS }
 {
-    let form = path.form;
-    match form {
-        Form::Bump => path.layers <= LAYERS,
-        Form::Cmp => false,
-        Form::Tsc => false,
-    }
+    matches!(path.form, Form::Bump) && path.layers <= LAYERS
 }
 
 fn reach_root(
@@ -46,12 +29,10 @@ fn reach_root(
     requires { Levels first }
     ensures { result ≡ level_reaches (worked_out (looked_up s.now first.at t.now others.now)) first.layers u.now root c.at }
 {
-    let field = format::read_varint(u, c);
-    let Number::Value(count, next) = field else {
+    let Ok((count, next)) = format::read_varint(u, c) else {
         return false;
     };
-    let checked = check_many(u, s, first, t, others, bound_to(root), next, count);
-    agrees(checked)
+    check_many(u, s, first, t, others, Some(root), next, count).is_ok()
 }
 
 // Whether all clients of the level at c of u climb to a root by the levels of two BUMPs, over the layers of the first.
@@ -66,9 +47,6 @@ pub fn both_reach(
 ) -> bool
     ensures { result ≡ both_reach u.now c.at s.now first t.now second root }
 {
-    if !has_levels(first) {
-        return false;
-    }
     let others = second.at;
-    reach_root(u, c, s, first, t, &others, root)
+    has_levels(first) && reach_root(u, c, s, first, t, &others, root)
 }

@@ -1,40 +1,30 @@
 // Rows four at a time, as long as their siblings are written (specs/Rise.antt): most layers of most climbs, as four joins at once take as long as two.
-ghost use Rattle.std.specs.Prelude.{◌≡◌, ℕ, ◌+◌, ◌<◌, ◌≤◌, false, ◌++◌, length};
+ghost use Rattle.std.specs.Prelude.{◌≡◌, IfSome, ℕ, ◌+◌, ◌<◌, ◌≤◌, ◌++◌, length};
 ghost use Rattle.hash.specs.Sha256.{sha256d};
 ghost use Rattle.lanes.specs.Lanes as L;
-ghost use Rattle.format.specs.Parse.{pick};
 ghost use Rattle.climbs.specs.LookUp.{looked_up};
 ghost use Rattle.spv.specs.Values.{worked_out};
-ghost use Rattle.climbs.specs.Row.{Moved, states_after, hashes_after};
-ghost use Rattle.climbs.specs.Spent.{costs_after, Spent};
-ghost use Rattle.climbs.specs.Rise.{Held, TurnRight, Parent};
+ghost use Rattle.climbs.specs.Row.{Moved};
+ghost use Rattle.climbs.specs.Spent.{Spent};
+ghost use Rattle.climbs.specs.Rise.{Held, TurnRight, move_of, states_moved, hashes_moved, costs_moved};
 
 use super::count::charge;
-use super::pass::{both, either, written_at};
-use super::row::{above, advance, turn};
+use super::pass::written_at;
+use super::row::{above, advance, join_halves, turn};
+use format::Refusal;
 use lanes::Nodes;
-use spv::{Joined, failed, sibling_position};
+use path::LAYERS;
+use spv::{Halves, sibling_position};
 
-// What a row hashes at a layer, if it moves.
-#[derive(Clone, Copy)]
-pub struct Turn {
-    pub moves: bool,
-    pub joined: Joined,
-}
+// What a row hashes at a layer, if it moves; and what it makes.
+type Turn = Option<Result<Halves, Refusal>>;
 
-fn stay() -> Turn
-    ensures { result.moves ≡ false }
-{
-    Turn {
-        moves: false,
-        joined: failed(0),
-    }
-}
+type Move = Option<Result<[u8; 32], Refusal>>;
 
 // It moves if it stands at the layer and its sibling is written.
 fn written_turn(
     s: &[u8],
-    places: &[usize],
+    places: &[usize; LAYERS],
     starts: &[u64],
     states: &[u16],
     hashes: &[u8],
@@ -43,31 +33,23 @@ fn written_turn(
     row: usize,
     layer: usize,
 ) -> Turn
-    requires { (row < length starts.now) × (layer < 64) × Held places.now starts.now states.now hashes.now }
+    requires { (row < length starts.now) × (layer < 64) × Held starts.now states.now hashes.now }
     ensures { TurnRight (looked_up s.now places.now t.now others.now) starts.now states.now hashes.now row layer result }
 {
     let state = states[row] as usize;
     if state != layer {
-        return stay();
+        return None;
     }
     let j = above(starts[row], layer);
     let q = sibling_position(j);
-    let x = written_at(s, places, t, others, layer, q, true);
-    if !x.known {
-        return stay();
-    }
-    let node = x.node;
-    let o = j % 2 == 1;
-    Turn {
-        moves: true,
-        joined: turn(hashes, row, o, node),
-    }
+    let x = written_at(s, places, t, others, layer, q, true)?;
+    Some(turn(hashes, row, j % 2 == 1, x.node))
 }
 
 // The same of a row beside another one: it stays if it is that one.
 fn other_turn(
     s: &[u8],
-    places: &[usize],
+    places: &[usize; LAYERS],
     starts: &[u64],
     states: &[u16],
     hashes: &[u8],
@@ -77,11 +59,11 @@ fn other_turn(
     row: usize,
     layer: usize,
 ) -> Turn
-    requires { (row < length starts.now) × (layer < 64) × Held places.now starts.now states.now hashes.now }
+    requires { (row < length starts.now) × (layer < 64) × Held starts.now states.now hashes.now }
     ensures { TurnRight (looked_up s.now places.now t.now others.now) starts.now states.now hashes.now row layer result }
 {
     if row == beside {
-        return stay();
+        return None;
     }
     written_turn(s, places, starts, states, hashes, t, others, row, layer)
 }
@@ -92,26 +74,22 @@ fn advance_if(
     hashes: &mut [u8],
     row: usize,
     layer: usize,
-    t: Turn,
-    parent: [u8; 32],
+    moved: Move,
     costs: &mut [u64],
 )
     requires { (row < length states.old) × (layer < 64) }
-    ensures { (states.new ≡ pick t.moves (states_after states.old row layer t.joined.kind) states.old)
-        × (hashes.new ≡ pick t.moves (hashes_after states.old hashes.old row layer t.joined.kind parent) hashes.old)
-        × (costs.new ≡ pick t.moves (costs_after states.old costs.old row layer t.joined.kind 0) costs.old) }
+    ensures { (states.new ≡ states_moved states.old row layer moved)
+        × (hashes.new ≡ hashes_moved states.old hashes.old row layer moved)
+        × (costs.new ≡ costs_moved states.old costs.old row layer moved) }
 {
-    let moves = t.moves;
-    let joined = t.joined;
-    let kind = joined.kind;
-    if moves {
-        charge(states, row, layer, kind, 0, costs);
-        advance(states, hashes, row, layer, joined, parent);
+    if let Some(made) = moved {
+        charge(states, row, layer, made, 0, costs);
+        advance(states, hashes, row, layer, made);
     }
 }
 
 // The parents of what four rows hash, in lanes.
-fn lane_parents(a: Joined, b: Joined, c: Joined, d: Joined) -> Nodes
+fn lane_parents(a: Halves, b: Halves, c: Halves, d: Halves) -> Nodes
     ensures { (i : ℕ) → L.node i result ≡ sha256d (L.in_lane i a.left b.left c.left d.left ++ L.in_lane i a.right b.right c.right d.right) }
 {
     let la = a.left;
@@ -138,43 +116,56 @@ fn lane_parents(a: Joined, b: Joined, c: Joined, d: Joined) -> Nodes
     )
 }
 
-// The parent of what a row hashes, if it moves.
-fn parent_of(t: Turn) -> [u8; 32]
-    ensures { Parent t result }
+// What a row makes, if it moves.
+fn move_of(turn: Turn) -> Move
+    ensures { result ≡ move_of turn }
 {
-    if !t.moves {
-        return [0u8; 32];
-    }
-    let joined = t.joined;
-    let left = joined.left;
-    let right = joined.right;
-    hash::join(left, right)
+    Some(join_halves(turn?))
 }
 
-// The same of four rows, in lanes or one by one.
-fn parents(lanes: bool, a: Turn, b: Turn, c: Turn, d: Turn) -> Nodes
-    ensures { Parent a result.a × Parent b result.b × Parent c result.c × Parent d result.d }
+// What a row joins, if it moves and joins something.
+fn joining(turn: Turn) -> Option<Halves>
+    ensures { IfSome result (λ halves. turn ≡ Some (Ok halves)) }
 {
-    if lanes {
-        let ja = a.joined;
-        let jb = b.joined;
-        let jc = c.joined;
-        let jd = d.joined;
-        return lane_parents(ja, jb, jc, jd);
-    }
-    Nodes {
-        a: parent_of(a),
-        b: parent_of(b),
-        c: parent_of(c),
-        d: parent_of(d),
+    match turn {
+        Some(Ok(halves)) => Some(halves),
+        _ => None,
     }
 }
 
-// Four rows, one layer on; whether one of them moved. They are joined in lanes only if all move, so that none is joined in vain; the last of three rows is
-// named twice, and takes two lanes.
+// What four rows make: in lanes if all of them join something, so that none is joined in vain, and else one by one. The last of three rows, which is named
+// twice and stays in the last lane, takes two lanes.
+fn four_moves(a: Turn, b: Turn, c: Turn, d: Turn, twice: bool) -> (Move, Move, Move, Move)
+    ensures { (result.0 ≡ move_of a) × (result.1 ≡ move_of b) × (result.2 ≡ move_of c) × (result.3 ≡ move_of d) }
+{
+    let (Some(ha), Some(hb), Some(hc)) = (joining(a), joining(b), joining(c)) else {
+        return (move_of(a), move_of(b), move_of(c), move_of(d));
+    };
+    if twice {
+        let parents = lane_parents(ha, hb, hc, hc);
+        return (
+            Some(Ok(parents.a)),
+            Some(Ok(parents.b)),
+            Some(Ok(parents.c)),
+            move_of(d),
+        );
+    }
+    let Some(hd) = joining(d) else {
+        return (move_of(a), move_of(b), move_of(c), move_of(d));
+    };
+    let parents = lane_parents(ha, hb, hc, hd);
+    (
+        Some(Ok(parents.a)),
+        Some(Ok(parents.b)),
+        Some(Ok(parents.c)),
+        Some(Ok(parents.d)),
+    )
+}
+
+// Four rows, one layer on; whether one of them moved.
 fn layer4(
     s: &[u8],
-    places: &[usize],
+    places: &[usize; LAYERS],
     starts: &[u64],
     states: &mut [u16],
     hashes: &mut [u8],
@@ -187,7 +178,7 @@ fn layer4(
     layer: usize,
     costs: &mut [u64],
 ) -> bool
-    requires { (a < length starts.now) × (b < length starts.now) × (c < length starts.now) × (d < length starts.now) × (layer < 64) × Held places.now starts.now states.old hashes.old }
+    requires { (a < length starts.now) × (b < length starts.now) × (c < length starts.now) × (d < length starts.now) × (layer < 64) × Held starts.now states.old hashes.old }
     ensures { Moved (worked_out (looked_up s.now places.now t.now others.now)) (layer + 1) starts.now states.old hashes.old states.new hashes.new
         × Spent (looked_up s.now places.now t.now others.now) (layer + 1) starts.now states.old hashes.old costs.old states.new hashes.new costs.new }
 {
@@ -195,24 +186,19 @@ fn layer4(
     let tb = written_turn(s, places, starts, states, hashes, t, others, b, layer);
     let tc = written_turn(s, places, starts, states, hashes, t, others, c, layer);
     let td = other_turn(s, places, starts, states, hashes, t, others, c, d, layer);
-    let three = both(both(ta.moves, tb.moves), tc.moves);
-    let lanes = both(three, either(td.moves, c == d));
-    let parent = parents(lanes, ta, tb, tc, td);
-    let pa = parent.a;
-    let pb = parent.b;
-    let pc = parent.c;
-    let pd = parent.d;
-    advance_if(states, hashes, a, layer, ta, pa, costs);
-    advance_if(states, hashes, b, layer, tb, pb, costs);
-    advance_if(states, hashes, c, layer, tc, pc, costs);
-    advance_if(states, hashes, d, layer, td, pd, costs);
-    either(either(ta.moves, tb.moves), either(tc.moves, td.moves))
+    let moves = ta.is_some() || tb.is_some() || tc.is_some() || td.is_some();
+    let (ma, mb, mc, md) = four_moves(ta, tb, tc, td, c == d);
+    advance_if(states, hashes, a, layer, ma, costs);
+    advance_if(states, hashes, b, layer, mb, costs);
+    advance_if(states, hashes, c, layer, mc, costs);
+    advance_if(states, hashes, d, layer, md, costs);
+    moves
 }
 
 // One row by itself, one layer on; whether it moved.
 fn layer1(
     s: &[u8],
-    places: &[usize],
+    places: &[usize; LAYERS],
     starts: &[u64],
     states: &mut [u16],
     hashes: &mut [u8],
@@ -222,23 +208,20 @@ fn layer1(
     layer: usize,
     costs: &mut [u64],
 ) -> bool
-    requires { (row < length starts.now) × (layer < 64) × Held places.now starts.now states.old hashes.old }
+    requires { (row < length starts.now) × (layer < 64) × Held starts.now states.old hashes.old }
     ensures { Moved (worked_out (looked_up s.now places.now t.now others.now)) (layer + 1) starts.now states.old hashes.old states.new hashes.new
         × Spent (looked_up s.now places.now t.now others.now) (layer + 1) starts.now states.old hashes.old costs.old states.new hashes.new costs.new }
 {
     let turn = written_turn(s, places, starts, states, hashes, t, others, row, layer);
-    if !turn.moves {
-        return false;
-    }
-    let parent = parent_of(turn);
-    advance_if(states, hashes, row, layer, turn, parent, costs);
-    true
+    let moved = move_of(turn);
+    advance_if(states, hashes, row, layer, moved, costs);
+    moved.is_some()
 }
 
 // Four rows, or one that is named four times.
 fn layer_rows(
     s: &[u8],
-    places: &[usize],
+    places: &[usize; LAYERS],
     starts: &[u64],
     states: &mut [u16],
     hashes: &mut [u8],
@@ -251,7 +234,7 @@ fn layer_rows(
     layer: usize,
     costs: &mut [u64],
 ) -> bool
-    requires { (a < length starts.now) × (b < length starts.now) × (c < length starts.now) × (d < length starts.now) × (layer < 64) × Held places.now starts.now states.old hashes.old }
+    requires { (a < length starts.now) × (b < length starts.now) × (c < length starts.now) × (d < length starts.now) × (layer < 64) × Held starts.now states.old hashes.old }
     ensures { Moved (worked_out (looked_up s.now places.now t.now others.now)) (layer + 1) starts.now states.old hashes.old states.new hashes.new
         × Spent (looked_up s.now places.now t.now others.now) (layer + 1) starts.now states.old hashes.old costs.old states.new hashes.new costs.new }
 {
@@ -268,7 +251,7 @@ fn layer_rows(
 // The same layer by layer, as long as one of them moves.
 fn rise4(
     s: &[u8],
-    places: &[usize],
+    places: &[usize; LAYERS],
     starts: &[u64],
     states: &mut [u16],
     hashes: &mut [u8],
@@ -281,18 +264,16 @@ fn rise4(
     layers: usize,
     costs: &mut [u64],
 )
-    requires { (a < length starts.now) × (b < length starts.now) × (c < length starts.now) × (d < length starts.now) × (layers ≤ 64) × Held places.now starts.now states.old hashes.old }
+    requires { (a < length starts.now) × (b < length starts.now) × (c < length starts.now) × (d < length starts.now) × (layers ≤ 64) × Held starts.now states.old hashes.old }
     ensures { Moved (worked_out (looked_up s.now places.now t.now others.now)) layers starts.now states.old hashes.old states.new hashes.new
         × Spent (looked_up s.now places.now t.now others.now) layers starts.now states.old hashes.old costs.old states.new hashes.new costs.new }
 {
-    let mut k: usize = 0;
-    while k < layers {
+    for k in 0..layers {
         if !layer_rows(
             s, places, starts, states, hashes, t, others, a, b, c, d, k, costs,
         ) {
             return;
         }
-        k += 1;
     }
 }
 
@@ -325,7 +306,7 @@ fn together(row: usize, n: usize) -> usize
 // All rows, as long as their siblings are written.
 pub(crate) fn rise_rows(
     s: &[u8],
-    places: &[usize],
+    places: &[usize; LAYERS],
     starts: &[u64],
     states: &mut [u16],
     hashes: &mut [u8],
@@ -334,11 +315,12 @@ pub(crate) fn rise_rows(
     layers: usize,
     costs: &mut [u64],
 )
-    requires { (layers ≤ 64) × Held places.now starts.now states.old hashes.old }
+    requires { (layers ≤ 64) × Held starts.now states.old hashes.old }
     ensures { Moved (worked_out (looked_up s.now places.now t.now others.now)) layers starts.now states.old hashes.old states.new hashes.new
         × Spent (looked_up s.now places.now t.now others.now) layers starts.now states.old hashes.old costs.old states.new hashes.new costs.new }
 {
     let n = starts.len();
+    // Each turn passes four rows, or one of the last.
     let mut row: usize = 0;
     while row < n {
         let b = lane(row, 1, n);

@@ -3,12 +3,12 @@
 ghost use Rattle.std.specs.Prelude.{◌≡◌, ◌+◌, ◌*◌, ◌/◌, ◌^◌, ◌<◌, ◌≤◌, true, false, length, slice_index};
 ghost use Rattle.format.specs.Bytes.{hash_at};
 ghost use Rattle.spv.specs.Climb.{step};
-ghost use Rattle.spv.specs.Shapes.{sibling_of, joined_of, climbed_of};
-ghost use Rattle.climbs.specs.Row.{number_of, sibling_at, refusal_of, came_at, states_after, hashes_after};
+ghost use Rattle.spv.specs.Shapes.{sibling_of, step_of, climbed_of};
+ghost use Rattle.climbs.specs.Row.{number_of, sibling_at, refusal_of, came_at, made_of, states_after, hashes_after};
 ghost use Rattle.climbs.specs.Begun.{closed_state};
 
-use format::refusal::{MISSING, NOT_LISTED, TWIN};
-use spv::{Climbed, End, Joined, Node, Rejection, StepKind, fold, sibling_position};
+use format::Refusal;
+use spv::{Halves, Node, Rejection, fold, parent_of, sibling_position};
 
 // States from here on say 14, and from there on 15.
 const MISSING_STATES: usize = 896;
@@ -27,38 +27,42 @@ pub(crate) fn above(x: u64, layers: usize) -> u64
 }
 
 // The two halves of what the climb of a row hashes beside a sibling.
-pub(crate) fn turn(hashes: &[u8], row: usize, odd: bool, node: Node) -> Joined
+pub(crate) fn turn(hashes: &[u8], row: usize, odd: bool, node: Node) -> Result<Halves, Refusal>
     requires { 32 * row < length hashes.now }
-    ensures { result ≡ joined_of (step (sibling_of node) odd (hash_at hashes.now (32 * row))) }
+    ensures { step_of result ≡ step (sibling_of node) odd (hash_at hashes.now (32 * row)) }
 {
-    let c = format::hash_at(hashes, 32 * row);
-    fold(node, odd, c)
+    fold(node, odd, format::hash_at(hashes, 32 * row))
 }
 
-// A row one layer on, by the parent of what it hashed, if it stands at that layer.
+// The parent of what is hashed, or the refusal.
+pub(crate) fn join_halves(turned: Result<Halves, Refusal>) -> Result<[u8; 32], Refusal>
+    ensures { result ≡ made_of turned }
+{
+    Ok(parent_of(turned?))
+}
+
+// A row one layer on, by the parent of what it hashed or the refusal, if it stands at that layer.
 pub(crate) fn advance(
     states: &mut [u16],
     hashes: &mut [u8],
     row: usize,
     layer: usize,
-    t: Joined,
-    parent: [u8; 32],
+    made: Result<[u8; 32], Refusal>,
 )
     requires { (row < length states.old) × (layer < 64) }
-    ensures { (states.new ≡ states_after states.old row layer t.kind) × (hashes.new ≡ hashes_after states.old hashes.old row layer t.kind parent) }
+    ensures { (states.new ≡ states_after states.old row layer made) × (hashes.new ≡ hashes_after states.old hashes.old row layer made) }
 {
     let state = states[row] as usize;
     if state != layer {
         return;
     }
-    let kind = t.kind;
-    match kind {
-        StepKind::Joins => {
+    match made {
+        Ok(parent) => {
             states[row] = (layer + 1) as u16;
             format::set_hash(hashes, row, parent);
         }
-        StepKind::Fails(number) => {
-            states[row] = 64 * (number as u16) + layer as u16;
+        Err(refusal) => {
+            states[row] = 64 * u16::from(refusal.number()) + layer as u16;
         }
     }
 }
@@ -67,12 +71,12 @@ fn number_of(state: usize) -> u8
     ensures { result ≡ number_of state }
 {
     if state < MISSING_STATES {
-        return NOT_LISTED;
+        return Refusal::NotListed.number();
     }
     if state < TWIN_STATES {
-        return MISSING;
+        return Refusal::Missing.number();
     }
-    TWIN
+    Refusal::Twin.number()
 }
 
 fn sibling_at(start: u64, state: usize) -> u64
@@ -109,19 +113,13 @@ pub(crate) fn closed_state(state: usize) -> u16
 pub(crate) fn start_at(starts: &[u64], row: usize) -> u64
     ensures { result ≡ slice_index starts.now row }
 {
-    if row < starts.len() {
-        return starts[row];
-    }
-    0
+    starts.get(row).copied().unwrap_or(0)
 }
 
 pub(crate) fn state_at(states: &[u16], row: usize) -> usize
     ensures { result ≡ slice_index states.now row }
 {
-    if row < states.len() {
-        return states[row] as usize;
-    }
-    0
+    states.get(row).copied().unwrap_or(0) as usize
 }
 
 pub(crate) fn root_at(hashes: &[u8], row: usize) -> [u8; 32]
@@ -134,20 +132,17 @@ pub(crate) fn root_at(hashes: &[u8], row: usize) -> [u8; 32]
 }
 
 // Where a row has come to.
-pub(crate) fn row_end(starts: &[u64], states: &[u16], hashes: &[u8], row: usize) -> Climbed
+pub(crate) fn row_end(
+    starts: &[u64],
+    states: &[u16],
+    hashes: &[u8],
+    row: usize,
+) -> Result<[u8; 32], Rejection>
     ensures { result ≡ climbed_of (came_at starts.now states.now hashes.now row) }
 {
     let state = state_at(states, row);
     if state < 128 {
-        let root = root_at(hashes, row);
-        return Climbed {
-            end: End::Root,
-            root,
-        };
+        return Ok(root_at(hashes, row));
     }
-    let start = start_at(starts, row);
-    Climbed {
-        end: End::Stop(rejection_of(start, state)),
-        root: [0u8; 32],
-    }
+    Err(rejection_of(start_at(starts, row), state))
 }

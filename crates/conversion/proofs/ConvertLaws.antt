@@ -37,7 +37,7 @@ use Rattle.spv.specs.Readings.{tsc_target, tsc_reading, bump_reading}
 use Rattle.spv.proofs.ReadingsLaws.{tsc-read}
 use Rattle.spv.specs.Climb.{Sibling, sibling_position}
 use Rattle.spv.specs.Siblings.{written, level_siblings, node_siblings}
-use Rattle.spv.specs.declared.prove.Outcome.TheVariants.{Accepted}
+use Rattle.std.specs.Prelude.{Ok}
 use Rattle.spv.specs.declared.trace.Traced.{Traced}
 use Rattle.spv.specs.Trace.{as_carried, nodes_text, TRACE_ROOM, traced_of}
 use Rattle.spv.proofs.TraceLaws.{traced_accepted}
@@ -430,16 +430,16 @@ wrote_tsc p i h id root text {q} {r} {t} {u} a b c d e f =
     (wrote_then r id (root ++ (varint_bytes h ++ text)) c (wrote_then t root (varint_bytes h ++ text) d (wrote_then u (varint_bytes h) text e f))))
 
 -- what the code knows of an id's climb that was traced
-module _ (s id : List ℕ) (r : Traced) (e : r ≡ traced_of (prove (bump_reading s id))) (i h : ℕ) (f : r.proved.outcome ≡ Accepted i h) where
+module _ (s id : List ℕ) (r : Traced) (e : Ok r ≡ traced_of (prove (bump_reading s id))) where
   pub traced_room : r.size ≤ TRACE_ROOM
-  traced_room = (traced_accepted r (prove (bump_reading s id)) i h e f).6
+  traced_room = (traced_accepted r (prove (bump_reading s id)) e).6
 
   abbrev pub traced_text : List ℕ
-  traced_text = ID_AND_ROOT ∷ (varint_bytes i ++ (id ++ (r.proved.root ++ (varint_bytes h ++ take r.size r.nodes))))
+  traced_text = ID_AND_ROOT ∷ (varint_bytes r.proved.position ++ (id ++ (r.proved.root ++ (varint_bytes r.proved.layers ++ take r.size r.nodes))))
 
   text_traced : (p : Proof) × (prove (bump_reading s id) ≡ accepted p) × (tsc_bytes (id_tsc p) ≡ traced_text)
   text_traced =
-      let t = traced_accepted r (prove (bump_reading s id)) i h e f in
+      let t = traced_accepted r (prove (bump_reading s id)) e in
       let n = t.7 (trace_fits s id t.0 t.1) in
       (t.0, t.1, rw (t.3, traced_id t.0 t.1, t.2, t.4, ← n.1) at (to_text s id 0 t.0 t.1))
     where
@@ -452,11 +452,11 @@ module _ (s id : List ℕ) (r : Traced) (e : r ≡ traced_of (prove (bump_readin
   pub traced_writes : (room : ℕ) → length traced_text ≤ room → bump_to_tsc s id room ≡ accepted traced_text
   traced_writes room b = let t = text_traced in to_writes s id room t.0 t.1 (rw t.2 b) ∙ ap accepted t.2
 
-  pub traced_size : {a b : ℕ} → length id ≡ 32 → length r.proved.root ≡ 32 → r.size ≤ length r.nodes → a ≡ length (varint_bytes i) → b ≡ length (varint_bytes h) → a + b + 65 + r.size ≡ length traced_text
+  pub traced_size : {a b : ℕ} → length id ≡ 32 → length r.proved.root ≡ 32 → r.size ≤ length r.nodes → a ≡ length (varint_bytes r.proved.position) → b ≡ length (varint_bytes r.proved.layers) → a + b + 65 + r.size ≡ length traced_text
   traced_size x y z u v =
-      let a = length-append (varint_bytes i) (id ++ (r.proved.root ++ (varint_bytes h ++ take r.size r.nodes))) in
-      let b = length-append id (r.proved.root ++ (varint_bytes h ++ take r.size r.nodes)) in
-      let c = length-append r.proved.root (varint_bytes h ++ take r.size r.nodes) in
-      let d = length-append (varint_bytes h) (take r.size r.nodes) in
+      let a = length-append (varint_bytes r.proved.position) (id ++ (r.proved.root ++ (varint_bytes r.proved.layers ++ take r.size r.nodes))) in
+      let b = length-append id (r.proved.root ++ (varint_bytes r.proved.layers ++ take r.size r.nodes)) in
+      let c = length-append r.proved.root (varint_bytes r.proved.layers ++ take r.size r.nodes) in
+      let d = length-append (varint_bytes r.proved.layers) (take r.size r.nodes) in
       let l = length-take-le r.size r.nodes z in
       omega arith

@@ -1,4 +1,5 @@
 -- Hashes are 32 bytes, each below 256: those that stand in an input of bytes, and those that are worked out.
+use Rattle.std.specs.Prelude.{Option, Some, None}
 use Prim.Native.Nat.{ℕ, zero, suc, ◌+◌, ◌-◌, ◌/◌}
 use mathlib.Core.Path.{◌≡◌, refl, subst}
 use mathlib.Core.Bool.{Bool, true, false, ◌&&◌, false≢true, ◌||◌}
@@ -11,9 +12,6 @@ use Rattle.hash.proofs.Sha256Laws.{sha256d-length, sha256d-bytes}
 use Rattle.format.specs.declared.leaf.Kind.{Kind}
 use Rattle.format.specs.declared.leaf.Kind.TheVariants.{Plain, Copy, Client}
 use Rattle.format.specs.declared.leaf.Leaf.{Leaf}
-use Rattle.path.specs.declared.path.Found.{Found}
-use Rattle.path.specs.declared.path.Found.TheVariants.{Here, Missing}
-use Rattle.path.specs.declared.path.Start.TheVariants.{At}
 use Rattle.format.specs.Parse.{pick}
 use Rattle.format.proofs.BytesLaws.{same_eq, hash-at-length}
 use Rattle.path.specs.Search.{carries, least_offset}
@@ -66,10 +64,10 @@ written-fits s (Plain p) all = hash-fits s p all
 written-fits s Copy all = tt
 written-fits s (Client p) all = hash-fits s p all
 
-sibling-fits : (s : List ℕ) (found : Found) → AllBytes s → SiblingFit (sibling s found)
+sibling-fits : (s : List ℕ) (found : Option Kind) → AllBytes s → SiblingFit (sibling s found)
 unfolding sibling SiblingFit
-sibling-fits s (Here kind) all = written-fits s kind all
-sibling-fits s Missing all = tt
+sibling-fits s (Some kind) all = written-fits s kind all
+sibling-fits s None all = tt
 
 -- whatever is worked out of such hashes is one
 module _ (w : Siblings) (fits : (k q : ℕ) → SiblingFit (w k q)) where
@@ -128,7 +126,7 @@ carried-fits s id o (leaf ∷ l) all e = go (eqb leaf.offset o) (carries s id le
     go true false q f r = r f
     go false y q f r = r f
 
-pub start_fits : (s id : List ℕ) (l : List Leaf) (i : ℕ) → AllBytes s → least_offset s id l ≡ At i → HashFit id
+pub start_fits : (s id : List ℕ) (l : List Leaf) (i : ℕ) → AllBytes s → least_offset s id l ≡ Some i → HashFit id
 unfolding Least
 start_fits s id l i all e = carried-fits s id i l all (subst (Least s id l) e (least-is s id l)).0
 

@@ -1,4 +1,5 @@
 -- Laws of the siblings that a climb takes, in a BUMP and in a TSC proof: which they are, how many and how long.
+use Rattle.std.specs.Prelude.{Option, Some, None}
 use Prim.Native.Nat.{ℕ, zero, suc, ◌+◌, ◌*◌, ◌/◌, ◌≤◌, ◌<◌, suc-le-suc}
 use mathlib.Core.Path.{◌≡◌, refl, sym, ap, ap₂, ◌∙◌, subst}
 use mathlib.Core.List.{List, [], ◌∷◌, map}
@@ -7,8 +8,6 @@ use native.Mathlib.Omega.{arith}
 use native.Mathlib.Nat.{add-zero, zero-lt-suc}
 use Rattle.format.specs.declared.leaf.Kind.{Kind}
 use Rattle.format.specs.declared.leaf.Kind.TheVariants.{Copy}
-use Rattle.path.specs.declared.path.Start.{Start}
-use Rattle.path.specs.declared.path.Start.TheVariants.{At, Nowhere}
 use Rattle.format.specs.Parse.{ok}
 use Rattle.format.specs.Refusals.{MAX_HEIGHT}
 use Rattle.path.specs.Search.{least_offset}
@@ -37,7 +36,7 @@ pub record BumpClimb (s id : List ℕ) (p : Proof) : Type 0 where
   pub end : ℕ
   pub parsed : bump_whole s ≡ ok bump end
   pub start : ℕ
-  pub starts : least_offset s id (get_or bump.levels 0 []) ≡ At start
+  pub starts : least_offset s id (get_or bump.levels 0 []) ≡ Some start
   pub climbs : prove (read (level_siblings s bump.levels) bump.height start id any) ≡ accepted p
 
 pub bump_climb : (s id : List ℕ) (p : Proof) → prove (bump_reading s id) ≡ accepted p → BumpClimb s id p
@@ -46,10 +45,10 @@ bump_climb s id p e =
     let r = read-proved (bump_whole s) (λ b. levels_reading s b.height b.levels id) p e in
     go r.0 r.1 r.2 (least_offset s id (get_or r.0.levels 0 [])) refl r.3
   where
-    go : (b : Bump) (q : ℕ) → bump_whole s ≡ ok b q → (x : Start) → least_offset s id (get_or b.levels 0 []) ≡ x
+    go : (b : Bump) (q : ℕ) → bump_whole s ≡ ok b q → (x : Option ℕ) → least_offset s id (get_or b.levels 0 []) ≡ x
         → prove (starting (level_siblings s b.levels) b.height id x) ≡ accepted p → BumpClimb s id p
-    go b q w (At i) l f = record { bump = b; end = q; parsed = w; start = i; starts = l; climbs = f }
-    go b q w Nowhere l f = let z : ◌≡◌ {A = ℕ} 0 1 = cc in absurd (omega arith)
+    go b q w (Some i) l f = record { bump = b; end = q; parsed = w; start = i; starts = l; climbs = f }
+    go b q w None l f = let z : ◌≡◌ {A = ℕ} 0 1 = cc in absurd (omega arith)
 
 -- ---- the siblings taken
 

@@ -2,14 +2,13 @@
 use mathlib.Core.Path.{◌≡◌, refl, sym, ap, ◌∙◌, subst}
 use mathlib.Core.Bool.{Bool, true, false}
 use mathlib.Core.List.{List, [], map}
-use mathlib.Core.Option.{some}
+use Rattle.std.specs.Prelude.{Option, Some}
 use Prim.Native.Nat.{ℕ, ◌^◌, ◌/◌, ◌≤◌, ◌<◌}
 use lib.ListN.{length, get_or, length-map, get_or-map}
 use lib.Dec.{eqb}
 use native.Mathlib.Omega.{arith}
 use native.Mathlib.Nat.{zero-add}
 use borrow.Author.Tests.{ltb-true, eqb-false}
-use Rattle.path.specs.declared.path.Start.{Start}
 use Rattle.format.specs.Parse.{Parse, pick, ok, fault}
 use Rattle.format.specs.Refusals.{MAX_BLOCK, MAX_HEIGHT, BAD_HEIGHT}
 use Rattle.path.specs.Search.{lookup}
@@ -51,9 +50,9 @@ pub record OneClient (block : ℕ) (p : Proof) (s : List ℕ) : Type 0 where
   pub of_block : bump.block ≡ block
   pub of_layers : bump.height ≡ p.layers
   pub rises : (k : ℕ) → Rising (get_or bump.levels k [])
-  pub its_client : found_as s (lookup p.position (get_or bump.levels 0 [])) ≡ some (client p.id)
-  pub no_other : (k o : ℕ) (h : List ℕ) → found_as s (lookup o (get_or bump.levels k [])) ≡ some (client h) → (k ≡ 0) × (o ≡ p.position) × (h ≡ p.id)
-  pub siblings : (k : ℕ) → k < p.layers → found_as s (lookup (sibling_position (p.position / 2 ^ k)) (get_or bump.levels k [])) ≡ some (as_carried (get_or p.siblings k absent))
+  pub its_client : found_as s (lookup p.position (get_or bump.levels 0 [])) ≡ Some (client p.id)
+  pub no_other : (k o : ℕ) (h : List ℕ) → found_as s (lookup o (get_or bump.levels k [])) ≡ Some (client h) → (k ≡ 0) × (o ≡ p.position) × (h ≡ p.id)
+  pub siblings : (k : ℕ) → k < p.layers → found_as s (lookup (sibling_position (p.position / 2 ^ k)) (get_or bump.levels k [])) ≡ Some (as_carried (get_or p.siblings k absent))
   pub no_surplus : (k : ℕ) → k < p.layers → length (get_or bump.levels k []) ≡ pick (eqb k 0) 2 1
 
 -- ---- the BUMP of a climb to a root, of any form whose hashes have 32 bytes
@@ -100,7 +99,7 @@ module _ (σ : Siblings) (h i : ℕ) (c r : List ℕ) (end : end_of c (ascend σ
     leaf_back : (k o : ℕ) → found_as s (lookup o (get_or bump.levels k [])) ≡ at_offset o (get_or (client_levels i c steps) k [])
     leaf_back k o = found-says s o (get_or bump.levels k []) ∙ ap (at_offset o) (level_back k)
 
-    sibling_back : (k : ℕ) → k < h → found_as s (lookup (sibling_position (i / 2 ^ k)) (get_or bump.levels k [])) ≡ some (as_carried (get_or steps k absent))
+    sibling_back : (k : ℕ) → k < h → found_as s (lookup (sibling_position (i / 2 ^ k)) (get_or bump.levels k [])) ≡ Some (as_carried (get_or steps k absent))
     sibling_back k b = leaf_back k (sibling_position (i / 2 ^ k)) ∙ sibling-there i c steps k (rw steps_count b)
 
     -- the climb takes what it took before
@@ -118,7 +117,7 @@ module _ (σ : Siblings) (h i : ℕ) (c r : List ℕ) (end : end_of c (ascend σ
     back_proves =
         let τ : Siblings = level_siblings s bump.levels in
         ap prove (bump-read s c bump stop whole)
-        ∙ ap (λ (x : Start). prove (starting τ bump.height c x)) (starts_client s c r (get_or bump.levels 0 []) σ h i layered end (level_back 0))
+        ∙ ap (λ (x : Option ℕ). prove (starting τ bump.height c x)) (starts_client s c r (get_or bump.levels 0 []) σ h i layered end (level_back 0))
         ∙ ap (λ (n : ℕ). prove (read τ n i c any)) height_back
         ∙ prove_climb τ σ h i c any (ascend-agree τ σ 0 h i c (λ k b. rw (zero-add k, sibling_positions_at h i k b) (agrees k b)))
         ∙ prove-root σ h i c any r end refl

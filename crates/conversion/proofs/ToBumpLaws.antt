@@ -2,7 +2,7 @@
 use mathlib.Core.Path.{◌≡◌, refl, sym, ap, ◌∙◌}
 use mathlib.Core.Bool.{Bool, true, false, ◌&&◌, true≢false, false≢true}
 use mathlib.Core.List.{List, [], ◌∷◌, ◌++◌, map}
-use mathlib.Core.Option.{none, some}
+use Rattle.std.specs.Prelude.{Option, Some, None}
 use Prim.Native.Nat.{ℕ, zero, suc, ◌+◌, ◌-◌, ◌^◌, ◌/◌, ◌%◌, ◌<◌}
 use lib.ListN.{length, get_or}
 use lib.Dec.{ltb, eqb}
@@ -15,8 +15,6 @@ use Rattle.hash.specs.Sha256.{sha256d}
 use Rattle.format.specs.declared.leaf.Kind.{Kind}
 use Rattle.format.specs.declared.leaf.Kind.TheVariants.{Copy}
 use Rattle.format.specs.declared.leaf.Leaf.{Leaf}
-use Rattle.path.specs.declared.path.Start.{Start}
-use Rattle.path.specs.declared.path.Start.TheVariants.{At, Nowhere}
 use Rattle.format.proofs.Basics.{and-false, or_true}
 use Rattle.format.specs.Bytes.{same}
 use Rattle.format.proofs.BytesLaws.{same_refl}
@@ -163,7 +161,7 @@ client-levels-length i id (p ∷ l) = ap suc (sibling-levels-length (i / 2) l)
 
 -- ---- what stands in the levels
 
-sibling-level-at : (j : ℕ) (l : List Sibling) (k : ℕ) → k < length l → at_offset (sibling_position (j / 2 ^ k)) (get_or (sibling_levels j l) k []) ≡ some (as_carried (get_or l k absent))
+sibling-level-at : (j : ℕ) (l : List Sibling) (k : ℕ) → k < length l → at_offset (sibling_position (j / 2 ^ k)) (get_or (sibling_levels j l) k []) ≡ Some (as_carried (get_or l k absent))
 unfolding sibling_levels sibling_entry
 sibling-level-at j [] k b = absurd (omega arith)
 sibling-level-at j (p ∷ l) zero b = at_first (sibling_entry j p) [] (sibling_position (j / 2 ^ 0)) (ap sibling_position (sym (div-one j)))
@@ -172,32 +170,32 @@ sibling-level-at j (p ∷ l) (suc k) b =
 
 -- the two leaves of level 0
 module _ (i : ℕ) (id : List ℕ) (p : Sibling) where
-  pub client-level-sibling : at_offset (sibling_position i) (client_level i id p) ≡ some (as_carried p)
+  pub client-level-sibling : at_offset (sibling_position i) (client_level i id p) ≡ Some (as_carried p)
   unfolding client_level client_entry sibling_entry
   client-level-sibling = go (eqb (i % 2) 1)
     where
-      go : (t : Bool) → at_offset (sibling_position i) (pick t (sibling_entry i p ∷ client_entry i id ∷ []) (client_entry i id ∷ sibling_entry i p ∷ [])) ≡ some (as_carried p)
+      go : (t : Bool) → at_offset (sibling_position i) (pick t (sibling_entry i p ∷ client_entry i id ∷ []) (client_entry i id ∷ sibling_entry i p ∷ [])) ≡ Some (as_carried p)
       go true = at_first (sibling_entry i p) (client_entry i id ∷ []) (sibling_position i) refl
       go false =
           at_later (client_entry i id) (sibling_entry i p ∷ []) (sibling_position i) (λ q. sibling_apart i (sym q))
           ∙ at_first (sibling_entry i p) [] (sibling_position i) refl
 
-  pub client-level-client : at_offset i (client_level i id p) ≡ some (client id)
+  pub client-level-client : at_offset i (client_level i id p) ≡ Some (client id)
   unfolding client_level client_entry sibling_entry
   client-level-client = go (eqb (i % 2) 1)
     where
-      go : (t : Bool) → at_offset i (pick t (sibling_entry i p ∷ client_entry i id ∷ []) (client_entry i id ∷ sibling_entry i p ∷ [])) ≡ some (client id)
+      go : (t : Bool) → at_offset i (pick t (sibling_entry i p ∷ client_entry i id ∷ []) (client_entry i id ∷ sibling_entry i p ∷ [])) ≡ Some (client id)
       go true =
           at_later (sibling_entry i p) (client_entry i id ∷ []) i (sibling_apart i)
           ∙ at_first (client_entry i id) [] i refl
       go false = at_first (client_entry i id) (sibling_entry i p ∷ []) i refl
 
   -- nothing stands elsewhere
-  pub client-level-none : (o : ℕ) → (o ≡ i → ⊥) → (o ≡ sibling_position i → ⊥) → at_offset o (client_level i id p) ≡ none
+  pub client-level-none : (o : ℕ) → (o ≡ i → ⊥) → (o ≡ sibling_position i → ⊥) → at_offset o (client_level i id p) ≡ None
   unfolding client_level client_entry sibling_entry
   client-level-none o a b = go (eqb (i % 2) 1)
     where
-      go : (t : Bool) → at_offset o (pick t (sibling_entry i p ∷ client_entry i id ∷ []) (client_entry i id ∷ sibling_entry i p ∷ [])) ≡ none
+      go : (t : Bool) → at_offset o (pick t (sibling_entry i p ∷ client_entry i id ∷ []) (client_entry i id ∷ sibling_entry i p ∷ [])) ≡ None
       go true =
           at_later (sibling_entry i p) (client_entry i id ∷ []) o (λ q. b (sym q))
           ∙ at_later (client_entry i id) [] o (λ q. a (sym q))
@@ -208,7 +206,7 @@ module _ (i : ℕ) (id : List ℕ) (p : Sibling) where
           ∙ at_none o
 
 -- beside each node of the climb stands the sibling that was taken there
-pub sibling-there : (i : ℕ) (id : List ℕ) (l : List Sibling) (k : ℕ) → k < length l → at_offset (sibling_position (i / 2 ^ k)) (get_or (client_levels i id l) k []) ≡ some (as_carried (get_or l k absent))
+pub sibling-there : (i : ℕ) (id : List ℕ) (l : List Sibling) (k : ℕ) → k < length l → at_offset (sibling_position (i / 2 ^ k)) (get_or (client_levels i id l) k []) ≡ Some (as_carried (get_or l k absent))
 unfolding client_levels
 sibling-there i id [] k b = absurd (omega arith)
 sibling-there i id (p ∷ l) zero b = rw (div-one i) (client-level-sibling i id p)
@@ -216,7 +214,7 @@ sibling-there i id (p ∷ l) (suc k) b =
     ap (λ (n : ℕ). at_offset (sibling_position n) (get_or (sibling_levels (i / 2) l) k [])) (sym (halves i k)) ∙ sibling-level-at (i / 2) l k (omega arith)
 
 -- and it is read as it was taken
-pub present_as : (p : Sibling) → Present p → as_sibling (some (as_carried p)) ≡ p
+pub present_as : (p : Sibling) → Present p → as_sibling (Some (as_carried p)) ≡ p
 unfolding as_sibling as_carried Present
 present_as (value h) a = refl
 present_as copied a = refl
@@ -277,16 +275,16 @@ client-levels_rise i id [] k = tt
 client-levels_rise i id (p ∷ l) zero = client-level-rises i id p
 client-levels_rise i id (p ∷ l) (suc k) = sibling-levels_rise (i / 2) l k
 
-sibling_no_client : (p : Sibling) (h : List ℕ) → some (as_carried p) ≡ some (client h) → ⊥
+sibling_no_client : (p : Sibling) (h : List ℕ) → Some (as_carried p) ≡ Some (client h) → ⊥
 unfolding as_carried
 sibling_no_client (value q) h e = let y : plain q ≡ client h = cc in let z : ◌≡◌ {A = ℕ} 0 1 = cc in omega arith
 sibling_no_client copied h e = let y : copy ≡ client h = cc in let z : ◌≡◌ {A = ℕ} 0 1 = cc in omega arith
 sibling_no_client absent h e = let y : copy ≡ client h = cc in let z : ◌≡◌ {A = ℕ} 0 1 = cc in omega arith
 
-nothing_no_client : (h : List ℕ) → none ≡ some (client h) → ⊥
+nothing_no_client : (h : List ℕ) → None ≡ Some (client h) → ⊥
 nothing_no_client h e = let z : ◌≡◌ {A = ℕ} 0 1 = cc in omega arith
 
-sibling-levels_no_client : (j : ℕ) (l : List Sibling) (k o : ℕ) (h : List ℕ) → at_offset o (get_or (sibling_levels j l) k []) ≡ some (client h) → ⊥
+sibling-levels_no_client : (j : ℕ) (l : List Sibling) (k o : ℕ) (h : List ℕ) → at_offset o (get_or (sibling_levels j l) k []) ≡ Some (client h) → ⊥
 unfolding sibling_levels sibling_entry
 sibling-levels_no_client j [] k o h e = nothing_no_client h (sym (at_none o) ∙ e)
 sibling-levels_no_client j (p ∷ l) zero o h e = go (eqb (sibling_position j) o) refl
@@ -296,24 +294,24 @@ sibling-levels_no_client j (p ∷ l) zero o h e = go (eqb (sibling_position j) o
     go false f = nothing_no_client h (sym (at_later (sibling_entry j p) [] o (eqb-false _ _ f) ∙ at_none o) ∙ e)
 sibling-levels_no_client j (p ∷ l) (suc k) o h e = sibling-levels_no_client (j / 2) l k o h e
 
-client-level-only : (i : ℕ) (id : List ℕ) (p : Sibling) (o : ℕ) (h : List ℕ) → at_offset o (client_level i id p) ≡ some (client h) → (o ≡ i) × (h ≡ id)
+client-level-only : (i : ℕ) (id : List ℕ) (p : Sibling) (o : ℕ) (h : List ℕ) → at_offset o (client_level i id p) ≡ Some (client h) → (o ≡ i) × (h ≡ id)
 client-level-only i id p o h e = go (eqb o i) refl (eqb o (sibling_position i)) refl
   where
     go : (t : Bool) → eqb o i ≡ t → (u : Bool) → eqb o (sibling_position i) ≡ u → (o ≡ i) × (h ≡ id)
     go true f u g =
         let d = eqb-true o i f in
-        let y : some (client id) ≡ some (client h) = sym (client-level-client i id p) ∙ (rw d at e) in
+        let y : Some (client id) ≡ Some (client h) = sym (client-level-client i id p) ∙ (rw d at e) in
         (d, cc)
     go false f true g = absurd (sibling_no_client p h (sym (client-level-sibling i id p) ∙ (rw (eqb-true o (sibling_position i) g) at e)))
     go false f false g = absurd (nothing_no_client h (sym (client-level-none i id p o (eqb-false _ _ f) (eqb-false _ _ g)) ∙ e))
 
-pub only-client : (i : ℕ) (id : List ℕ) (l : List Sibling) (k o : ℕ) (h : List ℕ) → at_offset o (get_or (client_levels i id l) k []) ≡ some (client h) → (k ≡ 0) × (o ≡ i) × (h ≡ id)
+pub only-client : (i : ℕ) (id : List ℕ) (l : List Sibling) (k o : ℕ) (h : List ℕ) → at_offset o (get_or (client_levels i id l) k []) ≡ Some (client h) → (k ≡ 0) × (o ≡ i) × (h ≡ id)
 unfolding client_levels
 only-client i id [] k o h e = absurd (nothing_no_client h (sym (at_none o) ∙ e))
 only-client i id (p ∷ l) zero o h e = let x = client-level-only i id p o h e in (refl, x.0, x.1)
 only-client i id (p ∷ l) (suc k) o h e = absurd (sibling-levels_no_client (i / 2) l k o h e)
 
-pub client-there : (i : ℕ) (id : List ℕ) (l : List Sibling) → 0 < length l → at_offset i (get_or (client_levels i id l) 0 []) ≡ some (client id)
+pub client-there : (i : ℕ) (id : List ℕ) (l : List Sibling) → 0 < length l → at_offset i (get_or (client_levels i id l) 0 []) ≡ Some (client id)
 unfolding client_levels
 client-there i id [] b = absurd (omega arith)
 client-there i id (p ∷ l) b = client-level-client i id p
@@ -321,7 +319,7 @@ client-there i id (p ∷ l) b = client-level-client i id p
 -- ---- where the id starts
 
 -- the least offset that carries an id
-pub starts_at : (s id : List ℕ) (l : List Leaf) (i : ℕ) → carried_at s id i l ≡ true → ((o : ℕ) → o < i → carried_at s id o l ≡ false) → least_offset s id l ≡ At i
+pub starts_at : (s id : List ℕ) (l : List Leaf) (i : ℕ) → carried_at s id i l ≡ true → ((o : ℕ) → o < i → carried_at s id o l ≡ false) → least_offset s id l ≡ Some i
 unfolding Least
 starts_at s id l i here before = go (least_offset s id l) (least-is s id l)
   where
@@ -330,9 +328,9 @@ starts_at s id l i here before = go (least_offset s id l) (least-is s id l)
     at j there first false p true q = absurd (true≢false (sym there ∙ before j (ltb-true j i q)))
     at j there first false p false q = omega (arith, ltb-false i j p, ltb-false j i q)
 
-    go : (x : Start) → Least s id l x → x ≡ At i
-    go Nowhere f = absurd (true≢false (sym here ∙ f i))
-    go (At j) f = ap At (at j f.0 f.1 (ltb i j) refl (ltb j i) refl)
+    go : (x : Option ℕ) → Least s id l x → x ≡ Some i
+    go None f = absurd (true≢false (sym here ∙ f i))
+    go (Some j) f = ap Some (at j f.0 f.1 (ltb i j) refl (ltb j i) refl)
 
 module _ (i : ℕ) (id : List ℕ) (p : Sibling) where
   client-carried : carried_in id i (client_level i id p) ≡ true
@@ -362,7 +360,7 @@ first_step copied o c a b e t = refl
 first_step absent o c a b e t = refl
 
 pub starts_client : (s c r : List ℕ) (l : List Leaf) (σ : Siblings) (h i : ℕ) → 0 < h → end_of c (ascend σ 0 h i c) ≡ accepted r
-    → map (entry_of s) l ≡ get_or (client_levels i c (taken σ 0 h i)) 0 [] → least_offset s c l ≡ At i
+    → map (entry_of s) l ≡ get_or (client_levels i c (taken σ 0 h i)) 0 [] → least_offset s c l ≡ Some i
 unfolding client_levels taken
 starts_client s c r l σ zero i b e is = absurd (omega arith)
 starts_client s c r l σ (suc n) i b e is =

@@ -11,11 +11,9 @@ ghost use Rattle.block.specs.Output.{output_after, written_of};
 ghost use Rattle.conversion.specs.Convert.{client_entry, client_level, node_count_at, sibling_entry, tsc_to_bump};
 ghost use Rattle.conversion.specs.ConvertText.{client_levels_at, levels_at, Proved};
 
-use block::{Written, refuse};
 use encoding::buffer::{put, varint_size, write, write_varint};
-use format::refusal::{BAD_HEIGHT, NO_ROOM, ReadRefusal};
-use format::{Cursor, Kind, KindAnswer, TscAnswer, TscHead, read_node};
-use spv::Outcome;
+use format::{Cursor, Kind, ReadRefusal, Refusal, TscHead, read_node};
+use spv::Rejection;
 
 // A flags byte with the 32 bytes at a place.
 fn write_hash(s: &[u8], place: usize, out: &mut [u8], at: usize) -> usize
@@ -31,8 +29,7 @@ fn write_node(s: &[u8], kind: Kind, out: &mut [u8], at: usize) -> usize
     ensures { buffer out.new result ≡ write_on (buffer out.old at) (carried_bytes (as_carried (written s.now kind))) }
 {
     match kind {
-        Kind::Plain(place) => write_hash(s, place, out, at),
-        Kind::Client(place) => write_hash(s, place, out, at),
+        Kind::Plain(place) | Kind::Client(place) => write_hash(s, place, out, at),
         Kind::Copy => put(out, at, 1),
     }
 }
@@ -41,8 +38,7 @@ fn node_size(kind: Kind) -> usize
     ensures { ((s : List ℕ) → result ≡ length (carried_bytes (as_carried (written s kind)))) × (result ≤ 33) }
 {
     match kind {
-        Kind::Plain(_) => 33,
-        Kind::Client(_) => 33,
+        Kind::Plain(_) | Kind::Client(_) => 33,
         Kind::Copy => 1,
     }
 }
@@ -90,17 +86,14 @@ fn write_levels(s: &[u8], c: Cursor, n: u64, i: u64, out: &mut [u8], at: usize) 
     let mut next = at;
     let mut place = c;
     let mut j = i;
-    let mut k: u64 = 0;
-    while k < n {
-        let field = read_node(s, place);
-        let KindAnswer::Value(kind, after) = field else {
+    for _ in 0..n {
+        let Ok((kind, after)) = read_node(s, place) else {
             return next;
         };
         next = put(out, next, 1);
         next = write_sibling(s, kind, j, out, next);
         place = after;
         j /= 2;
-        k += 1;
     }
     next
 }
@@ -113,16 +106,13 @@ fn levels_size(s: &[u8], c: Cursor, n: u64, i: u64) -> usize
     let mut size: usize = 0;
     let mut place = c;
     let mut j = i;
-    let mut k: u64 = 0;
-    while k < n {
-        let field = read_node(s, place);
-        let KindAnswer::Value(kind, after) = field else {
+    for _ in 0..n {
+        let Ok((kind, after)) = read_node(s, place) else {
             return size;
         };
         size += 1 + varint_size(spv::sibling_position(j)) + node_size(kind);
         place = after;
         j /= 2;
-        k += 1;
     }
     size
 }
@@ -140,8 +130,7 @@ fn write_client_levels(
     requires { 0 < n }
     ensures { buffer out.new result ≡ write_on (buffer out.old at) (encode_all level_bytes (client_levels_at s.now n c.at i id)) }
 {
-    let field = read_node(s, c);
-    let KindAnswer::Value(kind, after) = field else {
+    let Ok((kind, after)) = read_node(s, c) else {
         return at;
     };
     let next = write_client_level(s, kind, i, id, out, at);
@@ -152,8 +141,7 @@ fn client_levels_size(s: &[u8], c: Cursor, n: u64, i: u64) -> usize
     requires { (0 < n) × (n ≤ 64) }
     ensures { ((id : List ℕ) → length id ≡ 32 → result ≡ length (encode_all level_bytes (client_levels_at s.now n c.at i id))) × (result ≤ 2838) }
 {
-    let field = read_node(s, c);
-    let KindAnswer::Value(kind, after) = field else {
+    let Ok((kind, after)) = read_node(s, c) else {
         return 0;
     };
     let client = varint_size(i) + 33;
@@ -174,7 +162,13 @@ fn node_count_at(head: TscHead) -> usize
 }
 
 // The BUMP of a TSC proof that was read and proved.
-fn write_proved(s: &[u8], head: TscHead, id: [u8; 32], block: u32, out: &mut [u8]) -> Written
+fn write_proved(
+    s: &[u8],
+    head: TscHead,
+    id: [u8; 32],
+    block: u32,
+    out: &mut [u8],
+) -> Result<usize, Rejection>
     requires { Proved s.now head id }
     ensures { (result ≡ written_of (tsc_to_bump s.now block (length out.old)))
         × (out.new ≡ output_after (tsc_to_bump s.now block (length out.old)) out.old) }
@@ -183,39 +177,27 @@ fn write_proved(s: &[u8], head: TscHead, id: [u8; 32], block: u32, out: &mut [u8
     let at = head.nodes_at;
     let i = head.index;
     if n == 0 {
-        let place = node_count_at(head);
-        return refuse(spv::reject_reading(ReadRefusal {
-            number: BAD_HEIGHT,
-            place,
+        return Err(spv::reject_reading(ReadRefusal {
+            refusal: Refusal::BadHeight,
+            place: node_count_at(head),
         }));
     }
     let size = varint_size(block as u64) + 1 + client_levels_size(s, at, n, i);
     if out.len() < size {
-        return refuse(spv::reject(NO_ROOM));
+        return Err(spv::reject(Refusal::NoRoom));
     }
     let mut next = write_varint(out, 0, block as u64);
     next = put(out, next, n as u8);
     next = write_client_levels(s, at, n, i, id, out, next);
-    Written::Bytes(next)
+    Ok(next)
 }
 
 // A BUMP with one client leaf from a TSC proof, at a block height.
-pub fn tsc_to_bump(s: &[u8], block: u32, out: &mut [u8]) -> Written
+pub fn tsc_to_bump(s: &[u8], block: u32, out: &mut [u8]) -> Result<usize, Rejection>
     ensures { (result ≡ written_of (tsc_to_bump s.now block (length out.old)))
         × (out.new ≡ output_after (tsc_to_bump s.now block (length out.old)) out.old) }
 {
-    let answer = format::read_tsc(s);
-    let TscAnswer::Value(head, _) = answer else {
-        return refuse(spv::reject_reading(answer.refusal()));
-    };
-    let proved = spv::prove_tsc(s);
-    let outcome = proved.outcome;
-    let id = proved.id;
-    match outcome {
-        Outcome::Refused(rejection) => refuse(rejection),
-        Outcome::Accepted {
-            position: _,
-            layers: _,
-        } => write_proved(s, head, id, block, out),
-    }
+    let (head, _) = format::read_tsc(s)?;
+    let spv::Proved { id, .. } = spv::prove_tsc(s)?;
+    write_proved(s, head, id, block, out)
 }

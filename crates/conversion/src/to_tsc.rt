@@ -6,10 +6,9 @@ ghost use Rattle.encoding.specs.TscBytes.{ID_AND_ROOT};
 ghost use Rattle.block.specs.Output.{output_after, written_of};
 ghost use Rattle.conversion.specs.Convert.{bump_to_tsc};
 
-use block::{Written, refuse};
 use encoding::buffer::{put, varint_size, write, write_varint};
-use format::refusal::NO_ROOM;
-use spv::Outcome;
+use format::Refusal;
+use spv::{Proved, Rejection, Traced};
 
 // Flags of a TSC proof that holds an id, and a root for its target.
 const ID_AND_ROOT: u8 = 4;
@@ -36,26 +35,25 @@ fn write_parts(
 }
 
 // A TSC proof with id and root target from one id's climb in a BUMP.
-pub fn bump_to_tsc(s: &[u8], id: [u8; 32], out: &mut [u8]) -> Written
+pub fn bump_to_tsc(s: &[u8], id: [u8; 32], out: &mut [u8]) -> Result<usize, Rejection>
     ensures { (result ≡ written_of (bump_to_tsc s.now id (length out.old)))
         × (out.new ≡ output_after (bump_to_tsc s.now id (length out.old)) out.old) }
 {
-    let traced = spv::trace_bump(s, id);
-    let proved = traced.proved;
-    let nodes = traced.nodes;
-    let size = traced.size;
-    let outcome = proved.outcome;
-    let root = proved.root;
-    match outcome {
-        Outcome::Refused(rejection) => refuse(rejection),
-        Outcome::Accepted { position, layers } => {
-            let h = layers as u64;
-            let needed = varint_size(position) + varint_size(h) + 65 + size;
-            if out.len() < needed {
-                return refuse(spv::reject(NO_ROOM));
-            }
-            let next = write_parts(position, h, id, root, &nodes, size, out);
-            Written::Bytes(next)
-        }
+    let Traced {
+        proved,
+        nodes,
+        size,
+    } = spv::trace_bump(s, id)?;
+    let Proved {
+        position,
+        layers,
+        root,
+        ..
+    } = proved;
+    let layers = layers as u64;
+    let needed = varint_size(position) + varint_size(layers) + 65 + size;
+    if out.len() < needed {
+        return Err(spv::reject(Refusal::NoRoom));
     }
+    Ok(write_parts(position, layers, id, root, &nodes, size, out))
 }

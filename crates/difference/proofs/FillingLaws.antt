@@ -7,10 +7,10 @@ use lib.ListN.{length, set, drop, length-append}
 use lib.Seq.{set_at}
 use lib.Dec.{leb}
 use native.Mathlib.Omega.{arith}
-use borrow.Author.Tests.{le-leb, lt-leb, eq-eqb, ne_eqb, leb-true, leb-false}
+use borrow.Author.Tests.{le-leb, lt-leb, leb-true, leb-false}
 use Rattle.difference.specs.Differences.{first, second, both, Difference, block, height, Told, alike, differ, tell, unless}
 use Rattle.difference.specs.Listing.{side_word, what_of, level_of, offset_of, words_of}
-use Rattle.difference.specs.Filling.{Filling, filling, store, put_on, put_all, told_word, put_place, put_unless}
+use Rattle.difference.specs.Filling.{Filling, filling, store, put_on, put_all, told_of, put_place, put_unless}
 
 module _ (write : Bool) (w : List ℕ) (n what level offset : ℕ) where
   pub put_full : length w / 3 ≤ n → put_on write (filling w n) what level offset ≡ filling w (length w / 3 + 1)
@@ -25,29 +25,21 @@ module _ (write : Bool) (w : List ℕ) (n what level offset : ℕ) where
   unfolding put_on
   put_written h e = rw (lt-leb (length w / 3) n h, e)
 
-  pub place-alike : what ≡ 0 → put_place write (filling w n) what level offset ≡ filling w n
-  unfolding put_place
-  place-alike e = rw (eq-eqb what 0 e)
-
-  pub place-told : (what ≡ 0 → ⊥) → put_place write (filling w n) what level offset ≡ put_on write (filling w n) what level offset
-  unfolding put_place
-  place-told e = rw (ne_eqb what 0 e)
-
 -- a place's difference, if it has one, and those after it
-pub all_told : (write : Bool) (p : Filling) (k o : ℕ) (t : Told) (l : List Difference) → put_all write p (tell k o t l) ≡ put_all write (put_place write p (told_word t) k o) l
-unfolding put_all tell put_place told_word side_word what_of level_of offset_of
+pub all_told : (write : Bool) (p : Filling) (k o : ℕ) (t : Told) (l : List Difference) → put_all write p (tell k o t l) ≡ put_all write (put_place write p (told_of t) k o) l
+unfolding put_all tell side_word what_of level_of offset_of
 all_told write p k o alike l = refl
 all_told write p k o (differ first) l = refl
 all_told write p k o (differ second) l = refl
 all_told write p k o (differ both) l = refl
 
 pub all-block : (write : Bool) (p : Filling) (same : Bool) (l : List Difference) → put_all write p (unless same block ++ l) ≡ put_all write (put_unless same write p 1) l
-unfolding put_all unless put_unless what_of level_of offset_of
+unfolding put_all unless what_of level_of offset_of
 all-block write p true l = refl
 all-block write p false l = refl
 
 pub all-height : (write : Bool) (p : Filling) (same : Bool) (l : List Difference) → put_all write p (unless same height ++ l) ≡ put_all write (put_unless same write p 2) l
-unfolding put_all unless put_unless what_of level_of offset_of
+unfolding put_all unless what_of level_of offset_of
 all-height write p true l = refl
 all-height write p false l = refl
 

@@ -1,4 +1,5 @@
 -- Laws of the list: how it is refused, and that what the code counts and writes is the list.
+use Rattle.std.proofs.Common.{Ok}
 use mathlib.Core.Path.{◌≡◌, refl, ap, sym, ◌∙◌}
 use mathlib.Core.List.{List, ◌++◌}
 use mathlib.Core.Bool.{Bool, true, false}
@@ -10,12 +11,11 @@ use Rattle.format.specs.declared.refusal.ReadRefusal.{ReadRefusal}
 use Rattle.format.specs.declared.bump.BumpHead.{BumpHead}
 use Rattle.format.specs.Parse.{each, ok, fault}
 use Rattle.format.proofs.ParseLaws.{each-ok, each-fault}
-use Rattle.format.specs.Refusals.{NO_ROOM}
+use Rattle.format.specs.Refusals.{NO_ROOM, refusal_number}
 use Rattle.format.specs.Bump.{Bump, bump_whole, head_of}
 use Rattle.encoding.specs.BumpBytes.{content_of}
 use Rattle.spv.specs.declared.rejection.Rejection.{Rejection}
 use Rattle.spv.specs.Result.{Result, accepted, refused, carrying, refused_reading}
-use Rattle.difference.specs.declared.listing.Listed.{Listed}
 use Rattle.difference.specs.Differences.{Difference, differences}
 use Rattle.difference.specs.Listing.{words_of, fitting, list_differences, listed_of, words_in}
 use Rattle.difference.specs.Filling.{Filling, filling, put_all}
@@ -24,12 +24,12 @@ use Rattle.difference.specs.Merge.{walk_all}
 use Rattle.difference.proofs.WalkTheorem.{told-all}
 
 module _ (a b : List ℕ) (room : ℕ) where
-  pub first-unread : (f : ReadRefusal) → each head_of (bump_whole a) ≡ fault f.number f.place → refused (refused_reading f) ≡ list_differences a b room
+  pub first-unread : (f : ReadRefusal) → each head_of (bump_whole a) ≡ fault (refusal_number f.refusal) f.place → list_differences a b room ≡ refused (refused_reading f)
   unfolding list_differences
   first-unread f e = rw (each-fault head_of (bump_whole a) e) refl
 
-  pub second-unread : {x : BumpHead} {q : ℕ} (f : ReadRefusal) → each head_of (bump_whole a) ≡ ok x q → each head_of (bump_whole b) ≡ fault f.number f.place
-      → refused (refused_reading f) ≡ list_differences a b room
+  pub second-unread : {x : BumpHead} {q : ℕ} (f : ReadRefusal) → each head_of (bump_whole a) ≡ ok x q → each head_of (bump_whole b) ≡ fault (refusal_number f.refusal) f.place
+      → list_differences a b room ≡ refused (refused_reading f)
   unfolding list_differences
   second-unread f e g = rw ((each-ok head_of (bump_whole a) e).1, each-fault head_of (bump_whole b) g) refl
 
@@ -37,14 +37,10 @@ module _ (a b : List ℕ) (room : ℕ) where
   unfolding list_differences
   both_read e f = rw (e, f) refl
 
--- a refusal, as the code answers it and leaves the memory
-pub told-refused : (l : Result (List Difference)) (why why' : Rejection) → why' ≡ why → refused why ≡ l → Listed.Refused why' ≡ listed_of l
-unfolding listed_of
-told-refused l why why' e f = rw (← f) (ap Listed.Refused e)
-
-pub left-refused : (l : Result (List Difference)) (why : Rejection) (v w : List ℕ) → v ≡ w → refused why ≡ l → v ≡ words_in l w
+-- a refusal leaves the memory as it was
+pub left-refused : (l : Result (List Difference)) (why : Rejection) (v w : List ℕ) → v ≡ w → l ≡ refused why → v ≡ words_in l w
 unfolding words_in
-left-refused l why v w e f = rw (← f) e
+left-refused l why v w e f = rw f e
 
 module _ (a b w : List ℕ) (hx hy : BumpHead) {q r : ℕ} (e : each head_of (bump_whole a) ≡ ok hx q) (f : each head_of (bump_whole b) ≡ ok hy r)
     (v : List ℕ) (n : ℕ) (g : filling v n ≡ walk_all false a hx b hy (filling w 0)) where
@@ -76,11 +72,11 @@ module _ (a b w : List ℕ) (hx hy : BumpHead) {q r : ℕ} (e : each head_of (bu
   room-same : length v / 3 ≡ length w / 3
   room-same = ap (λ (u : List ℕ). length u / 3) as_before
 
-  pub listed_over : length v / 3 < n → refused (carrying NO_ROOM 0) ≡ list_differences a b (length w / 3)
+  pub listed_over : length v / 3 < n → list_differences a b (length w / 3) ≡ refused (carrying NO_ROOM 0)
   unfolding fitting
   listed_over h =
       let over : length w / 3 < length all = (let c = count in let d = room-same in omega (arith, c, d)) in
-      sym (both_read a b (length w / 3) first.1 second.1 ∙ rw (lt-leb (length all) (length w / 3) over) refl)
+      both_read a b (length w / 3) first.1 second.1 ∙ rw (lt-leb (length all) (length w / 3) over) refl
 
   module _ (h : n ≤ length v / 3) (u : List ℕ) (m : ℕ) (i : filling u m ≡ walk_all true a hx b hy (filling v 0)) where
     fits : length all ≤ length w / 3
@@ -94,9 +90,8 @@ module _ (a b w : List ℕ) (hx hy : BumpHead) {q r : ℕ} (e : each head_of (bu
     wrote : filling u m ≡ filling (words_of all ++ drop (3 * length all) w) (length all)
     wrote = i ∙ told true (filling v 0) ∙ ap (λ (x : List ℕ). put_all true (filling x 0) all) as_before ∙ written w all fits
 
-    pub listed-entries : Listed.Entries m ≡ listed_of (list_differences a b (length w / 3))
-    unfolding listed_of
-    listed-entries = ap (λ (p : Filling). Listed.Entries p.told) wrote ∙ sym (ap listed_of is)
+    pub listed-entries : Ok m ≡ listed_of (list_differences a b (length w / 3))
+    listed-entries = ap (λ (p : Filling). Ok p.told) wrote ∙ sym (ap listed_of is)
 
     pub listed-words : u ≡ words_in (list_differences a b (length w / 3)) w
     unfolding words_in

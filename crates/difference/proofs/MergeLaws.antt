@@ -1,28 +1,34 @@
 -- Laws of telling the differences of a level, one for each turn of a loop.
+use Rattle.std.proofs.Common.{Option, Some, None}
 use mathlib.Core.Path.{◌≡◌, refl, ap, sym, ◌∙◌}
 use mathlib.Core.List.{List, []}
 use mathlib.Core.Bool.{Bool, true, false}
-use Prim.Native.Nat.{ℕ, ◌+◌, ◌-◌, ◌<◌, ◌≤◌}
-use lib.Dec.{eqb}
+use Prim.Native.Nat.{ℕ, max, ◌+◌, ◌-◌, ◌<◌, ◌≤◌}
+use lib.Dec.{leb, eqb}
 use native.Mathlib.Omega.{arith}
-use borrow.Author.Tests.{le-leb, lt-leb}
+use borrow.Author.Tests.{le-leb, lt-leb, leb-true, leb-false}
 use Rattle.format.proofs.Basics.{one_less}
-use Rattle.format.specs.declared.leaf.Kind.{Kind}
-use Rattle.format.specs.declared.leaf.Kind.TheVariants.{Plain, Copy, Client}
+use Rattle.format.specs.Parse.{pick}
 use Rattle.format.specs.declared.bump.BumpHead.{BumpHead}
 use Rattle.format.specs.Refusals.{MAX_LEAVES}
-use Rattle.format.specs.Bytes.{same, hash_at}
-use Rattle.encoding.specs.BumpBytes.{Entry, carried_of}
-use Rattle.levels.specs.declared.level.Next.{Next}
-use Rattle.levels.specs.declared.level.Next.TheVariants.{Offset, End}
-use Rattle.difference.specs.Differences.{equal, told, tell, higher}
+use Rattle.encoding.specs.BumpBytes.{Entry}
+use Rattle.difference.specs.Differences.{told, tell, higher}
 use Rattle.levels.specs.Standing.{Standing}
-use Rattle.difference.specs.Filling.{Filling, put_all, told_word, put_place, put_unless}
+use Rattle.difference.specs.declared.listing.Differs.{Differs}
+use Rattle.difference.specs.Filling.{Filling, put_all, told_of, put_place, put_unless}
 use Rattle.difference.proofs.FillingLaws.{all_told}
 use Rattle.levels.specs.Places.{entries}
 use Rattle.difference.specs.Merge.{on_next, merged, walk, walk_all, Gathering, gathering, gather_level}
 use Rattle.levels.specs.Ordered.{ordered_in, next_in}
-use Rattle.levels.specs.Fronts.{next_of, lesser, front, past, flags_of, place_of}
+use Rattle.levels.specs.Fronts.{next_of, lesser, front, past}
+
+pub max_higher : (m n : ℕ) → max m n ≡ higher m n
+unfolding higher
+max_higher m n = go (leb m n) refl
+  where
+    go : (b : Bool) → leb m n ≡ b → max m n ≡ pick b n m
+    go true e = let h = leb-true m n e in omega arith
+    go false e = let h = leb-false m n e in omega arith
 
 module _ (write : Bool) (p : Filling) (n i k : ℕ) (x y : List Entry) where
   pub merge-end : n ≤ i → put_all write p (merged (n - i) k x y) ≡ p
@@ -30,21 +36,21 @@ module _ (write : Bool) (p : Filling) (n i k : ℕ) (x y : List Entry) where
   merge-end h = let e : n - i ≡ 0 = omega arith in rw e
 
   module _ (h : i < n) where
-    turn : (a : Next) → lesser (next_of x) (next_of y) ≡ a
+    turn : (a : Option ℕ) → lesser (next_of x) (next_of y) ≡ a
         → merged (n - i) k x y ≡ on_next a (λ o. tell k o (told (front o x) (front o y)) (merged (n - (i + 1)) k (past o x) (past o y)))
     unfolding merged
     turn a e = rw (one_less n i h, e) refl
 
-    pub merge-stop : lesser (next_of x) (next_of y) ≡ End → put_all write p (merged (n - i) k x y) ≡ p
+    pub merge-stop : lesser (next_of x) (next_of y) ≡ None → put_all write p (merged (n - i) k x y) ≡ p
     unfolding put_all
-    merge-stop e = ap (put_all write p) (turn End e)
+    merge-stop e = ap (put_all write p) (turn None e)
 
-    pub merge_on : {o what : ℕ} {p' : Filling} {x' y' : List Entry} → lesser (next_of x) (next_of y) ≡ Offset o → what ≡ told_word (told (front o x) (front o y))
+    pub merge_on : {o : ℕ} {what : Option Differs} {p' : Filling} {x' y' : List Entry} → lesser (next_of x) (next_of y) ≡ Some o → what ≡ told_of (told (front o x) (front o y))
         → p' ≡ put_place write p what k o → x' ≡ past o x → y' ≡ past o y → put_all write p (merged (n - i) k x y) ≡ put_all write p' (merged (n - (i + 1)) k x' y')
     merge_on {o} {what} {p'} {x'} {y'} e f g a b =
-        ap (put_all write p) (turn (Offset o) e)
+        ap (put_all write p) (turn (Some o) e)
         ∙ all_told write p k o (told (front o x) (front o y)) (merged (n - (i + 1)) k (past o x) (past o y))
-        ∙ ap (λ (v : ℕ). put_all write (put_place write p v k o) (merged (n - (i + 1)) k (past o x) (past o y))) (sym f)
+        ∙ ap (λ (v : Option Differs). put_all write (put_place write p v k o) (merged (n - (i + 1)) k (past o x) (past o y))) (sym f)
         ∙ ap (λ (q : Filling). put_all write q (merged (n - (i + 1)) k (past o x) (past o y))) (sym g)
         ∙ ap (λ (v : List Entry). put_all write p' (merged (n - (i + 1)) k v (past o y))) (sym a)
         ∙ ap (λ (v : List Entry). put_all write p' (merged (n - (i + 1)) k x' v)) (sym b)
@@ -80,8 +86,8 @@ module _ (write : Bool) (s : List ℕ) (hx rx : ℕ) (t : List ℕ) (hy ry h k c
       ∙ ap (λ (v : Gathering). after (gathering a c') v) n
       ∙ ap (walk write s hx rx t hy ry (h - (k + 1)) (k + 1) c' d') (sym j)
 
-pub told-there : (x y : List Entry) (o : ℕ) {f g : Standing} {what : ℕ} → f ≡ front o x → g ≡ front o y → what ≡ told_word (told f g) → what ≡ told_word (told (front o x) (front o y))
-told-there x y o {f} {g} e h i = i ∙ ap (λ (v : Standing). told_word (told v g)) e ∙ ap (λ (v : Standing). told_word (told (front o x) v)) h
+pub told-there : (x y : List Entry) (o : ℕ) {f g : Standing} {what : Option Differs} → f ≡ front o x → g ≡ front o y → what ≡ told_of (told f g) → what ≡ told_of (told (front o x) (front o y))
+told-there x y o {f} {g} e h i = i ∙ ap (λ (v : Standing). told_of (told v g)) e ∙ ap (λ (v : Standing). told_of (told (front o x) v)) h
 
 -- the two heights, then the levels, as code tells them one after the other
 pub walked : (write : Bool) (s : List ℕ) (x : BumpHead) (t : List ℕ) (y : BumpHead) (p : Filling) {p₁ p₂ p₃ : Filling} (rx ry : ℕ) → rx ≡ MAX_LEAVES → ry ≡ MAX_LEAVES
@@ -95,35 +101,3 @@ walked write s x t y p {p₁} {p₂} {p₃} rx ry a b c d e =
     ∙ ap (λ (r : ℕ). walk write s x.height MAX_LEAVES t y.height r (higher x.height y.height) 0 x.levels.at y.levels.at p₂) b
     ∙ ap above d
     ∙ ap (λ (q : Filling). above (put_unless (eqb x.height y.height) write q 2)) c
-
--- two leaves differ in flags, are copies, or are compared by their hashes
-module _ (s t : List ℕ) where
-  pub flags-differ : (x y : Kind) → (flags_of x ≡ flags_of y → ⊥) → false ≡ equal (carried_of s x) (carried_of t y)
-  unfolding flags_of equal carried_of
-  flags-differ (Plain p) (Plain q) h = absurd (h refl)
-  flags-differ (Plain p) Copy h = refl
-  flags-differ (Plain p) (Client q) h = refl
-  flags-differ Copy (Plain q) h = refl
-  flags-differ Copy Copy h = absurd (h refl)
-  flags-differ Copy (Client q) h = refl
-  flags-differ (Client p) (Plain q) h = refl
-  flags-differ (Client p) Copy h = refl
-  flags-differ (Client p) (Client q) h = absurd (h refl)
-
-  pub both_copies : (x y : Kind) → flags_of x ≡ flags_of y → flags_of x ≡ 1 → true ≡ equal (carried_of s x) (carried_of t y)
-  unfolding flags_of equal carried_of
-  both_copies (Plain p) y e f = absurd (omega arith)
-  both_copies Copy (Plain q) e f = absurd (omega arith)
-  both_copies Copy Copy e f = refl
-  both_copies Copy (Client q) e f = absurd (omega arith)
-  both_copies (Client p) y e f = absurd (omega arith)
-
-  pub by_hash : (x y : Kind) → flags_of x ≡ flags_of y → (flags_of x ≡ 1 → ⊥) → same (hash_at s (place_of x)) (hash_at t (place_of y)) ≡ equal (carried_of s x) (carried_of t y)
-  unfolding flags_of place_of equal carried_of
-  by_hash (Plain p) (Plain q) e f = refl
-  by_hash (Plain p) Copy e f = absurd (omega arith)
-  by_hash (Plain p) (Client q) e f = absurd (omega arith)
-  by_hash Copy y e f = absurd (f refl)
-  by_hash (Client p) (Plain q) e f = absurd (omega arith)
-  by_hash (Client p) Copy e f = absurd (omega arith)
-  by_hash (Client p) (Client q) e f = refl

@@ -1,11 +1,11 @@
 -- Told from the least offset up, the differences of two levels in order are those of the definition.
+use Rattle.std.proofs.Common.{Some}
 use mathlib.Core.Path.{◌≡◌, refl, ap, sym, ◌∙◌}
 use mathlib.Core.List.{List, []}
 use Prim.Native.Nat.{ℕ, zero, suc, ◌+◌, ◌≤◌}
 use lib.ListN.{length}
 use native.Mathlib.Omega.{arith}
 use Rattle.encoding.specs.BumpBytes.{Entry}
-use Rattle.levels.specs.declared.level.Next.TheVariants.{Offset}
 use Rattle.difference.specs.Differences.{told, tell, offsets_from}
 use Rattle.levels.specs.Standing.{Standing, nothing, standing_in}
 use Rattle.levels.proofs.InOrder.{From, Under, InOrder, under_weaken, standing-below}
@@ -29,7 +29,7 @@ module _ (k : ℕ) where
   empty zero = refl
   empty (suc n) = refl
 
-  merged-here : (n o : ℕ) (x y : List Entry) → lesser (next_of x) (next_of y) ≡ Offset o → merged (suc n) k x y ≡ tell k o (told (front o x) (front o y)) (merged n k (past o x) (past o y))
+  merged-here : (n o : ℕ) (x y : List Entry) → lesser (next_of x) (next_of y) ≡ Some o → merged (suc n) k x y ≡ tell k o (told (front o x) (front o y)) (merged n k (past o x) (past o y))
   unfolding merged
   merged-here n o x y e = rw e refl
 

@@ -1,6 +1,6 @@
 -- Laws of `shorter`, one for each answer.
 use Prim.Native.Nat.{ℕ, ◌≤◌, ◌<◌}
-use mathlib.Core.Path.{◌≡◌, refl, ap, sym, ◌∙◌}
+use mathlib.Core.Path.{◌≡◌, refl}
 use mathlib.Core.List.{List, [], ◌∷◌}
 use mathlib.Core.Bool.{Bool, true, false}
 use lib.ListN.{length}
@@ -15,50 +15,27 @@ use Rattle.format.specs.Refusals.{UNLIKE}
 use Rattle.spv.specs.Result.{Result, accepted, refused, carrying, follow}
 use Rattle.spv.specs.Prove.{Proof, prove_by, prove}
 use Rattle.spv.specs.Readings.{bump_reading, bump_reading_up_to}
-use Rattle.spv.specs.Shapes.{proved_of, accepted_of}
-use Rattle.spv.specs.declared.prove.Outcome.TheVariants.{Accepted, Refused}
-use Rattle.spv.specs.declared.prove.Proved.{Proved}
 use Rattle.spv.specs.declared.rejection.Rejection.{Rejection}
 use Rattle.difference.specs.Shorter.{Choice, first, second, shorter_of, settled, shorter}
 
--- what a proof's answer says of its result
-module _ (r : Proved) where
-  says-refused : (v : Result Proof) (why : Rejection) → r ≡ proved_of v → r.outcome ≡ Refused why → v ≡ refused why
-  unfolding proved_of accepted_of
-  says-refused (refused other) why e g = let h : Refused other ≡ Refused why = sym (ap (λ (x : Proved). x.outcome) e) ∙ g in let i : other ≡ why = cc in ap refused i
-  says-refused (accepted x) why e g = let z : ◌≡◌ {A = ℕ} 0 1 = cc in absurd (omega arith)
-
-  says-proved : (v : Result Proof) (i h : ℕ) → r ≡ proved_of v → r.outcome ≡ Accepted i h → (x : Proof) × (v ≡ accepted x) × (x.root ≡ r.root)
-  unfolding proved_of accepted_of
-  says-proved (refused other) i h e g = let z : ◌≡◌ {A = ℕ} 0 1 = cc in absurd (omega arith)
-  says-proved (accepted x) i h e g = (x, refl, sym (ap (λ (y : Proved). y.root) e))
-
-module _ (a b id : List ℕ) (p : Proved) (pe : p ≡ proved_of (prove (bump_reading a id))) where
-  pub first-refused : (why : Rejection) → p.outcome ≡ Refused why → refused why ≡ shorter a b id
+module _ (a b id : List ℕ) where
+  pub first-refused : (why : Rejection) → prove (bump_reading a id) ≡ refused why → refused why ≡ shorter a b id
   unfolding shorter
-  first-refused why g = let x = says-refused p _ why pe g in rw x refl
+  first-refused why e = rw e refl
 
-  module _ (i h : ℕ) (pa : p.outcome ≡ Accepted i h) (q : Proved) (qe : q ≡ proved_of (prove (bump_reading b id))) where
-    pub second-refused : (why : Rejection) → q.outcome ≡ Refused why → refused why ≡ shorter a b id
+  module _ {x : Proof} (e : prove (bump_reading a id) ≡ accepted x) where
+    pub second-refused : (why : Rejection) → prove (bump_reading b id) ≡ refused why → refused why ≡ shorter a b id
     unfolding shorter
-    second-refused why g =
-        let x = says-proved p _ i h pe pa in
-        let y = says-refused q _ why qe g in
-        rw (x.1, y) refl
+    second-refused why f = rw (e, f) refl
 
-    module _ (j l : ℕ) (qa : q.outcome ≡ Accepted j l) where
-      both-proved : shorter a b id ≡ pick (same p.root q.root) (accepted (shorter_of a b)) (refused (carrying UNLIKE 0))
+    module _ {y : Proof} (f : prove (bump_reading b id) ≡ accepted y) {r t : List ℕ} (d : x.root ≡ r) (c : y.root ≡ t) where
+      pub two_roots : same r t ≡ false → refused (carrying UNLIKE 0) ≡ shorter a b id
       unfolding shorter settled
-      both-proved =
-          let x = says-proved p _ i h pe pa in
-          let y = says-proved q _ j l qe qa in
-          rw (x.1, y.1, x.2, y.2) refl
+      two_roots g = rw (e, f, d, c, g) refl
 
-      pub two_roots : same p.root q.root ≡ false → refused (carrying UNLIKE 0) ≡ shorter a b id
-      two_roots e = sym (both-proved ∙ ap (λ (c : Bool). pick c (accepted (shorter_of a b)) (refused (carrying UNLIKE 0))) e)
-
-      pub one-root : same p.root q.root ≡ true → accepted (shorter_of a b) ≡ shorter a b id
-      one-root e = sym (both-proved ∙ ap (λ (c : Bool). pick c (accepted (shorter_of a b)) (refused (carrying UNLIKE 0))) e)
+      pub one-root : same r t ≡ true → accepted (shorter_of a b) ≡ shorter a b id
+      unfolding shorter settled
+      one-root g = rw (e, f, d, c, g) refl
 
 module _ (a b : List ℕ) where
   pub takes_first : length a ≤ length b → shorter_of a b ≡ first

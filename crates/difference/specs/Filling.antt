@@ -1,9 +1,11 @@
 -- The lent memory as it is filled: its words, and how many entries are told so far. The code goes through the differences twice, first
 -- only to count them.
-use Rattle.std.specs.Prelude.{List, [], ◌∷◌, Bool, ℕ, ◌+◌, ◌*◌, ◌/◌, length, set, leb, eqb}
+use Rattle.std.specs.Prelude.{List, [], ◌∷◌, Bool, ℕ, ◌+◌, ◌*◌, ◌/◌, length, set, leb, Option, Some, None}
 use Rattle.format.specs.Parse.{pick}
-use Rattle.difference.specs.Differences.{Difference, Told, alike, differ}
-use Rattle.difference.specs.Listing.{side_word, what_of, level_of, offset_of}
+use Rattle.difference.specs.Differences.{first, second, both, Difference, Told, alike, differ}
+use Rattle.difference.specs.Listing.{what_of, level_of, offset_of}
+use Rattle.difference.specs.declared.listing.Differs.{Differs}
+use Rattle.difference.specs.declared.listing.Differs.TheVariants.{Block, Height, InFirst, InSecond, InBoth}
 
 pub record Filling : Type 0 where
   pub words : List ℕ
@@ -26,13 +28,24 @@ unfoldable pub put_all : Bool → Filling → List Difference → Filling
 put_all write p [] = p
 put_all write p (d ∷ l) = put_all write (put_on write p (what_of d) (level_of d) (offset_of d)) l
 
--- what is told of a place as a word, 0 if nothing
-unfoldable pub told_word : Told → ℕ
-told_word alike = 0
-told_word (differ s) = side_word s
+-- what the code's enum says
+abbrev pub word_of : Differs → ℕ
+word_of Block = 1
+word_of Height = 2
+word_of InFirst = 3
+word_of InSecond = 4
+word_of InBoth = 5
 
-unfoldable pub put_place : Bool → Filling → ℕ → ℕ → ℕ → Filling
-put_place write p what level offset = pick (eqb what 0) p (put_on write p what level offset)
+-- what is told of a place, if anything
+abbrev pub told_of : Told → Option Differs
+told_of alike = None
+told_of (differ first) = Some InFirst
+told_of (differ second) = Some InSecond
+told_of (differ both) = Some InBoth
 
-unfoldable pub put_unless : Bool → Bool → Filling → ℕ → Filling
+abbrev pub put_place : Bool → Filling → Option Differs → ℕ → ℕ → Filling
+put_place write p (Some what) level offset = put_on write p (word_of what) level offset
+put_place write p None level offset = p
+
+abbrev pub put_unless : Bool → Bool → Filling → ℕ → Filling
 put_unless same write p what = pick same p (put_on write p what 0 0)

@@ -1,11 +1,11 @@
 -- The list of differences as a call gives it: three words an entry, in the memory lent (02, Item 7, its first call).
-use Rattle.std.specs.Prelude.{List, [], ◌∷◌, ◌++◌, ℕ, ◌*◌, ◌/◌, length, drop, leb}
+use Rattle.std.specs.Prelude.{List, [], ◌∷◌, ◌++◌, ℕ, ◌*◌, ◌/◌, length, drop, leb, Result as Answer}
 use Rattle.format.specs.Parse.{pick}
 use Rattle.format.specs.Refusals.{NO_ROOM}
 use Rattle.format.specs.Bump.{bump_whole}
 use Rattle.encoding.specs.BumpBytes.{content_of}
-use Rattle.spv.specs.Result.{Result, accepted, refused, carrying, after_reading}
-use Rattle.difference.specs.declared.listing.Listed.{Listed}
+use Rattle.spv.specs.declared.rejection.Rejection.{Rejection}
+use Rattle.spv.specs.Result.{Result, accepted, refused, carrying, after_reading, answer_of}
 use Rattle.difference.specs.Differences.{Side, first, second, both, Difference, block, height, leaf, differences}
 
 -- the first word of an entry: 1 block height, 2 tree height, 3 a leaf in the first only, 4 in the second only, 5 in both
@@ -50,9 +50,8 @@ abbrev pub room_in : List ℕ → ℕ
 room_in w = length w / 3
 
 -- what the code's answer says
-unfoldable pub listed_of : Result (List Difference) → Listed
-listed_of (accepted l) = Listed.Entries (length l)
-listed_of (refused why) = Listed.Refused why
+abbrev pub listed_of : Result (List Difference) → Answer ℕ Rejection
+listed_of = answer_of (λ l. length l)
 
 -- the memory lent: the entries, and what was there behind them; on a refusal "nothing is written"
 unfoldable pub words_in : Result (List Difference) → List ℕ → List ℕ

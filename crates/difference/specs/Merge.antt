@@ -1,20 +1,18 @@
 -- The differences of a level as the code tells them: of two lists in the order of their offsets, from the least offset up.
-use Rattle.std.specs.Prelude.{List, [], Bool, ℕ, zero, suc, ◌+◌, eqb, leb}
+use Rattle.std.specs.Prelude.{List, [], Bool, ℕ, zero, suc, ◌+◌, eqb, leb, Option, Some, None}
 use Rattle.format.specs.Parse.{pick}
 use Rattle.format.specs.declared.bump.BumpHead.{BumpHead}
 use Rattle.format.specs.Refusals.{MAX_LEAVES}
 use Rattle.encoding.specs.BumpBytes.{Entry}
 use Rattle.difference.specs.Differences.{Difference, told, tell, higher}
-use Rattle.levels.specs.declared.level.Next.{Next}
-use Rattle.levels.specs.declared.level.Next.TheVariants.{Offset, End}
 use Rattle.difference.specs.Filling.{Filling, put_all, put_unless}
 use Rattle.levels.specs.Ordered.{ordered_in, next_in}
 use Rattle.levels.specs.Fronts.{next_of, lesser, front, past}
 use Rattle.levels.specs.Places.{entries}
 
-abbrev pub on_next : Next → (ℕ → List Difference) → List Difference
-on_next End f = []
-on_next (Offset o) f = f o
+abbrev pub on_next : Option ℕ → (ℕ → List Difference) → List Difference
+on_next None f = []
+on_next (Some o) f = f o
 
 -- at most n offsets
 unfoldable pub merged : ℕ → ℕ → List Entry → List Entry → List Difference

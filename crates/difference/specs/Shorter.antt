@@ -1,5 +1,5 @@
 -- The shorter of two BUMPs that prove an id to one root (02, Item 7, its second call).
-use Rattle.std.specs.Prelude.{ℕ, List, [], ◌∷◌, length, leb}
+use Rattle.std.specs.Prelude.{ℕ, List, [], ◌∷◌, length, leb, Result as Answer, Ok, Err}
 use Rattle.std.specs.Borrow.{Bor}
 use Rattle.format.specs.Bytes.{same}
 use Rattle.format.specs.Parse.{pick}
@@ -7,8 +7,9 @@ use Rattle.format.specs.Refusals.{UNLIKE}
 use Rattle.spv.specs.Result.{Result, accepted, refused, carrying, follow}
 use Rattle.spv.specs.Prove.{Proof, prove}
 use Rattle.spv.specs.Readings.{bump_reading}
-use Rattle.difference.specs.declared.shorter.Weighed.{Weighed}
-use Rattle.difference.specs.declared.shorter.Weighed.TheVariants.{First, Second, Refused}
+use Rattle.spv.specs.declared.rejection.Rejection.{Rejection}
+use Rattle.difference.specs.declared.shorter.Shorter.{Shorter}
+use Rattle.difference.specs.declared.shorter.Shorter.TheVariants.{First, Second}
 
 -- which of the two is handed back
 pub data Choice : Type 0 where
@@ -28,10 +29,13 @@ unfoldable pub shorter : List ℕ → List ℕ → List ℕ → Result Choice
 shorter a b id = follow (prove (bump_reading a id)) (λ x. follow (prove (bump_reading b id)) (λ y. settled a b x y))
 
 -- what the code's answer says
-unfoldable pub choice_of : Weighed → Result Choice
-choice_of First = accepted first
-choice_of Second = accepted second
-choice_of (Refused why) = refused why
+abbrev pub chosen : Shorter → Choice
+chosen First = first
+chosen Second = second
+
+abbrev pub choice_of : Answer Shorter Rejection → Result Choice
+choice_of (Ok x) = accepted (chosen x)
+choice_of (Err why) = refused why
 
 -- a part of a lent slice as its holder sees it: where it starts, and its bytes
 abbrev pub Part : Type 0

@@ -4,5 +4,5 @@
 mod listing;
 mod shorter;
 
-pub use listing::{Listed, list_differences};
+pub use listing::list_differences;
 pub use shorter::shorter_proof;

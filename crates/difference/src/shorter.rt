@@ -1,79 +1,61 @@
 // The shorter of two BUMPs that prove an id to one root (specs/Shorter.antt).
 ghost use Rattle.std.specs.Prelude.{◌≡◌, ◌≤◌, get_or};
-ghost use Rattle.spv.specs.Result.{accepted};
-ghost use Rattle.difference.specs.Shorter.{shorter, choice_of, handed, part, shorter_of, why_of};
+ghost use Rattle.difference.specs.Shorter.{shorter, chosen, choice_of, handed, part, shorter_of, why_of};
 
-use format::refusal::UNLIKE;
-use spv::{Outcome, Rejection};
+use format::Refusal;
+use spv::Rejection;
 
 #[derive(Clone, Copy)]
-enum Weighed {
+enum Shorter {
     First,
     Second,
-    Refused(Rejection),
 }
 
-fn shorter_of(first: &[u8], second: &[u8]) -> Weighed
-    ensures { choice_of result ≡ accepted (shorter_of first.now second.now) }
+#[tactic(auto, unfolding(crate::specs::Shorter::shorter_of))]
+fn shorter_of(first: &[u8], second: &[u8]) -> Shorter
+    ensures { chosen result ≡ shorter_of first.now second.now }
 {
     if first.len() <= second.len() {
-        return Weighed::First;
+        return Shorter::First;
     }
-    Weighed::Second
+    Shorter::Second
 }
 
 // Which of two BUMPs is the shorter, where both prove the id to one root.
-fn weigh(first: &[u8], second: &[u8], id: [u8; 32]) -> Weighed
+fn weigh(first: &[u8], second: &[u8], id: [u8; 32]) -> Result<Shorter, Rejection>
     ensures { choice_of result ≡ shorter first.now second.now id }
 {
-    let p = spv::prove_bump(first, id);
-    let x = p.outcome;
-    let x_root = p.root;
-    match x {
-        Outcome::Refused(rejection) => Weighed::Refused(rejection),
-        Outcome::Accepted {
-            position: _,
-            layers: _,
-        } => {
-            let q = spv::prove_bump(second, id);
-            let y = q.outcome;
-            let y_root = q.root;
-            match y {
-                Outcome::Refused(rejection) => Weighed::Refused(rejection),
-                Outcome::Accepted {
-                    position: _,
-                    layers: _,
-                } => {
-                    if !format::same_bytes(x_root, y_root) {
-                        return Weighed::Refused(spv::reject(UNLIKE));
-                    }
-                    shorter_of(first, second)
-                }
-            }
-        }
+    let x = spv::prove_bump(first, id)?;
+    let y = spv::prove_bump(second, id)?;
+    let x_root = x.root;
+    let y_root = y.root;
+    if !format::same_bytes(x_root, y_root) {
+        return Err(spv::reject(Refusal::Unlike));
     }
+    Ok(shorter_of(first, second))
 }
 
 // The part of the caller's own bytes that is handed back.
-fn part_of<'a>(weighed: Weighed, first: &'a [u8], second: &'a [u8]) -> &'a [u8]
+#[tactic(auto, unfolding(crate::specs::Shorter::handed))]
+fn part_of<'a>(weighed: Result<Shorter, Rejection>, first: &'a [u8], second: &'a [u8]) -> &'a [u8]
     ensures { part result ≡ handed (choice_of weighed) first.entry second.entry }
 {
     match weighed {
-        Weighed::First => first,
-        Weighed::Second => second,
-        Weighed::Refused(_) => &first[..0],
+        Ok(Shorter::First) => first,
+        Ok(Shorter::Second) => second,
+        Err(_) => &first[..0],
     }
 }
 
 // A refusal in four numbers, 0 where there is none. Its number is a byte.
-fn why_of(weighed: Weighed) -> [u64; 4]
+#[tactic(auto, unfolding(crate::specs::Shorter::why_of))]
+fn why_of(weighed: Result<Shorter, Rejection>) -> [u64; 4]
     ensures { (result ≡ why_of (choice_of weighed)) × (get_or result 0 0 ≤ 255) }
 {
     match weighed {
-        Weighed::First => [0u64; 4],
-        Weighed::Second => [0u64; 4],
-        Weighed::Refused(rejection) => [
-            rejection.number as u64,
+        Ok(_) => [0; 4],
+        Err(rejection) => [
+            u64::from(rejection.number),
             rejection.carried as u64,
             rejection.layer as u64,
             rejection.sibling,

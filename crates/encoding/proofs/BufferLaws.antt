@@ -1,9 +1,7 @@
 -- Laws of writing to lent memory.
 use mathlib.Core.Path.{◌≡◌, refl, sym, ap, ◌∙◌}
 use mathlib.Core.List.{List, [], ◌∷◌, ◌++◌}
-use Prim.Native.Nat.{ℕ, suc, ◌+◌, ◌-◌, ◌/◌, ◌%◌, ◌<◌, ◌≤◌, min}
-use native.Mathlib.Nat.{sub-zero}
-use Rattle.encoding.specs.Digits.{little}
+use Prim.Native.Nat.{ℕ, suc, ◌+◌, ◌<◌, ◌≤◌, min}
 use lib.ListN.{length, set, drop, get_or, length-append, drop_of_length-le}
 use lib.Seq.{drop-cons, set-append_seam, append_snoc, take-nil}
 use native.Mathlib.Omega.{arith}
@@ -69,18 +67,6 @@ write-after x (y ∷ o) (b ∷ text) =
 -- a text written from the start
 pub write-whole : (o text : List ℕ) → write_on (buffer o 0) text ≡ buffer (filled o text) (min (length o) (length text))
 write-whole o text = write-after [] o text ∙ buffer-same refl (omega arith)
-
--- bytes of a number one by one, from its little end
-pub little-start : (p : Buffer) (w n : ℕ) → write_on p (little w n) ≡ write_on p (little (w - 0) n)
-little-start p w n = rw (sub-zero w)
-
-pub little_on : (p : Buffer) (w i rest : ℕ) {q : Buffer} → i < w → q ≡ put_on p (rest % 256) → write_on p (little (w - i) rest) ≡ write_on q (little (w - (i + 1)) (rest / 256))
-unfolding write_on little
-little_on p w i rest h e = let f : w - i ≡ suc (w - (i + 1)) = omega (arith, add-one (w - (i + 1))) in rw f (ap (λ (x : Buffer). write_on x (little (w - (i + 1)) (rest / 256))) (sym e))
-
-pub little-end : (p : Buffer) (w i rest : ℕ) → w ≤ i → write_on p (little (w - i) rest) ≡ p
-unfolding write_on little
-little-end p w i rest h = let f : w - i ≡ 0 = omega arith in rw f
 
 -- a byte, then more
 pub write_cons : (p : Buffer) (b : ℕ) (text : List ℕ) {q r : Buffer} → q ≡ put_on p b → r ≡ write_on q text → r ≡ write_on p (b ∷ text)

@@ -1,10 +1,12 @@
 -- Laws of numbers written little end first.
-use mathlib.Core.Path.{◌≡◌, refl, ap, ap₂, ◌∙◌}
+use mathlib.Core.Path.{◌≡◌, refl, sym, ap, ap₂, ◌∙◌}
 use mathlib.Core.List.{List, [], ◌∷◌}
 use Prim.Native.Nat.{ℕ, zero, suc, ◌+◌, ◌*◌, ◌/◌, ◌%◌, ◌^◌, ◌<◌}
 use lib.ListN.{length, get_or}
 use native.Mathlib.Omega.{arith}
-use native.Mathlib.Nat.{pow-suc, add_assoc}
+use native.Mathlib.Nat.{pow-suc, add_assoc, div-one}
+use Rattle.std.proofs.Math.Nat.{div-div-eq-div-mul}
+use Rattle.std.specs.Int.{byte_at, bytes_low_first}
 use Rattle.format.specs.Field.{le2, le4, le8}
 use Rattle.encoding.proofs.Stands.{Stands, stands-split}
 use Rattle.encoding.proofs.Encoding.{first-is}
@@ -25,6 +27,19 @@ pub little-length : (w n : ℕ) → length (little w n) ≡ w
 unfolding little
 little-length zero n = refl
 little-length (suc w) n = ap suc (little-length w (n / 256))
+
+low_first : (i w n : ℕ) → bytes_low_first i w n ≡ little w (n / 256 ^ i)
+unfolding little
+low_first i zero n = refl
+low_first i (suc w) n = ap₂ ◌∷◌ (first i) (low_first (suc i) w n ∙ ap (little w) (sym (div-div-eq-div-mul n (256 ^ i) 256 ∙ ap (λ (k : ℕ). n / k) (sym (pow-suc 256 i)))))
+  where
+    first : (i : ℕ) → byte_at i n ≡ n / 256 ^ i % 256
+    first zero = ap (λ (k : ℕ). k % 256) (sym (div-one n))
+    first (suc i) = refl
+
+-- the bytes that a number's own method gives
+pub little-bytes : (w n : ℕ) → bytes_low_first 0 w n ≡ little w n
+little-bytes w n = low_first 0 w n ∙ ap (little w) (div-one n)
 
 pub num_little : (w n : ℕ) → n < 256 ^ w → num (little w n) ≡ n
 unfolding num little

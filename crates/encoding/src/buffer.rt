@@ -2,7 +2,7 @@
 // that find no room are dropped.
 ghost use Rattle.std.specs.Prelude.{◌≡◌, length};
 ghost use Rattle.encoding.specs.Buffer.{buffer, put_on, write_on};
-ghost use Rattle.encoding.specs.Digits.{little, varint_bytes};
+ghost use Rattle.encoding.specs.Digits.{varint_bytes};
 
 pub fn put(out: &mut [u8], at: usize, b: u8) -> usize
     ensures { buffer out.new result ≡ put_on (buffer out.old at) b }
@@ -18,25 +18,8 @@ pub fn write(out: &mut [u8], at: usize, text: &[u8]) -> usize
     ensures { buffer out.new result ≡ write_on (buffer out.old at) text.now }
 {
     let mut next = at;
-    let mut i = 0;
-    while i < text.len() {
-        next = put(out, next, text[i]);
-        i += 1;
-    }
-    next
-}
-
-// The low bytes of n, as many as `width`, little end first.
-fn write_little(out: &mut [u8], at: usize, width: usize, n: u64) -> usize
-    ensures { buffer out.new result ≡ write_on (buffer out.old at) (little width n) }
-{
-    let mut next = at;
-    let mut rest = n;
-    let mut i: usize = 0;
-    while i < width {
-        next = put(out, next, (rest % 256) as u8);
-        rest /= 256;
-        i += 1;
+    for b in text {
+        next = put(out, next, *b);
     }
     next
 }
@@ -50,14 +33,14 @@ pub fn write_varint(out: &mut [u8], at: usize, n: u64) -> usize
     }
     if n < 65536 {
         let next = put(out, at, 253);
-        return write_little(out, next, 2, n);
+        return write(out, next, &(n as u16).to_le_bytes());
     }
     if n < 4294967296 {
         let next = put(out, at, 254);
-        return write_little(out, next, 4, n);
+        return write(out, next, &(n as u32).to_le_bytes());
     }
     let next = put(out, at, 255);
-    write_little(out, next, 8, n)
+    write(out, next, &n.to_le_bytes())
 }
 
 // How many bytes a VarInt takes.

@@ -7,10 +7,10 @@ use lib.ListN.{length, get_or, length-map}
 use lib.Dec.{ltb, leb, eqb}
 use native.Mathlib.Omega.{arith}
 use borrow.Author.Tests.{leb-true, ltb-true, lt-ltb, le-ltb, lt-leb, le-leb}
+use Rattle.std.specs.Prelude.{Option, Some, None}
 use Rattle.format.specs.declared.bump.BumpHead.{BumpHead}
 use Rattle.format.specs.declared.transaction.TxHead.{TxHead}
 use Rattle.format.specs.declared.transaction.Items.{Items}
-use Rattle.format.specs.declared.beef.Anchor.{Anchor}
 use Rattle.format.specs.declared.beef.BeefHead.{BeefHead}
 use Rattle.format.specs.Parse.{Parse, pick, onward, pure, ◌passing◌else◌, given, each, times, ended, whole, ok, fault}
 use Rattle.format.proofs.ParseLaws.{passing_told, onward-told, each-ok, each-fault, whole-told, many-told, many-length}
@@ -22,7 +22,10 @@ use Rattle.format.specs.Bump.{Bump, bump_field, head_of}
 use Rattle.format.specs.Transaction.{Transaction, beef_tx_field, tx_head_of}
 use Rattle.format.proofs.TransactionLaws.{tx_told}
 use Rattle.format.specs.Beef.{BeefEntry, Beef, version_field, bump_count_field, tx_count_field, bumps_field, bumps_up_to, bump_number_field, anchor_field, entry_field, entries_field, beef_field, beef_up_to, beef_whole}
-use Rattle.format.specs.BeefAnswer.{entry_head_of, first_at, entries_of, beef_head_of, no_bump, no_bumps, heads_kept, heads_of, opened, closing}
+use Rattle.format.specs.BeefAnswer.{entry_head_of, first_at, entries_of, beef_head_of, no_bump, heads_of, bundle_of, opened, closing}
+use Rattle.format.specs.Kept.{bumps_of}
+use Rattle.format.specs.declared.beef.Bundle.{Bundle}
+use Rattle.format.specs.declared.bumps.Bumps.{Bumps}
 use Rattle.format.specs.Refusals.{TOO_LONG, OVER_LIMIT, BAD_FLAG, EXTRA, EMPTY, BAD_INDEX, NO_ROOM, MAX_INPUT, MAX_BUMPS, MAX_TXS}
 
 -- the counts
@@ -39,55 +42,43 @@ tx_count-told room s at e =
     (leb-true _ _ b.1, leb-true _ _ c.1, leb-true _ _ a.1)
 
 -- what a reading answers of an entry, by what it kept
-pub entry_head : (t : Transaction) (a : Anchor) (q : ℕ) {h : TxHead} → tx_head_of t ≡ h
+pub entry_head : (t : Transaction) (a : Option ℕ) (q : ℕ) {h : TxHead} → tx_head_of t ≡ h
     → each entry_head_of (ok (record { transaction = t; anchor = a }) q) ≡ ok (record { transaction = h; anchor = a }) q
 unfolding each
 entry_head t a q e = rw (← e)
 
--- ---- the heads of BUMPs
-
--- a reading that is refused has none
-pub heads_none : {C : Type 0} (f : List Bump → C) (p : Parse (List Bump)) {k q : ℕ} → each f p ≡ fault k q → (fault k q ≡ each length p) × (no_bumps ≡ heads_kept p)
-unfolding heads_kept each
-heads_none f p e = let x = each-fault f p e in (rw x, rw x)
-
--- a loop that read n BUMPs kept theirs
-pub heads_kept_lem : (p : Parse (List Bump)) {l kept : List BumpHead} {n q : ℕ} → each (map head_of) p ≡ ok l q → length l ≡ n → kept ≡ padded MAX_BUMPS no_bump l
-    → (ok n q ≡ each length p) × (kept ≡ heads_kept p)
-unfolding heads_kept each
-heads_kept_lem p {l} {kept} {n} {q} e len k =
+-- a loop that read n BUMPs kept their heads
+pub bumps-gathered : (p : Parse (List Bump)) {l kept : List BumpHead} {n q : ℕ} → each (map head_of) p ≡ ok l q → length l ≡ n → kept ≡ padded MAX_BUMPS no_bump l
+    → each bumps_of p ≡ ok (record { count = n; heads = kept }) q
+unfolding each
+bumps-gathered p {l} {kept} {n} {q} e len k =
     let x = each-ok (map head_of) p e in
     built x.0 x.1 x.2
   where
-    built : (m : List Bump) → p ≡ ok m q → map head_of m ≡ l → (ok n q ≡ each length p) × (kept ≡ heads_kept p)
-    built m r is = (rw (r, ← len, ← is, length-map), rw (r, k, is))
-
--- by the fields
-pub heads_counted : (s : List ℕ) (at : ℕ) {n q : ℕ} → bump_count_field s at ≡ ok n q → heads_kept (times bump_field n s q) ≡ heads_kept (bumps_field s at)
-unfolding bumps_up_to
-heads_counted s at e = rw e
+    built : (m : List Bump) → p ≡ ok m q → map head_of m ≡ l → each bumps_of p ≡ ok (record { count = n; heads = kept }) q
+    built m r is = rw (r, k, ← len, ← is, length-map)
 
 -- an anchor that was read: its BUMP number is below the count
-pub anchor-told : (bumps : ℕ) (s : List ℕ) (at : ℕ) {a : Anchor} {q : ℕ} → anchor_field bumps s at ≡ ok a q → (n : ℕ) → a ≡ Anchor.Bump n → n < bumps
+pub anchor-told : (bumps : ℕ) (s : List ℕ) (at : ℕ) {a : Option ℕ} {q : ℕ} → anchor_field bumps s at ≡ ok a q → (n : ℕ) → a ≡ Some n → n < bumps
 unfolding anchor_field bump_number_field
 anchor-told bumps s at {a} {q} e n h =
     let x = onward-told ((byte passing (λ b. leb b 1) else BAD_FLAG) s at) _ e in
     chosen (eqb x.0 0) x.1 x.3
   where
-    below : (k : ℕ) → k < bumps → Anchor.Bump k ≡ a → n < bumps
+    below : (k : ℕ) → k < bumps → Some k ≡ a → n < bumps
     below k low m = let z : k ≡ n = cc in omega arith
 
-    chosen : (t : Bool) (r : ℕ) → pick t (pure Anchor.Unanchored) (given Anchor.Bump (bump_number_field bumps)) s r ≡ ok a q → n < bumps
+    chosen : (t : Bool) (r : ℕ) → pick t (pure None) (given Some (bump_number_field bumps)) s r ≡ ok a q → n < bumps
     chosen true r m = absurd (let z : ◌≡◌ {A = ℕ} 0 1 = cc in omega arith)
     chosen false r m =
-        let y = each-ok Anchor.Bump (bump_number_field bumps s r) m in
+        let y = each-ok Some (bump_number_field bumps s r) m in
         let p = passing_told varint (λ n. ltb n bumps) BAD_INDEX s r y.1 in
         below y.0 (ltb-true _ _ p.1) y.2
 
 -- an entry that was read: its transaction at its start, and its anchor
 pub record EntryRead (bumps : ℕ) (s : List ℕ) (e : BeefEntry) : Type 0 where
   pub transaction : beef_tx_field s e.transaction.start ≡ ok e.transaction e.transaction.end
-  pub anchored : (n : ℕ) → e.anchor ≡ Anchor.Bump n → n < bumps
+  pub anchored : (n : ℕ) → e.anchor ≡ Some n → n < bumps
 
 pub entry_told : (bumps : ℕ) (s : List ℕ) (at : ℕ) {e : BeefEntry} {q : ℕ} → entry_field bumps s at ≡ ok e q → EntryRead bumps s e
 unfolding entry_field
@@ -97,7 +88,7 @@ entry_told bumps s at {e} {q} h =
     let is : ◌≡◌ {A = Parse BeefEntry} (ok (record { transaction = x.0; anchor = y.0 }) y.1) (ok e q) = y.3 in
     built x.0 x.1 y.0 y.1 x.2 (anchor-told bumps s x.1 y.2) is
   where
-    built : (t : Transaction) (end : ℕ) (a : Anchor) (r : ℕ) → beef_tx_field s at ≡ ok t end → ((n : ℕ) → a ≡ Anchor.Bump n → n < bumps)
+    built : (t : Transaction) (end : ℕ) (a : Option ℕ) (r : ℕ) → beef_tx_field s at ≡ ok t end → ((n : ℕ) → a ≡ Some n → n < bumps)
         → ◌≡◌ {A = Parse BeefEntry} (ok (record { transaction = t; anchor = a }) r) (ok e q) → EntryRead bumps s e
     built t end a r w g is =
         let ee : record { transaction = t; anchor = a } ≡ e = cc in
@@ -273,33 +264,48 @@ module _ (room : ℕ) (s : List ℕ) where
   pub beef-opened : {v at : ℕ} {p : Parse ℕ} → opened s ≡ ok v at → p ≡ each length (bumps_field s at) → each beef_head_of (beef_whole room s) ≡ onward p (λ n next. closing room n s next)
   beef-opened {v} {at} {p} e f = (rw e at (beef-parts room s)) ∙ ap (λ (x : Parse ℕ). onward x (λ n next. closing room n s next)) (sym f)
 
--- the heads of a bundle that is refused, and of one that was read
-pub bundle_refused : (p : Parse Beef) {k q : ℕ} → each beef_head_of p ≡ fault k q → (fault k q ≡ each beef_head_of p) × (no_bumps ≡ heads_of p)
-unfolding each heads_kept
-bundle_refused p e = (sym e, rw (each-fault beef_head_of p e))
+-- the same with the heads of the BUMPs
+abbrev pub with_heads : List BumpHead → BeefHead → Bundle
+with_heads heads h = record { head = h; bumps = heads }
 
-pub heads_read : {p : Parse Beef} {b : Beef} {q : ℕ} → p ≡ ok b q → heads_of p ≡ padded MAX_BUMPS no_bump (map head_of b.bumps)
-unfolding each heads_kept
-heads_read e = rw e
-
--- which are those of its BUMPs
-pub heads_opened : (room : ℕ) (s : List ℕ) {v at : ℕ} {h : BeefHead} {q : ℕ} → opened s ≡ ok v at → each beef_head_of (beef_whole room s) ≡ ok h q → heads_kept (bumps_field s at) ≡ heads_of (beef_whole room s)
-unfolding opened beef_up_to heads_kept
-heads_opened room s {v} {at} {h} {q} e f =
-    let w = each-ok beef_head_of (beef_whole room s) f in
-    let x = onward-told (version_field s 0) _ (whole-told (beef_field room) s w.1) in
-    let y = onward-told (bumps_field s x.1) _ x.3 in
-    let z = onward-told (entries_field (length y.0) room s y.1) _ y.3 in
-    let is : ◌≡◌ {A = Parse Beef} (ok (record { bumps = y.0; entries = z.0 }) z.1) (ok w.0 q) = z.3 in
-    built w.0 x.0 x.1 y.0 y.1 z.0 z.1 w.1 (sized (leb (length s) MAX_INPUT) e) x.2 y.2 is
+pub bundle-parts : (room : ℕ) (s : List ℕ) → each bundle_of (beef_whole room s) ≡ onward (opened s) (λ _ at. onward (each bumps_of (bumps_field s at)) (λ k next. each (with_heads k.heads) (closing room k.count s next)))
+unfolding each whole opened beef_up_to closing
+bundle-parts room s = sized (leb (length s) MAX_INPUT)
   where
-    sized : (t : Bool) → pick t (version_field s 0) (fault TOO_LONG 0) ≡ ok v at → version_field s 0 ≡ ok v at
-    sized true m = m
-    sized false m = absurd (let z : ◌≡◌ {A = ℕ} 0 1 = cc in omega arith)
+    last : (l : List Bump) (entries : List BeefEntry) (q : ℕ) (t : Bool)
+        → each bundle_of (pick t (fault EXTRA q) (ok (record { bumps = l; entries = entries }) q))
+        ≡ each (with_heads (heads_of l)) (each (λ k. record { bumps = length l; transactions = length k; entries = record { at = first_at k } }) (pick t (fault EXTRA q) (ok entries q)))
+    last l entries q true = refl
+    last l entries q false = refl
 
-    built : (b : Beef) (v' at' : ℕ) (l : List Bump) (r : ℕ) (k : List BeefEntry) (end : ℕ) → beef_whole room s ≡ ok b q → version_field s 0 ≡ ok v at → version_field s 0 ≡ ok v' at' → bumps_field s at' ≡ ok l r
-        → ◌≡◌ {A = Parse Beef} (ok (record { bumps = l; entries = k }) end) (ok b q) → heads_kept (bumps_field s at) ≡ heads_of (beef_whole room s)
-    built b v' at' l r k end w o x y is =
-        let eb : record { bumps = l; entries = k } ≡ b = cc in
-        let here : at' ≡ at = cc in
-        rw (← here, y) (sym (heads_read w ∙ ap (λ (c : Beef). padded MAX_BUMPS no_bump (map head_of c.bumps)) (sym eb)))
+    rest : (l : List Bump) (p : Parse (List BeefEntry))
+        → each bundle_of (onward (onward p (λ entries next. ok (record { bumps = l; entries = entries }) next)) (λ b next. pick (ltb next (length s)) (fault EXTRA next) (ok b next)))
+        ≡ each (with_heads (heads_of l)) (each (λ k. record { bumps = length l; transactions = length k; entries = record { at = first_at k } }) (onward p (λ k next. pick (ltb next (length s)) (fault EXTRA next) (ok k next))))
+    rest l (ok entries q) = last l entries q (ltb q (length s))
+    rest l (fault n q) = refl
+
+    bumps : (p : Parse (List Bump))
+        → each bundle_of (ended (λ s at. onward p (λ l next. onward (entries_field (length l) room s next) (λ entries next. ok (record { bumps = l; entries = entries }) next))) s 0)
+        ≡ onward (each bumps_of p) (λ k next. each (with_heads k.heads) (closing room k.count s next))
+    bumps (ok l q) = rest l (entries_field (length l) room s q)
+    bumps (fault n q) = refl
+
+    version : (p : Parse ℕ)
+        → each bundle_of (ended (λ s at. onward p (λ _ next. onward (bumps_field s next) (λ l next. onward (entries_field (length l) room s next) (λ entries next. ok (record { bumps = l; entries = entries }) next)))) s 0)
+        ≡ onward p (λ _ at. onward (each bumps_of (bumps_field s at)) (λ k next. each (with_heads k.heads) (closing room k.count s next)))
+    version (ok v q) = bumps (bumps_field s q)
+    version (fault n q) = refl
+
+    sized : (t : Bool)
+        → each bundle_of (pick t (ended (beef_field room) s 0) (fault TOO_LONG 0))
+        ≡ onward (pick t (version_field s 0) (fault TOO_LONG 0)) (λ _ at. onward (each bumps_of (bumps_field s at)) (λ k next. each (with_heads k.heads) (closing room k.count s next)))
+    sized true = version (version_field s 0)
+    sized false = refl
+
+module _ (room : ℕ) (s : List ℕ) where
+  pub bundle-unopened : {k q : ℕ} → opened s ≡ fault k q → each bundle_of (beef_whole room s) ≡ fault k q
+  bundle-unopened e = rw e at (bundle-parts room s)
+
+  pub bundle-opened : {v at : ℕ} {p : Parse Bumps} → opened s ≡ ok v at → p ≡ each bumps_of (bumps_field s at)
+      → each bundle_of (beef_whole room s) ≡ onward p (λ k next. each (with_heads k.heads) (closing room k.count s next))
+  bundle-opened {v} {at} {p} e f = (rw e at (bundle-parts room s)) ∙ ap (λ (x : Parse Bumps). onward x (λ k next. each (with_heads k.heads) (closing room k.count s next))) (sym f)

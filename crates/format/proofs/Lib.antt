@@ -3,7 +3,6 @@ pub mod ParseLaws
 pub mod OneAnswer
 pub mod FieldLaws
 pub mod BytesLaws
-pub mod CopyLaws
 pub mod LevelLaws
 pub mod SeenLaws
 pub mod BumpLaws

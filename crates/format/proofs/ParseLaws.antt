@@ -10,11 +10,21 @@ use native.Mathlib.Numerals.{add-one}
 use native.Mathlib.Nat.{sub-zero, zero-add, add-zero}
 use borrow.Author.Tests.{le-ltb, lt-ltb, le-leb, lt-leb}
 use Rattle.format.specs.Parse.{Parse, Reader, pick, onward, each, tested, ◌passing◌else◌, many, ended, whole, otherwise, ok, fault}
-use Rattle.format.specs.Refusals.{TOO_LONG, EXTRA, MAX_INPUT}
+use Rattle.format.specs.Refusals.{TOO_LONG, EXTRA, MAX_INPUT, refusal_number}
+use Rattle.format.specs.declared.field.Cursor.{Cursor}
+use Rattle.format.specs.declared.refusal.ReadRefusal.{ReadRefusal}
+use Rattle.format.specs.Answer.{parse_of}
+use Rattle.std.specs.Prelude.{Result}
+use Rattle.std.specs.Result.{IsErrAnd}
+use Rattle.std.proofs.lemmas.Result.{err_from_is_err_and}
 
 -- what a call ensures of its answer r, and what r is, say what the definition finds
 pub answered : {X A : Type 0} (f : X → Parse A) {r x : X} {p : Parse A} → f r ≡ p → r ≡ x → p ≡ f x
 answered f e h = sym e ∙ ap f h
+
+-- the exit of a `?`: the refusal is passed on as it is
+pub passed_on : {T : Type 0} (r : Result (T × Cursor) ReadRefusal) (e : ReadRefusal) → IsErrAnd r (λ y. y ≡ e) → parse_of r ≡ fault (refusal_number e.refusal) e.place
+passed_on r e h = let p = err_from_is_err_and r h in rw (p.1, p.2) refl
 
 -- a function of what is read
 pub each_cong : {A B : Type 0} (f g : A → B) → ((a : A) → f a ≡ g a) → (p : Parse A) → each f p ≡ each g p
@@ -36,6 +46,10 @@ pub each-fault : {A B : Type 0} (f : A → B) (p : Parse A) {n q : ℕ} → each
 unfolding each
 each-fault f (ok a at) e = absurd (let z : ◌≡◌ {A = ℕ} 0 1 = cc in omega arith)
 each-fault f (fault n at) e = cc
+
+pub refused_as : {A B C : Type 0} (f : A → B) (g : A → C) (p : Parse A) {n q : ℕ} → each f p ≡ fault n q → each g p ≡ fault n q
+unfolding each
+refused_as f g p e = rw (each-fault f p e)
 
 -- items one after the other, under a function f of their list: what a loop over them keeps. r is what is left to read
 module _ {S A : Type 0} (item : S → Reader A) (next : S → A → S) (s : List ℕ) where
@@ -69,6 +83,9 @@ module _ {S A : Type 0} (item : S → Reader A) (next : S → A → S) (n : ℕ)
 
   pub count-done : (i : ℕ) (st : S) (at : ℕ) → n ≤ i → each (λ l. i + length l) (many item next (n - i) st s at) ≡ ok i at
   count-done i st at h = many-done item next s (λ l. i + length l) (n - i) st at (omega arith) ∙ ap (λ (k : ℕ). ok k at) (add-zero i)
+
+  pub count-all : (i : ℕ) (st : S) (at : ℕ) → i ≡ n → each (λ l. i + length l) (many item next (n - i) st s at) ≡ ok n at
+  count-all i st at h = count-done i st at (omega arith) ∙ ap (λ (k : ℕ). ok k at) h
 
 -- what passed a test was read, and passes it
 pub passing_told : {A : Type 0} (p : Reader A) (t : A → Bool) (k : ℕ) (s : List ℕ) (at : ℕ) {a : A} {q : ℕ} → (p passing t else k) s at ≡ ok a q → (p s at ≡ ok a q) × (t a ≡ true)

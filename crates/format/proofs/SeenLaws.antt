@@ -1,5 +1,5 @@
 -- Laws of what a reading keeps of leaves.
-use mathlib.Core.Path.{◌≡◌, refl, ap, sym, subst, ◌∙◌}
+use mathlib.Core.Path.{◌≡◌, refl, ap, sym, ◌∙◌}
 use mathlib.Core.List.{List, [], ◌∷◌, ◌++◌}
 use mathlib.Core.Bool.{Bool, true, false, not, ◌||◌, or-false}
 use Prim.Native.Nat.{ℕ, ◌+◌, ◌-◌, ◌≤◌, ◌<◌, ◌%◌}
@@ -8,16 +8,18 @@ use lib.Seq.{get_or-set_same, get_or-set_other}
 use lib.Dec.{ltb, eqb}
 use native.Mathlib.Omega.{arith}
 use borrow.Author.Tests.{ne_eqb, eqb-true, eqb-false, ltb-true}
-use Rattle.format.specs.declared.field.Number.{Number}
+use Rattle.std.specs.Prelude.{Result, Ok, Err}
+use Rattle.format.specs.declared.field.Cursor.{Cursor}
+use Rattle.format.specs.declared.refusal.ReadRefusal.{ReadRefusal}
 use Rattle.format.specs.declared.level.Layout.{Layout}
 use Rattle.format.specs.declared.leaf.Leaf.{Leaf}
 use Rattle.format.specs.declared.leaf.Kind.{Kind}
 use Rattle.format.specs.declared.leaf.Kind.TheVariants.{Plain, Client}
 use Rattle.format.proofs.Basics.{or_true}
 use Rattle.format.specs.Parse.{Parse, pick, given, onward, each, many, ◌passing◌else◌, ok, fault}
-use Rattle.format.proofs.ParseLaws.{each-ok, each-fault, passing_told, count-start, count-step, count-refused, count-done}
+use Rattle.format.proofs.ParseLaws.{each-ok, each-fault, passing_told, count-start, count-step, count-refused, count-all}
 use Rattle.format.specs.Field.{bytes, varint}
-use Rattle.format.specs.FieldAnswer.{number_of}
+use Rattle.format.specs.Answer.{parse_of}
 use Rattle.format.specs.Level.{holds, offset_field, kind_field, carried_field, leaf_field, leaf_fields, and_offset}
 use Rattle.format.proofs.LevelLaws.{holds-here, holds_on, holds-end, holds_snoc, offset-fresh, kind_refused}
 use Rattle.format.specs.Refusals.{BAD_OFFSET, REPEATED}
@@ -157,19 +159,16 @@ module _ (layout : Layout) (limit level n : ℕ) (s : List ℕ) where
           → total ≡ each (λ l. i + length l) (many (leaf_field layout limit level) and_offset (n - i) seen s at) → Risen layout limit level n s total (i + 1) (o + 1) q
       step seen none f = (seen ++ (o ∷ []), none_from seen least o none t, f ∙ leaves-step layout limit level n s i seen at h (leaf-fresh layout limit level s at seen e (none o t)))
 
-  pub risen_done : (total : Parse ℕ) (i least at : ℕ) → n ≤ i → Risen layout limit level n s total i least at → total ≡ ok i at
+  pub risen_done : (total : Parse ℕ) (i least at : ℕ) → i ≡ n → Risen layout limit level n s total i least at → total ≡ ok n at
   unfolding Risen
-  risen_done total i least at h r = r.2 ∙ count-done (leaf_field layout limit level) and_offset n s i r.0 at h
+  risen_done total i least at h r = r.2 ∙ count-all (leaf_field layout limit level) and_offset n s i r.0 at h
 
 -- a leaf of an offset that is at least `least`
-pub above-carried : (least o : ℕ) (r : Number) (k : Parse Kind) {p : Parse ℕ} → number_of r ≡ each (keep_offset o) k → p ≡ each (keep_offset o) k → least ≤ o → Above least r p
-above-carried least o (Number.Value x c) k {p} e f h =
+pub above-carried : (least o : ℕ) (r : Result (ℕ × Cursor) ReadRefusal) (k : Parse Kind) {p : Parse ℕ} → parse_of r ≡ each (keep_offset o) k → p ≡ each (keep_offset o) k → least ≤ o → Above least r p
+above-carried least o (Ok (x, c)) k {p} e f h =
     let g = (each-ok (keep_offset o) k (sym e)).2 in
     (f ∙ sym e, low x g)
   where
     low : (x : ℕ) → o ≡ x → least ≤ x
     low x g = omega arith
-above-carried least o (Number.Refused r) k e f h = tt
-
-pub above-told : (least : ℕ) (p : Parse ℕ) {r t : Number} → Above least r p → r ≡ t → Above least t p
-above-told least p h e = subst (λ (x : Number). Above least x p) e h
+above-carried least o (Err r) k e f h = tt

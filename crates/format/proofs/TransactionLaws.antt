@@ -12,7 +12,7 @@ use Rattle.format.specs.declared.transaction.Input.{Input}
 use Rattle.format.specs.declared.transaction.Items.{Items}
 use Rattle.format.specs.declared.transaction.TxHead.{TxHead}
 use Rattle.format.specs.Parse.{Parse, Reader, onward, each, ◌passing◌else◌, many, times, ok, fault}
-use Rattle.format.proofs.ParseLaws.{onward-told, passing_told, many-length, count-start, count-step, count-refused, count-done, each-ok, each-fault, whole-told}
+use Rattle.format.proofs.ParseLaws.{onward-told, passing_told, many-length, count-start, count-step, count-refused, count-all, each-ok, each-fault, whole-told}
 use Rattle.format.proofs.Whole.{whole_ends}
 use Rattle.format.specs.Field.{bytes, le8, number, varint}
 use Rattle.format.specs.Refusals.{BAD_TX, BAD_AMOUNT, MAX_TOTAL}
@@ -139,8 +139,8 @@ module _ (limited : Bool) (n : ℕ) (s : List ℕ) where
   pub outputs-refused : (i total at : ℕ) {k q : ℕ} → i < n → output_field (takes limited total) s at ≡ fault k q → left i total at ≡ fault k q
   outputs-refused i total at h e = count-refused (λ total. output_field (takes limited total)) ◌+◌ n s i total at h e
 
-  pub outputs-done : (i total at : ℕ) → n ≤ i → left i total at ≡ ok i at
-  outputs-done i total at h = count-done (λ total. output_field (takes limited total)) ◌+◌ n s i total at h
+  pub outputs-done : (i total at : ℕ) → i ≡ n → left i total at ≡ ok n at
+  outputs-done i total at h = count-all (λ total. output_field (takes limited total)) ◌+◌ n s i total at h
 
 -- items that were read: at least one, at their place
 pub record ListRead {A : Type 0} (list : ℕ → Reader (List A)) (s : List ℕ) (at next : ℕ) (l : Listed A) : Type 0 where

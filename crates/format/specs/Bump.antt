@@ -3,9 +3,7 @@ use Rattle.std.specs.Prelude.{List, ◌&&◌, ℕ, leb}
 use Rattle.format.specs.declared.level.Layout.{Layout}
 use Rattle.format.specs.declared.leaf.Leaf.{Leaf}
 use Rattle.format.specs.declared.bump.BumpHead.{BumpHead}
-use Rattle.format.specs.declared.bump.BumpAnswer.{BumpAnswer}
-use Rattle.format.specs.declared.refusal.ReadRefusal.{ReadRefusal}
-use Rattle.format.specs.Parse.{Parse, Reader, pure, here, ◌>>=◌, ◌passing◌else◌, whole, ok, fault}
+use Rattle.format.specs.Parse.{Parse, Reader, pure, here, ◌>>=◌, ◌passing◌else◌, whole}
 use Rattle.format.specs.Field.{byte, varint}
 use Rattle.format.specs.Level.{level_fields, total}
 use Rattle.format.specs.Refusals.{BAD_HEIGHT, OVER_LIMIT, MAX_BLOCK, MAX_HEIGHT}
@@ -45,12 +43,3 @@ bump_whole s = whole bump_field s
 -- what the answer of a reading holds of a BUMP
 abbrev pub head_of : Bump → BumpHead
 head_of b = record { block = b.block; height = b.height; leaves = total b.levels; levels = record { at = b.start } }
-
--- what the answer says
-abbrev pub bump_answer : BumpAnswer → Parse BumpHead
-bump_answer (BumpAnswer.Value v c) = ok v c.at
-bump_answer (BumpAnswer.Refused r) = fault r.number r.place
-
-abbrev pub refusal_of_bump : BumpAnswer → ReadRefusal
-refusal_of_bump (BumpAnswer.Value v c) = record { number = 0; place = 0 }
-refusal_of_bump (BumpAnswer.Refused r) = r

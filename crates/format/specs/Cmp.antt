@@ -3,9 +3,7 @@ use Rattle.std.specs.Prelude.{List, reverse, ℕ, ◌+◌, leb}
 use Rattle.format.specs.declared.level.Layout.{Layout}
 use Rattle.format.specs.declared.leaf.Leaf.{Leaf}
 use Rattle.format.specs.declared.cmp.CmpHead.{CmpHead}
-use Rattle.format.specs.declared.cmp.CmpAnswer.{CmpAnswer}
-use Rattle.format.specs.declared.refusal.ReadRefusal.{ReadRefusal}
-use Rattle.format.specs.Parse.{Parse, Reader, pure, here, ◌>>=◌, ◌passing◌else◌, whole, ok, fault}
+use Rattle.format.specs.Parse.{Parse, Reader, pure, here, ◌>>=◌, ◌passing◌else◌, whole}
 use Rattle.format.specs.Field.{byte}
 use Rattle.format.specs.Level.{level_fields, total}
 use Rattle.format.specs.Refusals.{BAD_HEIGHT, MAX_HEIGHT}
@@ -40,12 +38,3 @@ cmp_whole s = whole cmp_field s
 -- what the answer of a reading holds of a CMP
 abbrev pub cmp_head_of : Cmp → CmpHead
 cmp_head_of p = record { height = p.height; leaves = total p.levels; levels = record { at = p.start } }
-
--- what the answer says
-abbrev pub cmp_answer : CmpAnswer → Parse CmpHead
-cmp_answer (CmpAnswer.Value v c) = ok v c.at
-cmp_answer (CmpAnswer.Refused r) = fault r.number r.place
-
-abbrev pub refusal_of_cmp : CmpAnswer → ReadRefusal
-refusal_of_cmp (CmpAnswer.Value v c) = record { number = 0; place = 0 }
-refusal_of_cmp (CmpAnswer.Refused r) = r

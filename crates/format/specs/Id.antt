@@ -1,6 +1,6 @@
 -- Ids of transactions (01, "Raw transaction": "The id is the hash of exactly these bytes").
 use Rattle.std.specs.Prelude.{◌&&◌, List, ℕ, ◌-◌, leb, length, take, drop, replicate}
-use Rattle.hash.specs.Sha256.{sha256d, hashed}
+use Rattle.hash.specs.Sha256.{sha256d, digest_or_zeros}
 use Rattle.format.specs.declared.tsc.Subject.{Subject}
 use Rattle.format.specs.Parse.{pick}
 use Rattle.format.specs.Bytes.{hash_at}
@@ -18,4 +18,4 @@ subject_id s (Subject.Transaction start end) = sha256d (take (end - start) (drop
 
 -- 32 bytes of a part of the input: its hash, or zeros if it does not lie in the input
 unfoldable pub span_hash : List ℕ → ℕ → ℕ → List ℕ
-span_hash s start end = pick (leb start end && leb end (length s)) (hashed (take (end - start) (drop start s))).digest (replicate 32 0)
+span_hash s start end = pick (leb start end && leb end (length s)) (digest_or_zeros (take (end - start) (drop start s))) (replicate 32 0)

@@ -1,6 +1,7 @@
 -- Refusals by their numbers, as 01's table "Numbers of refusal" has them, and the sizes of 01.
 use Rattle.std.specs.Prelude.{ℕ}
 use Rattle.hash.specs.Sha256 as S
+use Rattle.format.specs.declared.refusal.Refusal.{Refusal}
 
 -- input over its size
 abbrev pub TOO_LONG : ℕ
@@ -121,6 +122,39 @@ NO_ORDER = 29
 -- proposed order not one
 abbrev pub BAD_ORDER : ℕ
 BAD_ORDER = 30
+
+-- the number of each
+abbrev pub refusal_number : Refusal → ℕ
+refusal_number Refusal.TooLong = TOO_LONG
+refusal_number Refusal.Short = SHORT
+refusal_number Refusal.LongVarint = LONG_VARINT
+refusal_number Refusal.BadHeight = BAD_HEIGHT
+refusal_number Refusal.OverLimit = OVER_LIMIT
+refusal_number Refusal.BadOffset = BAD_OFFSET
+refusal_number Refusal.BadFlag = BAD_FLAG
+refusal_number Refusal.Repeated = REPEATED
+refusal_number Refusal.Extra = EXTRA
+refusal_number Refusal.BadVersion = BAD_VERSION
+refusal_number Refusal.BadTx = BAD_TX
+refusal_number Refusal.Empty = EMPTY
+refusal_number Refusal.NotListed = NOT_LISTED
+refusal_number Refusal.Missing = MISSING
+refusal_number Refusal.Twin = TWIN
+refusal_number Refusal.RootsDiffer = ROOTS_DIFFER
+refusal_number Refusal.Untrusted = UNTRUSTED
+refusal_number Refusal.BadIndex = BAD_INDEX
+refusal_number Refusal.SameTx = SAME_TX
+refusal_number Refusal.NoParent = NO_PARENT
+refusal_number Refusal.BadRoots = BAD_ROOTS
+refusal_number Refusal.NoRoom = NO_ROOM
+refusal_number Refusal.Unlike = UNLIKE
+refusal_number Refusal.SameId = SAME_ID
+refusal_number Refusal.BadAmount = BAD_AMOUNT
+refusal_number Refusal.NoOutput = NO_OUTPUT
+refusal_number Refusal.SpentTwice = SPENT_TWICE
+refusal_number Refusal.TooLittle = TOO_LITTLE
+refusal_number Refusal.NoOrder = NO_ORDER
+refusal_number Refusal.BadOrder = BAD_ORDER
 
 -- 01, "Sizes"; layers and nodes as 02, Item 8, raised them
 

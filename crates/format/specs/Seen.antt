@@ -1,6 +1,7 @@
 -- What a reading keeps of the leaves of a level.
-use Rattle.std.specs.Prelude.{◌≡◌, List, false, ℕ, ◌≤◌, ◌%◌, length, get_or}
-use Rattle.format.specs.declared.field.Number.{Number}
+use Rattle.std.specs.Prelude.{Result, Ok, Err, ◌≡◌, List, false, ℕ, ◌≤◌, ◌%◌, length, get_or}
+use Rattle.format.specs.declared.field.Cursor.{Cursor}
+use Rattle.format.specs.declared.refusal.ReadRefusal.{ReadRefusal}
 use Rattle.format.specs.declared.leaf.Leaf.{Leaf}
 use Rattle.format.specs.declared.leaf.Kind.{Kind}
 use Rattle.format.specs.Parse.{Parse, ok}
@@ -14,9 +15,9 @@ abbrev pub keep_offset : ℕ → Kind → ℕ
 keep_offset offset _ = offset
 
 -- a leaf's offset is read, and is `least` or above; a refusal says nothing
-abbrev pub Above : ℕ → Number → Parse ℕ → Type 0
-Above least (Number.Value o c) p = (p ≡ ok o c.at) × (least ≤ o)
-Above least (Number.Refused r) p = Unit {0}
+abbrev pub Above : ℕ → Result (ℕ × Cursor) ReadRefusal → Parse ℕ → Type 0
+Above least (Ok r) p = (p ≡ ok r.0 r.1.at) × (least ≤ r.0)
+Above least (Err e) p = Unit {0}
 
 -- an offset whose slot, by its remainder, is not marked was not seen
 abbrev pub Slotted : List ℕ → List ℕ → Type 0

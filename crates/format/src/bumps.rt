@@ -1,21 +1,22 @@
 // The BUMPs of a BEEF bundle, one after the other (specs/Beef.antt); where they lie is kept.
 ghost use Rattle.std.specs.Prelude.{◌≡◌, ◌≤◌, length};
 ghost use Rattle.format.specs.Parse.{each, times};
-ghost use Rattle.format.specs.FieldAnswer.{number_of};
+ghost use Rattle.format.specs.Answer.{parse_of};
 ghost use Rattle.format.specs.Bump.{bump_field};
 ghost use Rattle.format.specs.Beef.{bump_count_field, bumps_field};
-ghost use Rattle.format.specs.BeefAnswer.{no_bump, no_bumps, heads_kept};
+ghost use Rattle.format.specs.BeefAnswer.{no_bump, no_bumps};
+ghost use Rattle.format.specs.Kept.{bumps_of};
 ghost use Rattle.format.specs.Refusals.{MAX_BUMPS};
 
 use super::beef::Beef;
-use super::bump::{BumpAnswer, BumpHead, bump_at};
-use super::field::{Cursor, Number, read_varint};
-use super::refusal::{OVER_LIMIT, ReadRefusal};
+use super::bump::{BumpHead, bump_at};
+use super::field::{Cursor, Read, read_varint};
+use super::refusal::{ReadRefusal, Refusal};
 
-// A reading of its BUMPs: how many there are, and their heads, none if one is refused.
+// How many BUMPs there are, and their heads.
 #[derive(Clone, Copy)]
 pub(crate) struct Bumps {
-    pub count: Number,
+    pub count: u64,
     pub heads: [BumpHead; Beef::MAX_BUMPS],
 }
 
@@ -30,92 +31,68 @@ fn no_bump() -> BumpHead
     }
 }
 
-pub(crate) fn no_bumps() -> [BumpHead; Beef::MAX_BUMPS]
+fn no_bumps() -> [BumpHead; Beef::MAX_BUMPS]
     ensures { result ≡ no_bumps }
 {
     let none = no_bump();
     [none; Beef::MAX_BUMPS]
 }
 
-fn refused_bumps(count: Number) -> Bumps
-    ensures { result ≡ record { count = count; heads = no_bumps } }
+fn read_bump_count(s: &[u8], c: Cursor) -> Read<u64>
+    ensures { parse_of result ≡ bump_count_field s.now c.at }
 {
-    let heads = no_bumps();
-    Bumps { count, heads }
-}
-
-fn read_bump_count(s: &[u8], c: Cursor) -> Number
-    ensures { number_of result ≡ bump_count_field s.now c.at }
-{
-    let at = c.at;
-    let field = read_varint(s, c);
-    let Number::Value(count, _) = field else {
-        return field;
-    };
+    let (count, next) = read_varint(s, c)?;
     if Beef::MAX_BUMPS < count as usize {
-        return Number::Refused(ReadRefusal {
-            number: OVER_LIMIT,
-            place: at,
+        return Err(ReadRefusal {
+            refusal: Refusal::OverLimit,
+            place: c.at,
         });
     }
-    field
+    Ok((count, next))
 }
 
-fn all_bumps(s: &[u8], c: Cursor, count: u64) -> Number
-    ensures { number_of result ≡ each length (times bump_field count s.now c.at) }
+fn all_bumps(s: &[u8], c: Cursor, count: u64) -> Read<u64>
+    ensures { parse_of result ≡ each length (times bump_field count s.now c.at) }
 {
     let mut next = c;
-    let mut i: u64 = 0;
-    while i < count {
-        let field = bump_at(s, next);
-        let BumpAnswer::Value(_, after) = field else {
-            return Number::Refused(field.refusal());
-        };
+    for _ in 0..count {
+        let (_, after) = bump_at(s, next)?;
         next = after;
-        i += 1;
     }
-    Number::Value(i, next)
+    Ok((count, next))
 }
 
-pub(crate) fn read_bumps(s: &[u8], c: Cursor) -> Number
-    ensures { number_of result ≡ each length (bumps_field s.now c.at) }
+pub(crate) fn read_bumps(s: &[u8], c: Cursor) -> Read<u64>
+    ensures { parse_of result ≡ each length (bumps_field s.now c.at) }
 {
-    let field = read_bump_count(s, c);
-    let Number::Value(count, next) = field else {
-        return field;
-    };
+    let (count, next) = read_bump_count(s, c)?;
     all_bumps(s, next, count)
 }
 
 // The same with the heads kept, for a caller who needs them: 2 KB that the other doesn't spend.
-fn gather_bumps(s: &[u8], c: Cursor, count: usize) -> Bumps
+fn gather_bumps(s: &[u8], c: Cursor, count: usize) -> Read<Bumps>
     requires { count ≤ MAX_BUMPS }
-    ensures { (number_of result.count ≡ each length (times bump_field count s.now c.at)) × (result.heads ≡ heads_kept (times bump_field count s.now c.at)) }
+    ensures { parse_of result ≡ each bumps_of (times bump_field count s.now c.at) }
 {
     let mut heads = no_bumps();
     let mut next = c;
-    let mut i: usize = 0;
-    while i < count {
-        let field = bump_at(s, next);
-        let BumpAnswer::Value(head, after) = field else {
-            return refused_bumps(Number::Refused(field.refusal()));
-        };
+    for i in 0..count {
+        let (head, after) = bump_at(s, next)?;
         heads[i] = head;
         next = after;
-        i += 1;
     }
-    Bumps {
-        count: Number::Value(i as u64, next),
-        heads,
-    }
+    Ok((
+        Bumps {
+            count: count as u64,
+            heads,
+        },
+        next,
+    ))
 }
 
-pub(crate) fn keep_bumps(s: &[u8], c: Cursor) -> Bumps
-    ensures { (number_of result.count ≡ each length (bumps_field s.now c.at)) × (result.heads ≡ heads_kept (bumps_field s.now c.at)) }
+pub(crate) fn keep_bumps(s: &[u8], c: Cursor) -> Read<Bumps>
+    ensures { parse_of result ≡ each bumps_of (bumps_field s.now c.at) }
 {
-    let field = read_bump_count(s, c);
-    let Number::Value(count, next) = field else {
-        return refused_bumps(field);
-    };
+    let (count, next) = read_bump_count(s, c)?;
     gather_bumps(s, next, count as usize)
 }

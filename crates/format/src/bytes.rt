@@ -7,12 +7,10 @@ pub fn same_bytes(a: [u8; 32], b: [u8; 32]) -> bool
     ensures { result ≡ same a b }
 {
     let mut same = true;
-    let mut i = 0;
-    while i < 32 {
+    for i in 0..32 {
         if a[i] != b[i] {
             same = false;
         }
-        i += 1;
     }
     same
 }
@@ -28,11 +26,7 @@ pub fn hash_at(s: &[u8], place: usize) -> [u8; 32]
     if s.len() - place < 32 {
         return out;
     }
-    let mut i = 0;
-    while i < 32 {
-        out[i] = s[place + i];
-        i += 1;
-    }
+    out.copy_from_slice(&s[place..place + 32]);
     out
 }
 
@@ -44,9 +38,5 @@ pub fn set_hash(list: &mut [u8], i: usize, hash: [u8; 32])
         return;
     }
     let at = 32 * i;
-    let mut k: usize = 0;
-    while k < 32 {
-        list[at + k] = hash[k];
-        k += 1;
-    }
+    list[at..at + 32].copy_from_slice(&hash);
 }

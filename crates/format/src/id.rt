@@ -12,6 +12,5 @@ pub fn span_hash(s: &[u8], start: usize, end: usize) -> [u8; 32]
     if s.len() < end {
         return [0u8; 32];
     }
-    let hashed = hash::sha256d(&s[start..end]);
-    hashed.digest
+    hash::sha256d(&s[start..end]).unwrap_or([0; 32])
 }

@@ -1,14 +1,14 @@
 // Levels as BUMP (document 003) and CMP (document 001) write them (specs/Level.antt).
 ghost use Rattle.std.specs.Prelude.{◌≡◌, [], ◌+◌, ◌≤◌, ◌<◌, ◌^◌, length};
 ghost use Rattle.format.specs.Parse.{each};
-ghost use Rattle.format.specs.FieldAnswer.{number_of};
+ghost use Rattle.format.specs.Answer.{parse_of};
 ghost use Rattle.format.specs.Refusals.{MAX_HEIGHT, MAX_LEAVES};
 ghost use Rattle.format.specs.Level.{leaf_field, leaf_fields, level_field, level_of_turn, level_in_turn, level_fields, total};
 ghost use Rattle.format.specs.Seen.{offset_of, Above};
 
-use super::field::{Cursor, Number, read_varint};
+use super::field::{Cursor, Read, read_varint};
 use super::leaf::{read_bounded, read_carried, read_leaf};
-use super::refusal::{OVER_LIMIT, REPEATED, ReadRefusal};
+use super::refusal::{ReadRefusal, Refusal};
 
 // Which of the two layouts.
 #[derive(Clone, Copy)]
@@ -33,40 +33,38 @@ fn read_leaves(
     level: u64,
     greatest: u64,
     count: usize,
-) -> Number
+) -> Read<u64>
     requires { count ≤ MAX_LEAVES }
-    ensures { number_of result ≡ each length (leaf_fields layout (greatest + 1) level count s.now c.at) }
+    ensures { parse_of result ≡ each length (leaf_fields layout (greatest + 1) level count s.now c.at) }
 {
     let mut seen = [0u64; Layout::MAX_LEAVES];
     let mut slots = [0u8; SLOTS];
     let mut next = c;
-    let mut i: usize = 0;
-    while i < count {
-        let field = read_leaf(s, next, layout, level, greatest, &seen[..i], &slots);
-        let Number::Value(offset, after) = field else {
-            return field;
-        };
+    for i in 0..count {
+        let (offset, after) = read_leaf(s, next, layout, level, greatest, &seen[..i], &slots)?;
         seen[i] = offset;
         slots[offset as usize % SLOTS] = 1;
         next = after;
-        i += 1;
     }
-    Number::Value(i as u64, next)
+    Ok((count as u64, next))
 }
 
 // A leaf, by its offset, which is to be `least` or above; a refusal says only that it isn't such a leaf.
-fn read_above(s: &[u8], c: Cursor, layout: Layout, level: u64, greatest: u64, least: u64) -> Number
+fn read_above(
+    s: &[u8],
+    c: Cursor,
+    layout: Layout,
+    level: u64,
+    greatest: u64,
+    least: u64,
+) -> Read<u64>
     ensures { Above least result (each offset_of (leaf_field layout (greatest + 1) level [] s.now c.at)) }
 {
-    let at = c.at;
-    let first = read_bounded(s, c, greatest);
-    let Number::Value(offset, second_at) = first else {
-        return first;
-    };
+    let (offset, second_at) = read_bounded(s, c, greatest)?;
     if offset < least {
-        return Number::Refused(ReadRefusal {
-            number: REPEATED,
-            place: at,
+        return Err(ReadRefusal {
+            refusal: Refusal::Repeated,
+            place: c.at,
         });
     }
     read_carried(s, second_at, layout, level, offset)
@@ -81,16 +79,14 @@ fn read_rising(
     level: u64,
     greatest: u64,
     count: usize,
-) -> Number
+) -> Read<u64>
     requires { count ≤ MAX_LEAVES }
-    ensures { number_of result ≡ each length (leaf_fields layout (greatest + 1) level count s.now c.at) }
+    ensures { parse_of result ≡ each length (leaf_fields layout (greatest + 1) level count s.now c.at) }
 {
     let mut least: u64 = 0;
     let mut next = c;
-    let mut i: usize = 0;
-    while i < count {
-        let field = read_above(s, next, layout, level, greatest, least);
-        let Number::Value(offset, after) = field else {
+    for _ in 0..count {
+        let Ok((offset, after)) = read_above(s, next, layout, level, greatest, least) else {
             return read_leaves(s, c, layout, level, greatest, count);
         };
         if offset == 18446744073709551615 {
@@ -98,24 +94,19 @@ fn read_rising(
         }
         least = offset + 1;
         next = after;
-        i += 1;
     }
-    Number::Value(i as u64, next)
+    Ok((count as u64, next))
 }
 
 // A level: the answer is how many leaves it has.
-fn read_level(s: &[u8], c: Cursor, layout: Layout, level: u64, greatest: u64) -> Number
-    ensures { number_of result ≡ each length (level_field layout (greatest + 1) level s.now c.at) }
+fn read_level(s: &[u8], c: Cursor, layout: Layout, level: u64, greatest: u64) -> Read<u64>
+    ensures { parse_of result ≡ each length (level_field layout (greatest + 1) level s.now c.at) }
 {
-    let at = c.at;
-    let field = read_varint(s, c);
-    let Number::Value(count, next) = field else {
-        return field;
-    };
+    let (count, next) = read_varint(s, c)?;
     if (Layout::MAX_LEAVES as u64) < count {
-        return Number::Refused(ReadRefusal {
-            number: OVER_LIMIT,
-            place: at,
+        return Err(ReadRefusal {
+            refusal: Refusal::OverLimit,
+            place: c.at,
         });
     }
     read_rising(s, next, layout, level, greatest, count as usize)
@@ -152,30 +143,25 @@ pub fn level_in_turn(layout: Layout, height: u64, i: u64) -> u64
     }
 }
 
-fn read_in_turn(s: &[u8], c: Cursor, layout: Layout, height: u64, i: u64) -> Number
+fn read_in_turn(s: &[u8], c: Cursor, layout: Layout, height: u64, i: u64) -> Read<u64>
     requires { (i < height) × (height ≤ MAX_HEIGHT) }
-    ensures { number_of result ≡ each length (level_in_turn layout height i s.now c.at) }
+    ensures { parse_of result ≡ each length (level_in_turn layout height i s.now c.at) }
 {
     let level = level_in_turn(layout, height, i);
     read_level(s, c, layout, level, greatest_of(height - level))
 }
 
 // The levels of a tree: the answer is how many leaves they have.
-pub(crate) fn read_levels(s: &[u8], c: Cursor, layout: Layout, height: u64) -> Number
+pub(crate) fn read_levels(s: &[u8], c: Cursor, layout: Layout, height: u64) -> Read<u64>
     requires { height ≤ MAX_HEIGHT }
-    ensures { number_of result ≡ each total (level_fields layout height s.now c.at) }
+    ensures { parse_of result ≡ each total (level_fields layout height s.now c.at) }
 {
     let mut leaves: u64 = 0;
     let mut next = c;
-    let mut i: u64 = 0;
-    while i < height {
-        let field = read_in_turn(s, next, layout, height, i);
-        let Number::Value(count, after) = field else {
-            return field;
-        };
+    for i in 0..height {
+        let (count, after) = read_in_turn(s, next, layout, height, i)?;
         leaves += count;
         next = after;
-        i += 1;
     }
-    Number::Value(leaves, next)
+    Ok((leaves, next))
 }

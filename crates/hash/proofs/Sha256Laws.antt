@@ -1,5 +1,5 @@
 -- Laws of double SHA-256 for callers: the length and the bytes of a digest, and what the hash call answers.
-use Rattle.std.proofs.Common.{◌≡◌, ℕ, zero, suc, ◌*◌, ◌/◌, ◌%◌, ◌^◌, ◌<◌, ◌≤◌, List, [], ◌∷◌, ◌++◌, length, get_or, replicate, refl, arith, le-leb}
+use Rattle.std.proofs.Common.{Some, None, ◌≡◌, ℕ, zero, suc, ◌*◌, ◌/◌, ◌%◌, ◌^◌, ◌<◌, ◌≤◌, List, [], ◌∷◌, ◌++◌, length, get_or, refl, arith, le-leb}
 use borrow.Author.Tests.{lt-leb}
 use Rattle.hash.specs.declared.compress.State.{State}
 use Rattle.hash.specs.Sha256.{big_endian, hash_value, digest, sha256, sha256d, MAX_INPUT, hashed}
@@ -36,10 +36,10 @@ pub sha256d-bytes : (m : List ℕ) (i : ℕ) → get_or (sha256d m) i 0 < 256
 unfolding sha256d sha256
 sha256d-bytes m i = bytes_below (digest-bytes (hash_value (digest (hash_value m)))) i
 
-pub hashed-accepted : (m : List ℕ) → length m ≤ MAX_INPUT → hashed m ≡ record { number = 0; place = 0; digest = sha256d m }
+pub hashed-accepted : (m : List ℕ) → length m ≤ MAX_INPUT → hashed m ≡ Some (sha256d m)
 unfolding hashed
 hashed-accepted m h = simp (le-leb (length m) MAX_INPUT h)
 
-pub hashed-refused : (m : List ℕ) → MAX_INPUT < length m → hashed m ≡ record { number = 1; place = 0; digest = replicate 32 0 }
+pub hashed-refused : (m : List ℕ) → MAX_INPUT < length m → hashed m ≡ None
 unfolding hashed
 hashed-refused m h = simp (lt-leb (length m) MAX_INPUT h)

@@ -5,8 +5,6 @@ ghost use Rattle.hash.specs.Sha256 as F;
 ghost use Rattle.hash.specs.Sha256.{◌⊞◌};
 ghost use Rattle.hash.specs.Parts as P;
 
-use std::num::wrapping_add_u32;
-
 // The eight words of a hash value, or the eight working variables.
 #[derive(Clone, Copy)]
 pub struct State {
@@ -177,13 +175,13 @@ pub const PADDING3: [u32; 16] = [
 fn big_sigma0(x: u32) -> u32
     ensures { result ≡ F.Σ0 x }
 {
-    ((x >> 2) | (x << 30)) ^ ((x >> 13) | (x << 19)) ^ ((x >> 22) | (x << 10))
+    x.rotate_right(2) ^ x.rotate_right(13) ^ x.rotate_right(22)
 }
 
 fn big_sigma1(x: u32) -> u32
     ensures { result ≡ F.Σ1 x }
 {
-    ((x >> 6) | (x << 26)) ^ ((x >> 11) | (x << 21)) ^ ((x >> 25) | (x << 7))
+    x.rotate_right(6) ^ x.rotate_right(11) ^ x.rotate_right(25)
 }
 
 // Without rotations: the compiler then makes several words at once.
@@ -215,30 +213,29 @@ fn maj(x: u32, y: u32, z: u32) -> u32
 fn next_word(w2: u32, w7: u32, w15: u32, w16: u32) -> u32
     ensures { result ≡ F.σ1 w2 ⊞ w7 ⊞ F.σ0 w15 ⊞ w16 }
 {
-    wrapping_add_u32(
-        wrapping_add_u32(wrapping_add_u32(small_sigma1(w2), w7), small_sigma0(w15)),
-        w16,
-    )
+    small_sigma1(w2)
+        .wrapping_add(w7)
+        .wrapping_add(small_sigma0(w15))
+        .wrapping_add(w16)
 }
 
 // One turn of step 3.
 fn round(s: State, k: u32, w: u32) -> State
     ensures { result ≡ F.round s k w }
 {
-    let t1 = wrapping_add_u32(
-        wrapping_add_u32(
-            wrapping_add_u32(wrapping_add_u32(s.h, big_sigma1(s.e)), ch(s.e, s.f, s.g)),
-            k,
-        ),
-        w,
-    );
-    let t2 = wrapping_add_u32(big_sigma0(s.a), maj(s.a, s.b, s.c));
+    let t1 = s
+        .h
+        .wrapping_add(big_sigma1(s.e))
+        .wrapping_add(ch(s.e, s.f, s.g))
+        .wrapping_add(k)
+        .wrapping_add(w);
+    let t2 = big_sigma0(s.a).wrapping_add(maj(s.a, s.b, s.c));
     State {
-        a: wrapping_add_u32(t1, t2),
+        a: t1.wrapping_add(t2),
         b: s.a,
         c: s.b,
         d: s.c,
-        e: wrapping_add_u32(s.d, t1),
+        e: s.d.wrapping_add(t1),
         f: s.e,
         g: s.f,
         h: s.g,
@@ -250,14 +247,14 @@ fn plus(s: State, t: State) -> State
     ensures { result ≡ F.plus s t }
 {
     State {
-        a: wrapping_add_u32(s.a, t.a),
-        b: wrapping_add_u32(s.b, t.b),
-        c: wrapping_add_u32(s.c, t.c),
-        d: wrapping_add_u32(s.d, t.d),
-        e: wrapping_add_u32(s.e, t.e),
-        f: wrapping_add_u32(s.f, t.f),
-        g: wrapping_add_u32(s.g, t.g),
-        h: wrapping_add_u32(s.h, t.h),
+        a: s.a.wrapping_add(t.a),
+        b: s.b.wrapping_add(t.b),
+        c: s.c.wrapping_add(t.c),
+        d: s.d.wrapping_add(t.d),
+        e: s.e.wrapping_add(t.e),
+        f: s.f.wrapping_add(t.f),
+        g: s.g.wrapping_add(t.g),
+        h: s.h.wrapping_add(t.h),
     }
 }
 
@@ -275,7 +272,7 @@ fn sums(k: [u32; 16], w: [u32; 16]) -> [u32; 16]
 {
     let mut x = w;
     for t in 0..16 {
-        x[t] = wrapping_add_u32(k[t], w[t]);
+        x[t] = k[t].wrapping_add(w[t]);
     }
     x
 }
@@ -284,7 +281,7 @@ fn stage_of(s: State, w: [u32; 16], k: [u32; 16]) -> Stage
     ensures { result ≡ P.stage s w k }
 {
     let x = sums(k, w);
-    Stage { s: s, w: w, x: x }
+    Stage { s, w, x }
 }
 
 // The stage sixteen rounds on, where k are the constants of its words. A word takes the place of the one sixteen before it.

@@ -2,7 +2,7 @@
 use Rattle.std.proofs.Common.{◌≡◌, ℕ, zero, suc, ◌+◌, ◌-◌, ◌*◌, ◌/◌, ◌<◌, ◌≤◌, Bool, true, false, cond, leb, List, [], ◌∷◌, ◌++◌, length, get_or, take, set, sym, refl, ap, ◌∙◌, ap₂, add-one, arith, take_all, take-suc, le-leb, leb-false, leb-true}
 use borrow.Author.Tests.{lt-leb}
 use Rattle.hash.specs.declared.compress.State.{State}
-use Rattle.hash.specs.Sha256.{pad, words, digest, compress, H0, H, hash_value, sha256, sha256d, hashed, MAX_INPUT}
+use Rattle.hash.specs.Sha256.{pad, words, digest, compress, H0, H, hash_value, sha256, sha256d, digest_or_zeros, MAX_INPUT}
 use Rattle.hash.proofs.Sha256Laws.{hashed-accepted}
 use Rattle.hash.specs.Parts.{blocks, block_of}
 use Rattle.hash.proofs.Words.{grow, words_same}
@@ -11,31 +11,8 @@ use Rattle.hash.proofs.Digests.{digest-hashed}
 use Rattle.lanes.specs.declared.compress.Four.{Four}
 use Rattle.lanes.specs.declared.compress.State4.{State4}
 use Rattle.lanes.specs.declared.messages.Counts.{Counts}
-use Rattle.lanes.specs.Lanes.{in_lane, word_in, node, nodes, lane, lanes, value, digest_words, four, count, before_end, larger, after}
+use Rattle.lanes.specs.Lanes.{in_lane, word_in, node, nodes, lane, lanes, value, digest_words, four, count, before_end, after}
 use Rattle.lanes.proofs.SideBySide.{lane-all, lane-map, lanes-length, lanes-set, compress-block}
-
--- The larger of two, and of four.
-pub larger_right : (x y : ℕ) → x ≤ y → y ≡ larger x y
-unfolding larger
-larger_right x y h = simp (le-leb x y h)
-
-pub larger-left : (x y : ℕ) → y < x → x ≡ larger x y
-unfolding larger
-larger-left x y h = simp (lt-leb x y h)
-
-both_fit : (x y k : ℕ) → larger x y ≤ k → (x ≤ k) × (y ≤ k)
-both_fit x y k h = by (leb x y) refl
-  where
-    by : (b : Bool) → leb x y ≡ b → (x ≤ k) × (y ≤ k)
-    by true e = let l = leb-true x y e in let g = larger_right x y l in (omega arith, omega arith)
-    by false e = let l = leb-false x y e in let g = larger-left x y l in (omega arith, omega arith)
-
-pub four_fit : (x y z u k : ℕ) → larger (larger x y) (larger z u) ≤ k → (x ≤ k) × (y ≤ k) × (z ≤ k) × (u ≤ k)
-four_fit x y z u k h =
-    let g = both_fit (larger x y) (larger z u) k h in
-    let p = both_fit x y k g.0 in
-    let q = both_fit z u k g.1 in
-    (p.0, p.1, q.0, q.1)
 
 -- The new value, or the old one: of words, and of hash values.
 pub before-end_new : {A : Type 0} (n i : ℕ) (x y : A) → i < n → x ≡ before_end n i x y
@@ -170,12 +147,12 @@ hashed-twice m y z ey ez =
     let f = compress-block (H (pad m) ((length m + 72) / 64 - 1)) (words (pad m) (64 * ((length m + 72) / 64 - 1)) 16) in
     cc (e, f, digest-hashed y)
 
-pub one_by_one : (l : ℕ) (a b c d : List ℕ) → node l (nodes (hashed a).digest (hashed b).digest (hashed c).digest (hashed d).digest) ≡ (hashed (in_lane l a b c d)).digest
+pub one_by_one : (l : ℕ) (a b c d : List ℕ) → node l (nodes (digest_or_zeros a) (digest_or_zeros b) (digest_or_zeros c) (digest_or_zeros d)) ≡ digest_or_zeros (in_lane l a b c d)
 unfolding node nodes
-one_by_one l a b c d = lane-map (λ (m : List ℕ). (hashed m).digest) l a b c d
+one_by_one l a b c d = lane-map digest_or_zeros l a b c d
 
 pub lane-accepted : (l : ℕ) (a b c d : List ℕ) → length a ≤ MAX_INPUT → length b ≤ MAX_INPUT → length c ≤ MAX_INPUT → length d ≤ MAX_INPUT
-    → sha256d (in_lane l a b c d) ≡ (hashed (in_lane l a b c d)).digest
+    → sha256d (in_lane l a b c d) ≡ digest_or_zeros (in_lane l a b c d)
 lane-accepted l a b c d ha hb hc hd =
     let h : length (in_lane l a b c d) ≤ MAX_INPUT = lane-all (λ (m : List ℕ). length m ≤ MAX_INPUT) l ha hb hc hd in
     rw (hashed-accepted (in_lane l a b c d) h)

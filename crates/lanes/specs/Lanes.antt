@@ -58,15 +58,12 @@ digest_words s = s.a ∷ s.b ∷ s.c ∷ s.d ∷ s.e ∷ s.f ∷ s.g ∷ s.h ∷
 abbrev pub Fit : List ℕ → List ℕ → List ℕ → List ℕ → Type 0
 Fit a b c d = (length a ≤ MAX_INPUT) × (length b ≤ MAX_INPUT) × (length c ≤ MAX_INPUT) × (length d ≤ MAX_INPUT)
 
--- Of four messages: the number in lane i; the new value, or the old one where i has reached n; the larger number.
+-- Of four messages: the number in lane i; the new value, or the old one where i has reached n.
 unfoldable pub count : ℕ → Counts → ℕ
 count i n = in_lane i n.a n.b n.c n.d
 
 unfoldable pub before_end : {A : Type 0} → ℕ → ℕ → A → A → A
 before_end n i new old = cond (nat_le n i) old new
-
-unfoldable pub larger : ℕ → ℕ → ℕ
-larger x y = cond (nat_le x y) y x
 
 -- The hash value after i blocks of a padded message, or after all where it has fewer.
 unfoldable pub after : List ℕ → ℕ → State

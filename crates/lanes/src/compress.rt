@@ -6,9 +6,8 @@ ghost use Rattle.hash.specs.Parts as P;
 ghost use Rattle.lanes.specs.Lanes as L;
 
 use hash::{K0, K1, K2, K3, PADDING0, PADDING1, PADDING2, PADDING3};
-use std::num::wrapping_add_u32;
 
-// Four words side by side.
+// Four words side by side. Fields, not an array, which compiles to the same: an operation in each lane then needs no loop with an invariant.
 #[derive(Clone, Copy)]
 pub struct Four {
     pub a: u32,
@@ -45,10 +44,10 @@ fn plus(x: Four, y: Four) -> Four
     ensures { result ≡ L.lanewise2 ◌⊞◌ x y }
 {
     Four {
-        a: wrapping_add_u32(x.a, y.a),
-        b: wrapping_add_u32(x.b, y.b),
-        c: wrapping_add_u32(x.c, y.c),
-        d: wrapping_add_u32(x.d, y.d),
+        a: x.a.wrapping_add(y.a),
+        b: x.b.wrapping_add(y.b),
+        c: x.c.wrapping_add(y.c),
+        d: x.d.wrapping_add(y.d),
     }
 }
 
@@ -186,25 +185,17 @@ fn next_sixteen(m: [Four; 16]) -> [Four; 16]
 fn round(s: State4, x: Four) -> State4
     ensures { (i : ℕ) → L.lane i result ≡ F.round (L.lane i s) (L.word_in i x) 0 }
 {
-    let a = s.a;
-    let b = s.b;
-    let c = s.c;
-    let d = s.d;
-    let e = s.e;
-    let f = s.f;
-    let g = s.g;
-    let h = s.h;
-    let t1 = plus(plus(plus(h, big_sigma1s(e)), chs(e, f, g)), x);
-    let t2 = plus(big_sigma0s(a), majs(a, b, c));
+    let t1 = plus(plus(plus(s.h, big_sigma1s(s.e)), chs(s.e, s.f, s.g)), x);
+    let t2 = plus(big_sigma0s(s.a), majs(s.a, s.b, s.c));
     State4 {
         a: plus(t1, t2),
-        b: a,
-        c: b,
-        d: c,
-        e: plus(d, t1),
-        f: e,
-        g: f,
-        h: g,
+        b: s.a,
+        c: s.b,
+        d: s.c,
+        e: plus(s.d, t1),
+        f: s.e,
+        g: s.f,
+        h: s.g,
     }
 }
 

@@ -5,7 +5,7 @@ ghost use Rattle.hash.specs.Parts as P;
 ghost use Rattle.lanes.specs.Lanes as L;
 
 use super::compress::{Four, State4, all, compress4};
-use super::{Nodes, digest_block, digests, initial, side_by_side, word};
+use super::{Nodes, apart, digest_block, digests, initial, side_by_side, word_at};
 use hash::{MAX_INPUT, State, block_of, compressed, sha256d};
 
 // How many blocks the message of each lane has.
@@ -15,16 +15,6 @@ struct Counts {
     b: usize,
     c: usize,
     d: usize,
-}
-
-fn larger(x: usize, y: usize) -> usize
-    ensures { result ≡ L.larger x y }
-{
-    if x <= y { y } else { x }
-}
-
-fn smaller(x: usize, y: usize) -> usize {
-    if x <= y { x } else { y }
 }
 
 fn count(s: &[u8]) -> usize
@@ -48,10 +38,9 @@ fn count4(a: &[u8], b: &[u8], c: &[u8], d: &[u8]) -> Counts
 
 // The third largest: in lanes two messages take as long as one by one.
 fn shared(n: Counts) -> usize {
-    smaller(
-        larger(smaller(n.a, n.b), smaller(n.c, n.d)),
-        smaller(larger(n.a, n.b), larger(n.c, n.d)),
-    )
+    let (low, high) = (n.a.min(n.b), n.a.max(n.b));
+    let (lower, higher) = (n.c.min(n.d), n.c.max(n.d));
+    low.max(lower).min(high.min(higher))
 }
 
 // Four blocks, side by side.
@@ -71,23 +60,16 @@ fn columns(a: [u32; 16], b: [u32; 16], c: [u32; 16], d: [u32; 16]) -> [Four; 16]
     w
 }
 
-// The word at a byte of a message, and of four.
-fn word_in(s: &[u8], at: usize) -> u32
-    requires { at + 4 ≤ length s.now }
-    ensures { result ≡ F.word s.now at }
-{
-    word(s[at], s[at + 1], s[at + 2], s[at + 3])
-}
-
+// The words at a byte of four messages.
 fn words_in(a: &[u8], b: &[u8], c: &[u8], d: &[u8], at: usize) -> Four
     requires { (at + 4 ≤ length a.now) × (at + 4 ≤ length b.now) × (at + 4 ≤ length c.now) × (at + 4 ≤ length d.now) }
     ensures { (l : ℕ) → L.word_in l result ≡ F.word (L.in_lane l a.now b.now c.now d.now) at }
 {
     Four {
-        a: word_in(a, at),
-        b: word_in(b, at),
-        c: word_in(c, at),
-        d: word_in(d, at),
+        a: word_at(a, at),
+        b: word_at(b, at),
+        c: word_at(c, at),
+        d: word_at(d, at),
     }
 }
 
@@ -108,14 +90,8 @@ fn blocks(a: &[u8], b: &[u8], c: &[u8], d: &[u8], i: usize) -> [Four; 16]
     requires { L.Fit a.now b.now c.now d.now }
     ensures { (l : ℕ) → L.lanes l result ≡ P.block_of (L.in_lane l a.now b.now c.now d.now) i }
 {
-    if i < a.len() / 64 {
-        if i < b.len() / 64 {
-            if i < c.len() / 64 {
-                if i < d.len() / 64 {
-                    return blocks_in(a, b, c, d, 64 * i);
-                }
-            }
-        }
+    if i < a.len() / 64 && i < b.len() / 64 && i < c.len() / 64 && i < d.len() / 64 {
+        return blocks_in(a, b, c, d, 64 * i);
     }
     columns(
         block_of(a, i),
@@ -163,14 +139,8 @@ fn before_end(new: State4, old: State4, n: Counts, i: usize) -> State4
 fn kept_where_done(new: State4, old: State4, n: Counts, i: usize) -> State4
     ensures { (l : ℕ) → L.lane l result ≡ L.before_end (L.count l n) i (L.lane l new) (L.lane l old) }
 {
-    if i < n.a {
-        if i < n.b {
-            if i < n.c {
-                if i < n.d {
-                    return new;
-                }
-            }
-        }
+    if i < n.a && i < n.b && i < n.c && i < n.d {
+        return new;
     }
     before_end(new, old, n, i)
 }
@@ -200,21 +170,6 @@ fn finish(m: &[u8], from: usize, s: State) -> State
         h = compressed(h, block_of(m, i));
     }
     h
-}
-
-fn value(a: u32, b: u32, c: u32, d: u32, e: u32, f: u32, g: u32, h: u32) -> State
-    ensures { result ≡ L.value a b c d e f g h }
-{
-    State {
-        a: a,
-        b: b,
-        c: c,
-        d: d,
-        e: e,
-        f: f,
-        g: g,
-        h: h,
-    }
 }
 
 fn row(p: u32, q: u32, x: u32, y: u32) -> Four
@@ -249,27 +204,13 @@ fn finish4(a: &[u8], b: &[u8], c: &[u8], d: &[u8], from: usize, h: State4) -> St
     requires { L.Fit a.now b.now c.now d.now × ((l : ℕ) → L.lane l h ≡ L.after (L.in_lane l a.now b.now c.now d.now) from) }
     ensures { (l : ℕ) → L.lane l result ≡ F.hash_value (L.in_lane l a.now b.now c.now d.now) }
 {
-    let p = finish(
-        a,
-        from,
-        value(h.a.a, h.b.a, h.c.a, h.d.a, h.e.a, h.f.a, h.g.a, h.h.a),
-    );
-    let q = finish(
-        b,
-        from,
-        value(h.a.b, h.b.b, h.c.b, h.d.b, h.e.b, h.f.b, h.g.b, h.h.b),
-    );
-    let x = finish(
-        c,
-        from,
-        value(h.a.c, h.b.c, h.c.c, h.d.c, h.e.c, h.f.c, h.g.c, h.h.c),
-    );
-    let y = finish(
-        d,
-        from,
-        value(h.a.d, h.b.d, h.c.d, h.d.d, h.e.d, h.f.d, h.g.d, h.h.d),
-    );
-    values(p, q, x, y)
+    let (p, q, x, y) = apart(h);
+    values(
+        finish(a, from, p),
+        finish(b, from, q),
+        finish(c, from, x),
+        finish(d, from, y),
+    )
 }
 
 // The double hashes of messages, none over the input size.
@@ -284,24 +225,26 @@ fn hashes(a: &[u8], b: &[u8], c: &[u8], d: &[u8]) -> Nodes
 
 // Of any size, without lanes.
 fn one_by_one(a: &[u8], b: &[u8], c: &[u8], d: &[u8]) -> Nodes
-    ensures { (l : ℕ) → L.node l result ≡ (F.hashed (L.in_lane l a.now b.now c.now d.now)).digest }
+    ensures { (l : ℕ) → L.node l result ≡ F.digest_or_zeros (L.in_lane l a.now b.now c.now d.now) }
 {
-    let p = sha256d(a);
-    let q = sha256d(b);
-    let x = sha256d(c);
-    let y = sha256d(d);
-    let p32 = p.digest;
-    let q32 = q.digest;
-    let x32 = x.digest;
-    let y32 = y.digest;
-    side_by_side(p32, q32, x32, y32)
+    let zeros = [0; 32];
+    side_by_side(
+        sha256d(a).unwrap_or(zeros),
+        sha256d(b).unwrap_or(zeros),
+        sha256d(c).unwrap_or(zeros),
+        sha256d(d).unwrap_or(zeros),
+    )
 }
 
 // The double hashes of four messages; zeros for one over the input size.
 pub fn sha256d4(a: &[u8], b: &[u8], c: &[u8], d: &[u8]) -> Nodes
-    ensures { (l : ℕ) → L.node l result ≡ (F.hashed (L.in_lane l a.now b.now c.now d.now)).digest }
+    ensures { (l : ℕ) → L.node l result ≡ F.digest_or_zeros (L.in_lane l a.now b.now c.now d.now) }
 {
-    if larger(larger(a.len(), b.len()), larger(c.len(), d.len())) <= MAX_INPUT {
+    if a.len() <= MAX_INPUT
+        && b.len() <= MAX_INPUT
+        && c.len() <= MAX_INPUT
+        && d.len() <= MAX_INPUT
+    {
         hashes(a, b, c, d)
     } else {
         one_by_one(a, b, c, d)

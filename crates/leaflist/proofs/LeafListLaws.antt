@@ -1,4 +1,5 @@
 -- Laws of the list of leaves: its levels by their bytes, one by one.
+use Rattle.std.proofs.Common.{Option, Some, None}
 use mathlib.Core.Path.{◌≡◌, refl, ap, sym, ◌∙◌}
 use mathlib.Core.List.{List, [], ◌∷◌, ◌++◌, map}
 use mathlib.Core.Bool.{Bool, true, false}
@@ -15,8 +16,6 @@ use Rattle.format.specs.Refusals.{MAX_LEAVES}
 use Rattle.format.specs.Level.{level_of_turn, level_in_turn, next_turn}
 use Rattle.path.proofs.UncheckedLaws.{level_unchecked}
 use Rattle.levels.specs.Places.{offset_at, level_leaves, next_level}
-use Rattle.levels.specs.declared.level.Place.{Place}
-use Rattle.levels.specs.declared.level.Place.TheVariants.{At, Nowhere}
 use Rattle.levels.specs.Order.{sorted, locate}
 use Rattle.levels.proofs.OrderLaws.{Distinct, locate-sorted}
 use Rattle.leaflist.specs.LeafList.{Row, row_at, list_from, level_place, find_row}
@@ -38,9 +37,9 @@ module _ (s : List ℕ) where
 
   -- ---- the search among rows
 
-  unfoldable pub or_place : Place → Place → Place
-  or_place (At p) q = At p
-  or_place Nowhere q = q
+  unfoldable pub or_place : Option ℕ → Option ℕ → Option ℕ
+  or_place (Some p) q = Some p
+  or_place None q = q
 
   rows-here : (k o : ℕ) (ps : List ℕ) (rest : List Row) → find_row k o (map (row_at s k) ps ++ rest) ≡ or_place (locate (offset_at s) o ps) (find_row k o rest)
   unfolding find_row locate or_place
@@ -48,7 +47,7 @@ module _ (s : List ℕ) where
   rows-here k o (p ∷ ps) rest = rw (eq-eqb k k refl) (go (eqb (offset_at s p) o) (rows-here k o ps rest))
     where
       go : (b : Bool) → find_row k o (map (row_at s k) ps ++ rest) ≡ or_place (locate (offset_at s) o ps) (find_row k o rest)
-          → pick b (At p) (find_row k o (map (row_at s k) ps ++ rest)) ≡ or_place (pick b (At p) (locate (offset_at s) o ps)) (find_row k o rest)
+          → pick b (Some p) (find_row k o (map (row_at s k) ps ++ rest)) ≡ or_place (pick b (Some p) (locate (offset_at s) o ps)) (find_row k o rest)
       go true r = refl
       go false r = r
 
@@ -57,17 +56,17 @@ module _ (s : List ℕ) where
   rows_other i k o [] rest h = refl
   rows_other i k o (p ∷ ps) rest h = rw (ne_eqb i k h) (rows_other i k o ps rest h)
 
-  below : (n i at k o : ℕ) → k < i → find_row k o (list_from s n i at) ≡ Nowhere
+  below : (n i at k o : ℕ) → k < i → find_row k o (list_from s n i at) ≡ None
   unfolding find_row list_from
   below zero i at k o h = refl
   below (suc n) i at k o h = rows_other i k o (sorted (offset_at s) (level_leaves s at)) (list_from s n (i + 1) (next_level s at)) (λ e. omega arith) ∙ below n (i + 1) (next_level s at) k o (omega arith)
 
-  or_nowhere : (p : Place) → or_place p Nowhere ≡ p
+  or_nowhere : (p : Option ℕ) → or_place p None ≡ p
   unfolding or_place
-  or_nowhere (At p) = refl
-  or_nowhere Nowhere = refl
+  or_nowhere (Some p) = refl
+  or_nowhere None = refl
 
-  pub list-found : (n i at j k o : ℕ) → k ≡ i + j → find_row k o (list_from s n i at) ≡ pick (ltb j n) (locate (offset_at s) o (level_leaves s (level_place s j at))) Nowhere
+  pub list-found : (n i at j k o : ℕ) → k ≡ i + j → find_row k o (list_from s n i at) ≡ pick (ltb j n) (locate (offset_at s) o (level_leaves s (level_place s j at))) None
   unfolding find_row list_from level_place
   list-found zero i at j k o e = rw (le-ltb j zero (omega arith)) refl
   list-found (suc n) i at zero k o e =
@@ -81,7 +80,7 @@ module _ (s : List ℕ) where
   list-found (suc n) i at (suc j) k o e =
       rows_other i k o (sorted (offset_at s) (level_leaves s at)) (list_from s n (i + 1) (next_level s at)) (λ g. omega arith)
       ∙ list-found n (i + 1) (next_level s at) j k o (omega arith)
-      ∙ ap (λ (b : Bool). pick b (locate (offset_at s) o (level_leaves s (level_place s j (next_level s at)))) Nowhere) (one_down j n)
+      ∙ ap (λ (b : Bool). pick b (locate (offset_at s) o (level_leaves s (level_place s j (next_level s at)))) None) (one_down j n)
     where
       one_down : (j n : ℕ) → ltb j n ≡ ltb (suc j) (suc n)
       one_down j n = down (ltb j n) refl

@@ -1,5 +1,6 @@
 -- The list of leaves, of a BUMP that was read: the search over it finds the place of the leaf that the plain search finds; every leaf stands in it once,
 -- and nothing else; it rises.
+use Rattle.std.proofs.Common.{Option, Some, None}
 use mathlib.Core.Path.{◌≡◌, refl, ap, sym, ◌∙◌}
 use mathlib.Core.List.{List, [], ◌∷◌, ◌++◌, map}
 use mathlib.Core.Bool.{Bool, true, false, ◌&&◌, ◌||◌, false≢true}
@@ -19,8 +20,6 @@ use Rattle.format.proofs.BumpLaws.{bump-whole-told}
 use Rattle.path.specs.Path.{leaf_in, bump_path, bump_path_of}
 use Rattle.path.proofs.PathLaws.{bump-leaf_in, past-layers}
 use Rattle.levels.specs.Places.{offset_at, level_leaves, next_level, leaf_there}
-use Rattle.levels.specs.declared.level.Place.{Place}
-use Rattle.levels.specs.declared.level.Place.TheVariants.{At, Nowhere}
 use Rattle.levels.specs.Order.{sorted, locate}
 use Rattle.levels.proofs.OrderLaws.{Rises, rises_sorted, sorted-length}
 use Rattle.levels.specs.Runs.{From}
@@ -59,9 +58,9 @@ count r [] = 0
 count r (t ∷ l) = one (same_row r t) + count r l
 
 -- the leaf stands at this place
-unfoldable pub is_at : Place → ℕ → Bool
-is_at (At p) q = eqb p q
-is_at Nowhere q = false
+unfoldable pub is_at : Option ℕ → ℕ → Bool
+is_at (Some p) q = eqb p q
+is_at None q = false
 
 -- ---- rising
 
@@ -155,7 +154,7 @@ count-found r [] a = refl
 count-found r (t ∷ l) a = go (eqb t.level r.level && eqb t.offset r.offset) refl (count-found r l a.1)
   where
     go : (b : Bool) → (eqb t.level r.level && eqb t.offset r.offset) ≡ b → count r l ≡ one (is_at (find_row r.level r.offset l) r.place)
-        → one (b && eqb t.place r.place) + count r l ≡ one (is_at (pick b (At t.place) (find_row r.level r.offset l)) r.place)
+        → one (b && eqb t.place r.place) + count r l ≡ one (is_at (pick b (Some t.place) (find_row r.level r.offset l)) r.place)
     go true e i =
         let f = and-true (eqb t.level r.level) (eqb t.offset r.offset) e in
         let g = alike (eqb-true t.level r.level f.0) (eqb-true t.offset r.offset f.1) in
@@ -176,7 +175,7 @@ module _ (s : List ℕ) {b : Bump} {q : ℕ} (e : bump_whole s ≡ ok b q) where
   unfolding place_in leaf_there bump_path_of
   plain-search k o = go (ltb k b.height) refl
     where
-      go : (t : Bool) → ltb k b.height ≡ t → leaf_there s (pick t (locate (offset_at s) o (level_leaves s (level_place s k b.start))) Nowhere) ≡ leaf_in s (bump_path s b) k o
+      go : (t : Bool) → ltb k b.height ≡ t → leaf_there s (pick t (locate (offset_at s) o (level_leaves s (level_place s k b.start))) None) ≡ leaf_in s (bump_path s b) k o
       go true f = let h = ltb-true k b.height f in found_from s b.height b.start b.levels k o read h ∙ sym (bump-leaf_in s b (bump-whole-told s e) k o h)
       go false f = let h = ltb-false k b.height f in sym (past-layers s (bump_path s b) k o (omega arith))
 
@@ -191,7 +190,7 @@ module _ (s : List ℕ) {b : Bump} {q : ℕ} (e : bump_whole s ≡ ok b q) where
 
   -- every leaf stands in the list once, and nothing else does
   pub listed-once : (r : Row) → count r (leaf_list s b) ≡ one (is_at (place_in s b r.level r.offset) r.place)
-  listed-once r = count-found r (leaf_list s b) rising ∙ ap (λ (p : Place). one (is_at p r.place)) (list-search r.level r.offset)
+  listed-once r = count-found r (leaf_list s b) rising ∙ ap (λ (p : Option ℕ). one (is_at p r.place)) (list-search r.level r.offset)
 
   pub listed-all : length (leaf_list s b) ≡ total b.levels
   listed-all = length_from s b.height 0 b.start b.levels read

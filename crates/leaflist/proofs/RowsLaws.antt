@@ -1,4 +1,5 @@
 -- Laws of making the list.
+use Rattle.std.proofs.Common.{Ok}
 use mathlib.Core.Path.{◌≡◌, refl, ap, sym, ◌∙◌}
 use mathlib.Core.List.{List, [], ◌∷◌, ◌++◌, map, append_assoc}
 use Prim.Native.Nat.{ℕ, zero, suc, ◌+◌, ◌-◌, ◌*◌, ◌/◌, ◌<◌, ◌≤◌}
@@ -13,13 +14,12 @@ use Rattle.format.specs.declared.bump.BumpHead.{BumpHead}
 use Rattle.format.proofs.Basics.{one_less}
 use Rattle.format.specs.Parse.{each, ok, fault}
 use Rattle.format.proofs.ParseLaws.{each-ok, each-fault}
-use Rattle.format.specs.Refusals.{NO_ROOM}
+use Rattle.format.specs.Refusals.{NO_ROOM, refusal_number}
 use Rattle.format.specs.Bump.{Bump, bump_whole, head_of}
 use Rattle.spv.specs.declared.rejection.Rejection.{Rejection}
 use Rattle.spv.specs.Result.{Result, accepted, refused, carrying, refused_reading}
 use Rattle.levels.specs.Places.{offset_at, level_leaves}
 use Rattle.leaflist.specs.Rows.{Filling, filling, store, listed_in, put_row, put_rows}
-use Rattle.leaflist.specs.declared.building.Built.{Built}
 use Rattle.levels.specs.Order.{sorted}
 use Rattle.leaflist.specs.LeafList.{Row, row, row_at, list_from, leaf_list, words_of, fitting, building, built_of, words_in}
 use Rattle.leaflist.proofs.LeafListLaws.{Levels}
@@ -125,7 +125,7 @@ pub list_made : (s : List ℕ) {b : Bump} {q : ℕ} → bump_whole s ≡ ok b q 
 list_made s {b} e = list_same s b.height 0 b.start b.levels (read s e)
 
 module _ (s : List ℕ) (room : ℕ) where
-  pub unread : (f : ReadRefusal) → each head_of (bump_whole s) ≡ fault f.number f.place → refused (refused_reading f) ≡ building s room
+  pub unread : (f : ReadRefusal) → each head_of (bump_whole s) ≡ fault (refusal_number f.refusal) f.place → building s room ≡ refused (refused_reading f)
   unfolding building
   unread f e = rw (each-fault head_of (bump_whole s) e) refl
 
@@ -133,14 +133,10 @@ module _ (s : List ℕ) (room : ℕ) where
   unfolding building
   read_is e = rw e refl
 
--- a refusal, as the code answers it and leaves the memory
-pub told-refused : (l : Result (List Row)) (why why' : Rejection) → why' ≡ why → refused why ≡ l → Built.Refused why' ≡ built_of l
-unfolding built_of
-told-refused l why why' e f = rw (← f) (ap Built.Refused e)
-
-pub left-refused : (l : Result (List Row)) (why : Rejection) (w : List ℕ) → refused why ≡ l → w ≡ words_in l w
+-- a refusal leaves the memory as it was
+pub left-refused : (l : Result (List Row)) (why : Rejection) (w : List ℕ) → l ≡ refused why → w ≡ words_in l w
 unfolding words_in
-left-refused l why w f = rw (← f) refl
+left-refused l why w f = rw f refl
 
 module _ (s w : List ℕ) (head : BumpHead) {q : ℕ} (e : each head_of (bump_whole s) ≡ ok head q) where
   abbrev got_it : (b : Bump) × (bump_whole s ≡ ok b q) × (head_of b ≡ head)
@@ -155,9 +151,9 @@ module _ (s w : List ℕ) (head : BumpHead) {q : ℕ} (e : each head_of (bump_wh
   opened : building s (length w / 3) ≡ fitting (length w / 3) all
   opened = read_is s (length w / 3) got_it.1
 
-  pub no_room : length w / 3 < head.leaves → refused (carrying NO_ROOM 0) ≡ building s (length w / 3)
+  pub no_room : length w / 3 < head.leaves → building s (length w / 3) ≡ refused (carrying NO_ROOM 0)
   unfolding fitting
-  no_room h = let c = count in sym (opened ∙ rw (lt-leb (length all) (length w / 3) (omega (arith, c))) refl)
+  no_room h = let c = count in opened ∙ rw (lt-leb (length all) (length w / 3) (omega (arith, c))) refl
 
   module _ (h : head.leaves ≤ length w / 3) (v : List ℕ) (n : ℕ) (g : filling v n ≡ put_rows (filling w 0) (listed_in 1024 s head.height 0 head.levels.at)) where
     fits : length all ≤ length w / 3
@@ -174,9 +170,8 @@ module _ (s w : List ℕ) (head : BumpHead) {q : ℕ} (e : each head_of (bump_wh
         ∙ ap (put_rows (filling w 0)) (list_made s got_it.1)
         ∙ rows_written w all fits
 
-    pub built_count : Built.Leaves n ≡ built_of (building s (length w / 3))
-    unfolding built_of
-    built_count = ap (λ (p : Filling). Built.Leaves p.rows) wrote ∙ sym (ap built_of is)
+    pub built_count : Ok n ≡ built_of (building s (length w / 3))
+    built_count = ap (λ (p : Filling). Ok p.rows) wrote ∙ sym (ap built_of is)
 
     pub built_words : v ≡ words_in (building s (length w / 3)) w
     unfolding words_in

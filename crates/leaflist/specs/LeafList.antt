@@ -1,13 +1,11 @@
 -- A list of a BUMP's leaves (02, Item 14): "a lent list of its leaves by level and offset, with the place of each one's first byte".
-use Rattle.std.specs.Prelude.{List, [], ◌∷◌, ◌++◌, map, ◌&&◌, ℕ, zero, suc, ◌+◌, ◌*◌, ◌/◌, length, drop, leb, ltb, eqb}
+use Rattle.std.specs.Prelude.{List, [], ◌∷◌, ◌++◌, map, ◌&&◌, ℕ, zero, suc, ◌+◌, ◌*◌, ◌/◌, length, drop, leb, ltb, eqb, Option, Some, None, Result as Answer}
 use Rattle.format.specs.Parse.{pick}
 use Rattle.format.specs.Refusals.{NO_ROOM}
 use Rattle.format.specs.Bump.{Bump, bump_whole}
-use Rattle.spv.specs.Result.{Result, accepted, refused, carrying, after_reading}
+use Rattle.spv.specs.declared.rejection.Rejection.{Rejection}
+use Rattle.spv.specs.Result.{Result, accepted, refused, carrying, after_reading, answer_of}
 use Rattle.levels.specs.Places.{offset_at, level_leaves, next_level}
-use Rattle.levels.specs.declared.level.Place.{Place}
-use Rattle.levels.specs.declared.level.Place.TheVariants.{At, Nowhere}
-use Rattle.leaflist.specs.declared.building.Built.{Built}
 use Rattle.levels.specs.Order.{sorted, locate}
 
 -- a leaf by its level, its offset and the place of its first byte
@@ -50,9 +48,8 @@ abbrev pub room_in : List ℕ → ℕ
 room_in w = length w / 3
 
 -- what the code's answer says
-unfoldable pub built_of : Result (List Row) → Built
-built_of (accepted l) = Built.Leaves (length l)
-built_of (refused why) = Built.Refused why
+abbrev pub built_of : Result (List Row) → Answer ℕ Rejection
+built_of = answer_of (λ l. length l)
 
 -- the memory lent: the list, and what was there behind it; on a refusal it stays as it was
 unfoldable pub words_in : Result (List Row) → List ℕ → List ℕ
@@ -67,10 +64,10 @@ level_place s zero at = at
 level_place s (suc k) at = level_place s k (next_level s at)
 
 -- the plain search, by the place of the leaf that it finds: the leaf of level k that has the offset; a level the path doesn't have gives none
-unfoldable pub place_in : List ℕ → Bump → ℕ → ℕ → Place
-place_in s b k o = pick (ltb k b.height) (locate (offset_at s) o (level_leaves s (level_place s k b.start))) Nowhere
+unfoldable pub place_in : List ℕ → Bump → ℕ → ℕ → Option ℕ
+place_in s b k o = pick (ltb k b.height) (locate (offset_at s) o (level_leaves s (level_place s k b.start))) None
 
 -- the search over the list alone
-unfoldable pub find_row : ℕ → ℕ → List Row → Place
-find_row k o [] = Nowhere
-find_row k o (r ∷ l) = pick (eqb r.level k && eqb r.offset o) (At r.place) (find_row k o l)
+unfoldable pub find_row : ℕ → ℕ → List Row → Option ℕ
+find_row k o [] = None
+find_row k o (r ∷ l) = pick (eqb r.level k && eqb r.offset o) (Some r.place) (find_row k o l)

@@ -1,8 +1,8 @@
 -- The list as the code makes it and searches it: levels in order as far as an array has room, rows stored one behind the other.
-use Rattle.std.specs.Prelude.{List, [], ◌∷◌, ◌++◌, map, ℕ, zero, suc, ◌+◌, ◌*◌, ◌/◌, length, set, leb, ltb}
+use Rattle.std.specs.Prelude.{List, [], ◌∷◌, ◌++◌, map, ℕ, zero, suc, ◌+◌, ◌*◌, ◌/◌, length, set, leb}
 use Rattle.format.specs.Parse.{pick}
-use Rattle.leaflist.specs.declared.searching.Side.{Side}
-use Rattle.leaflist.specs.declared.searching.Side.TheVariants.{Before, Here, Behind}
+use Rattle.std.specs.declared.cmp.Ordering.{Ordering}
+use Rattle.std.specs.Ordering.{nat_cmp, ordering_then}
 use Rattle.leaflist.specs.LeafList.{Row, row_at}
 use Rattle.levels.specs.Ordered.{next_in, ordered_in}
 
@@ -31,5 +31,5 @@ put_rows p [] = p
 put_rows p (r ∷ l) = put_rows (put_row p r) l
 
 -- where a row of level k and offset o stands to what is looked for
-unfoldable pub side_of : ℕ → ℕ → ℕ → ℕ → Side
-side_of k o j p = pick (ltb k j) Before (pick (ltb j k) Behind (pick (ltb o p) Before (pick (ltb p o) Behind Here)))
+abbrev pub side_of : ℕ → ℕ → ℕ → ℕ → Ordering
+side_of k o j p = ordering_then (nat_cmp k j) (nat_cmp o p)

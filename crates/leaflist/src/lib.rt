@@ -4,5 +4,5 @@
 mod building;
 mod searching;
 
-pub use building::{Built, build};
+pub use building::build;
 pub use searching::search;

@@ -1,4 +1,5 @@
 -- Laws of the leaves of a level by their places.
+use Rattle.std.proofs.Common.{Some, None}
 use mathlib.Core.Path.{◌≡◌, refl, ap, sym, subst, ◌∙◌}
 use mathlib.Core.List.{List, [], ◌∷◌}
 use mathlib.Core.Bool.{Bool, true, false, not, ◌||◌, false≢true}
@@ -15,14 +16,12 @@ use Rattle.format.specs.Field.{varint}
 use Rattle.format.specs.Refusals.{BAD_OFFSET, REPEATED, OVER_LIMIT, MAX_LEAVES}
 use Rattle.format.specs.Level.{holds, offset_field, carried_field, leaf_field, and_offset, level_field}
 use Rattle.format.proofs.LevelLaws.{holds_snoc}
-use Rattle.path.specs.declared.path.Found.TheVariants.{Here}
 use Rattle.path.specs.Search.{lookup}
 use Rattle.path.specs.Unchecked.{unchecked_carried, unchecked_leaf, unchecked_level}
 use Rattle.path.proofs.UncheckedLaws.{leaf_unchecked}
 use Rattle.path.proofs.SearchLaws.{level-walk}
 use Rattle.encoding.specs.BumpBytes.{carried_of}
 use Rattle.spv.specs.Marks.{after}
-use Rattle.levels.specs.declared.level.Place.TheVariants.{At, Nowhere}
 use Rattle.levels.specs.Places.{offset_at, carried_at, leaf_places, level_leaves, next_level, leaf_there}
 use Rattle.levels.specs.Order.{locate}
 use Rattle.levels.proofs.OrderLaws.{Distinct}
@@ -85,7 +84,7 @@ module _ (s : List ℕ) where
             size = rw f (ap suc g.size);
           }
         where
-          here : (o : ℕ) (b : Bool) → leaf_there s (pick b (At at) (locate (offset_at s) o (leaf_places s n r))) ≡ pick b (Here leaf.kind) (lookup o rest)
+          here : (o : ℕ) (b : Bool) → leaf_there s (pick b (Some at) (locate (offset_at s) o (leaf_places s n r))) ≡ pick b (Some leaf.kind) (lookup o rest)
           here o true = rw f
           here o false = g.found o
 
@@ -107,7 +106,7 @@ module _ (s : List ℕ) where
   seen_or o seen leaf e = holds_snoc o seen leaf.offset ∙ ap (λ (b : Bool). b || eqb o leaf.offset) e
 
   leaves-distinct : (limit level n : ℕ) (seen : List ℕ) (p : ℕ) {l : List Leaf} {q : ℕ} → many (leaf_field Layout.Bump limit level) and_offset n seen s p ≡ ok l q
-      → Distinct (offset_at s) (leaf_places s n p) × ((o : ℕ) → holds o seen ≡ true → locate (offset_at s) o (leaf_places s n p) ≡ Nowhere)
+      → Distinct (offset_at s) (leaf_places s n p) × ((o : ℕ) → holds o seen ≡ true → locate (offset_at s) o (leaf_places s n p) ≡ None)
   unfolding many Distinct leaf_places locate
   leaves-distinct limit level zero seen p e = (tt, λ o h. refl)
   leaves-distinct limit level (suc n) seen p e =
@@ -118,7 +117,7 @@ module _ (s : List ℕ) where
       holds_snoc x.0.offset seen x.0.offset ∙ ap (λ (b : Bool). holds x.0.offset seen || b) (eq-eqb x.0.offset x.0.offset refl) ∙ or_true (holds x.0.offset seen) in
       rw (leaf_unchecked Layout.Bump limit level seen s p x.3) (
         (rw t.2 (r.1 x.0.offset own), r.0),
-        λ o h. ap (λ (b : Bool). pick b (At p) (locate (offset_at s) o (leaf_places s n x.1))) (ne_eqb (offset_at s p) o (other o x.0.offset h t.1 t.2)) ∙ r.1 o (seen_or o seen x.0 h),
+        λ o h. ap (λ (b : Bool). pick b (Some p) (locate (offset_at s) o (leaf_places s n x.1))) (ne_eqb (offset_at s p) o (other o x.0.offset h t.1 t.2)) ∙ r.1 o (seen_or o seen x.0 h),
       )
     where
       other : (o j : ℕ) → holds o seen ≡ true → holds j seen ≡ false → offset_at s p ≡ j → offset_at s p ≡ o → ⊥

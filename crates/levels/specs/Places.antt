@@ -1,15 +1,12 @@
 -- The leaves of a level of a BUMP that was read before, by the places of their first bytes.
-use Rattle.std.specs.Prelude.{List, [], ◌∷◌, map, ℕ, zero, suc}
+use Rattle.std.specs.Prelude.{List, [], ◌∷◌, map, ℕ, zero, suc, Option, Some, None}
 use Rattle.format.specs.declared.level.Layout.{Layout}
 use Rattle.format.specs.Parse.{otherwise}
 use Rattle.format.specs.Field.{varint}
-use Rattle.path.specs.declared.path.Found.{Found}
-use Rattle.path.specs.declared.path.Found.TheVariants.{Here, Missing}
+use Rattle.format.specs.declared.leaf.Kind.{Kind}
 use Rattle.path.specs.Unchecked.{unchecked_leaf}
 use Rattle.encoding.specs.BumpBytes.{Carried, copy, Entry, carried_of}
 use Rattle.spv.specs.Marks.{after}
-use Rattle.levels.specs.declared.level.Place.{Place}
-use Rattle.levels.specs.declared.level.Place.TheVariants.{At, Nowhere}
 
 -- the places of n leaves as they are written, from the first one's on
 unfoldable pub leaf_places : List ℕ → ℕ → ℕ → List ℕ
@@ -38,6 +35,6 @@ abbrev pub entries : List ℕ → List ℕ → List Entry
 entries s = map (entry_at s)
 
 -- what stands at the place found
-unfoldable pub leaf_there : List ℕ → Place → Found
-leaf_there s (At p) = otherwise (unchecked_leaf Layout.Bump s p) Missing (λ leaf _. Here leaf.kind)
-leaf_there s Nowhere = Missing
+unfoldable pub leaf_there : List ℕ → Option ℕ → Option Kind
+leaf_there s (Some p) = otherwise (unchecked_leaf Layout.Bump s p) None (λ leaf _. Some leaf.kind)
+leaf_there s None = None

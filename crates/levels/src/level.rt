@@ -5,28 +5,6 @@ ghost use Rattle.levels.specs.Fronts.{next_of, lesser, flags_of, place_of, spot_
 
 use super::order::offset_at;
 use format::{Cursor, Kind, Layout};
-use path::LeafAnswer;
-
-// The offset of the next leaf.
-#[derive(Clone, Copy)]
-pub enum Next {
-    Offset(u64),
-    End,
-}
-
-// What stands at an offset.
-#[derive(Clone, Copy)]
-pub enum Spot {
-    Stands(Kind),
-    Nothing,
-}
-
-// The place of a leaf's first byte, if there is such a leaf.
-#[derive(Clone, Copy)]
-pub enum Place {
-    At(usize),
-    Nowhere,
-}
 
 pub fn flags_of(kind: Kind) -> u64
     ensures { result ≡ flags_of kind }
@@ -38,72 +16,55 @@ pub fn flags_of(kind: Kind) -> u64
     }
 }
 
-// The place of the hash; of a copy there is none.
-pub fn place_of(kind: Kind) -> usize
+// The place of the hash; a copy has none.
+pub fn place_of(kind: Kind) -> Option<usize>
     ensures { result ≡ place_of kind }
 {
     match kind {
-        Kind::Plain(place) => place,
-        Kind::Copy => 0,
-        Kind::Client(place) => place,
+        Kind::Plain(place) | Kind::Client(place) => Some(place),
+        Kind::Copy => None,
     }
 }
 
 // The offset of the leaf at an index.
-pub fn next_offset(s: &[u8], places: &[usize], i: usize) -> Next
+pub fn next_offset(s: &[u8], places: &[usize], i: usize) -> Option<u64>
     ensures { result ≡ next_of (entries s.now (drop i places.now)) }
 {
-    if places.len() <= i {
-        return Next::End;
-    }
-    Next::Offset(offset_at(s, places[i]))
+    let place = *places.get(i)?;
+    Some(offset_at(s, place))
 }
 
-pub fn lesser(a: Next, b: Next) -> Next
+pub fn lesser(a: Option<u64>, b: Option<u64>) -> Option<u64>
     ensures { result ≡ lesser a b }
 {
-    match a {
-        Next::End => b,
-        Next::Offset(x) => match b {
-            Next::End => a,
-            Next::Offset(y) => {
-                if y < x {
-                    return b;
-                }
-                a
-            }
-        },
+    match (a, b) {
+        (None, _) => b,
+        (_, None) => a,
+        (Some(x), Some(y)) => Some(x.min(y)),
     }
 }
 
 // What stands at the offset, if the leaf at the index has it.
-pub fn front(s: &[u8], places: &[usize], i: usize, offset: u64) -> Spot
+pub fn front(s: &[u8], places: &[usize], i: usize, offset: u64) -> Option<Kind>
     ensures { result ≡ spot_of s.now places.now i offset }
 {
-    if places.len() <= i {
-        return Spot::Nothing;
-    }
-    let place = places[i];
+    let place = *places.get(i)?;
     if offset_at(s, place) != offset {
-        return Spot::Nothing;
+        return None;
     }
-    let field = path::leaf_at(s, Cursor { at: place }, Layout::Bump);
-    let LeafAnswer::Value(leaf, _) = field else {
-        return Spot::Stands(Kind::Copy);
-    };
-    let kind = leaf.kind;
-    Spot::Stands(kind)
+    match path::leaf_at(s, Cursor { at: place }, Layout::Bump) {
+        Ok((leaf, _)) => Some(leaf.kind),
+        Err(_) => Some(Kind::Copy),
+    }
 }
 
 // The index behind the offset.
 pub fn past(s: &[u8], places: &[usize], i: usize, offset: u64) -> usize
     ensures { result ≡ index_past s.now places.now i offset }
 {
-    if places.len() <= i {
-        return i;
+    if next_offset(s, places, i) == Some(offset) {
+        i + 1
+    } else {
+        i
     }
-    if offset_at(s, places[i]) != offset {
-        return i;
-    }
-    i + 1
 }

@@ -4,5 +4,5 @@
 mod level;
 mod order;
 
-pub use level::{Next, Place, Spot, flags_of, front, lesser, next_offset, past, place_of};
+pub use level::{flags_of, front, lesser, next_offset, past, place_of};
 pub use order::{Gathered, offset_at, order_level};

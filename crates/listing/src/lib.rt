@@ -10,8 +10,7 @@ ghost use Rattle.listing.specs.Listing.{listing, report};
 ghost use Rattle.encoding.specs.Buffer.{buffer, write_on, filled};
 
 use encoding::buffer::write;
-use format::refusal::TOO_LONG;
-use format::{BumpAnswer, ReadRefusal, read_bump};
+use format::{ReadRefusal, Refusal, read_bump};
 use lines::{number_line, write_levels, write_refusal};
 
 // The bytes of a BUMP that are listed; more are refused.
@@ -21,17 +20,15 @@ pub const LISTED_BYTES: usize = 65536;
 fn list_whole(s: &[u8], out: &mut [u8]) -> usize
     ensures { buffer out.new result ≡ write_on (buffer out.old 0) (report s.now (bump_whole s.now)) }
 {
-    let answer = read_bump(s);
-    let BumpAnswer::Value(head, _) = answer else {
-        return write_refusal(out, answer.refusal());
-    };
-    let block = head.block;
-    let height = head.height;
-    let levels = head.levels;
-    let mut at = number_line(out, 0, b"block ", block);
-    at = number_line(out, at, b"height ", height);
-    at = write_levels(s, out, at, levels, height);
-    write(out, at, b"ok\n")
+    match read_bump(s) {
+        Ok((head, _)) => {
+            let mut at = number_line(out, 0, b"block ", head.block);
+            at = number_line(out, at, b"height ", head.height);
+            at = write_levels(s, out, at, head.levels, head.height);
+            write(out, at, b"ok\n")
+        }
+        Err(e) => write_refusal(out, e),
+    }
 }
 
 // Writes the listing of the bytes s, as far as there is room, and answers how many bytes it wrote.
@@ -43,7 +40,7 @@ pub fn list(s: &[u8], out: &mut [u8]) -> usize
         return write_refusal(
             out,
             ReadRefusal {
-                number: TOO_LONG,
+                refusal: Refusal::TooLong,
                 place: 0,
             },
         );

@@ -1,5 +1,6 @@
 // The lines of a listing (specs/Walk.antt).
 ghost use Rattle.std.specs.Prelude.{◌≡◌, ◌++◌};
+ghost use Rattle.format.specs.Refusals.{refusal_number};
 ghost use Rattle.listing.specs.Text.{decimal, line};
 ghost use Rattle.listing.specs.Listing.{kind_text, leaf_line, refused_line};
 ghost use Rattle.encoding.specs.Buffer.{buffer, write_on};
@@ -7,8 +8,8 @@ ghost use Rattle.listing.specs.Walk.{walk, walk_leaves, walk_level, walk_levels}
 
 use super::text::{write_decimal, write_hash};
 use encoding::buffer::write;
-use format::{Cursor, Kind, Layout, Leaf, Number, ReadRefusal, hash_at, read_varint};
-use path::{LeafAnswer, leaf_at};
+use format::{Cursor, Kind, Layout, Leaf, ReadRefusal, hash_at, read_varint};
+use path::leaf_at;
 
 // Where the next byte goes, and where reading goes on.
 #[derive(Clone, Copy)]
@@ -38,11 +39,10 @@ fn pair_line(out: &mut [u8], at: usize, first: &[u8], a: u64, second: &[u8], b: 
 }
 
 pub fn write_refusal(out: &mut [u8], refusal: ReadRefusal) -> usize
-    ensures { buffer out.new result ≡ write_on (buffer out.old 0) (refused_line refusal.number refusal.place) }
+    ensures { buffer out.new result ≡ write_on (buffer out.old 0) (refused_line (refusal_number refusal.refusal) refusal.place) }
 {
-    let number = refusal.number;
-    let place = refusal.place;
-    pair_line(out, 0, b"refused ", number as u64, b" at ", place as u64)
+    let number = u64::from(refusal.refusal.number());
+    pair_line(out, 0, b"refused ", number, b" at ", refusal.place as u64)
 }
 
 fn write_kind(s: &[u8], out: &mut [u8], at: usize, kind: Kind) -> usize
@@ -64,11 +64,9 @@ fn write_kind(s: &[u8], out: &mut [u8], at: usize, kind: Kind) -> usize
 fn write_leaf(s: &[u8], out: &mut [u8], at: usize, leaf: Leaf) -> usize
     ensures { buffer out.new result ≡ write_on (buffer out.old at) (leaf_line s.now leaf) }
 {
-    let offset = leaf.offset;
-    let kind = leaf.kind;
     let mut next = write(out, at, b"leaf ");
-    next = write_decimal(out, next, offset);
-    next = write_kind(s, out, next, kind);
+    next = write_decimal(out, next, leaf.offset);
+    next = write_kind(s, out, next, leaf.kind);
     write(out, next, b"\n")
 }
 
@@ -77,15 +75,12 @@ fn write_leaves(s: &[u8], out: &mut [u8], at: usize, c: Cursor, count: u64) -> S
 {
     let mut at = at;
     let mut next = c;
-    let mut i: u64 = 0;
-    while i < count {
-        let field = leaf_at(s, next, Layout::Bump);
-        let LeafAnswer::Value(leaf, after) = field else {
-            return Step { at, next };
+    for _ in 0..count {
+        let Ok((leaf, after)) = leaf_at(s, next, Layout::Bump) else {
+            break;
         };
         at = write_leaf(s, out, at, leaf);
         next = after;
-        i += 1;
     }
     Step { at, next }
 }
@@ -93,8 +88,7 @@ fn write_leaves(s: &[u8], out: &mut [u8], at: usize, c: Cursor, count: u64) -> S
 fn write_level(s: &[u8], out: &mut [u8], at: usize, c: Cursor, level: u64) -> Step
     ensures { walk (buffer out.new result.at) result.next.at ≡ walk_level s.now level c.at (buffer out.old at) }
 {
-    let field = read_varint(s, c);
-    let Number::Value(count, next) = field else {
+    let Ok((count, next)) = read_varint(s, c) else {
         return Step { at, next: c };
     };
     let after = pair_line(out, at, b"level ", level, b" leaves ", count);
@@ -106,12 +100,10 @@ pub fn write_levels(s: &[u8], out: &mut [u8], at: usize, c: Cursor, height: u64)
 {
     let mut at = at;
     let mut next = c;
-    let mut level: u64 = 0;
-    while level < height {
+    for level in 0..height {
         let step = write_level(s, out, at, next, level);
         at = step.at;
         next = step.next;
-        level += 1;
     }
     at
 }

@@ -10,7 +10,11 @@ fn digit(d: u64) -> u8
     requires { d < 16 }
     ensures { result ≡ digit_of d }
 {
-    if d < 10 { 48 + d as u8 } else { 87 + d as u8 }
+    if d < 10 {
+        b'0' + d as u8
+    } else {
+        b'a' - 10 + d as u8
+    }
 }
 
 pub fn write_decimal(out: &mut [u8], at: usize, n: u64) -> usize
@@ -28,18 +32,10 @@ pub fn write_hash(out: &mut [u8], at: usize, hash: [u8; 32]) -> usize
     ensures { buffer out.new result ≡ write_on (buffer out.old at) (printed hash) }
 {
     let mut next = at;
-    let mut i: usize = 32;
-    while 0 < i {
-        i -= 1;
-        let b = wide(hash[i]);
+    for i in 0..32 {
+        let b = u64::from(hash[31 - i]);
         next = put(out, next, digit(b / 16));
         next = put(out, next, digit(b % 16));
     }
     next
-}
-
-fn wide(b: u8) -> u64
-    ensures { (result ≡ b) × (result < 256) }
-{
-    b as u64
 }

@@ -1,4 +1,5 @@
 -- The case laws of merging, one for each answer of its code, and what the code leaves in memory.
+use Rattle.std.proofs.Common.{Ok}
 use mathlib.Core.Path.{◌≡◌, refl, ap, ap₂, sym, subst, ◌∙◌}
 use mathlib.Core.List.{List, [], ◌∷◌, ◌++◌}
 use mathlib.Core.Bool.{Bool, true, false, ◌&&◌, false≢true}
@@ -7,7 +8,7 @@ use lib.ListN.{length, get_or, take, drop, length-append}
 use lib.Seq.{take_all, take-append_seam}
 use lib.Dec.{eqb, leb}
 use native.Mathlib.Omega.{arith}
-use borrow.Author.Tests.{eqb-true, eq-eqb, ne_eqb, leb-true, le-leb, lt-leb}
+use borrow.Author.Tests.{eqb-true, leb-true, le-leb, lt-leb}
 use Rattle.format.specs.declared.bump.BumpHead.{BumpHead}
 use Rattle.format.specs.declared.level.Layout.{Layout}
 use Rattle.format.specs.declared.leaf.Leaf.{Leaf}
@@ -31,18 +32,16 @@ use Rattle.encoding.proofs.BumpRoundTrip.{bump-written}
 use Rattle.path.specs.declared.path.Path.{Path}
 use Rattle.path.specs.Path.{bump_path_of, bump_path}
 use Rattle.spv.specs.declared.rejection.Rejection.{Rejection}
-use Rattle.climbs.specs.declared.want.Agreement.{Agreement}
-use Rattle.climbs.specs.declared.want.Checked.{Checked as Check}
 use Rattle.spv.specs.Result.{Result, accepted, refused, carrying, after_reading, follow}
+use Rattle.spv.proofs.ResultLaws.{answered-ok}
 use Rattle.spv.specs.Climb.{Siblings}
 use Rattle.spv.specs.Clients.{bump_clients, clients_up_to}
-use Rattle.climbs.specs.ClientsShapes.{checked_of, refused_check}
 use Rattle.spv.proofs.ClientsTheorems.{HasClient, clients-agree}
 use Rattle.levels.proofs.Within.{within}
 use Rattle.merging.specs.declared.joining.Tally.{Tally}
 use Rattle.merging.specs.declared.merging.Merged.{Merged}
 use Rattle.leaflist.specs.LeafList.{Row, leaf_list, fitting as fitting_list, building, words_in}
-use Rattle.merging.specs.Merging.{Spot, all_spots, any_of, over_limit, clashes, merged, Checked, checked, list_of, has_root, alike, fitting, rooted, joining, merging, bytes_in, list_in, merged_of}
+use Rattle.merging.specs.Merging.{Spot, all_spots, any_of, over_limit, clashes, merged, Checked, checked, list_of, has_root, alike, fitting, rooted, joining, merging, bytes_in, list_in, sizes_of, merged_of}
 use Rattle.merging.proofs.MergingTheorems.{merged-read}
 use Rattle.merging.proofs.MergedBytes.{merged-bytes, merged-leaves, list-is}
 use Rattle.merging.proofs.MergedCheck.{both-reach, reach-both}
@@ -64,18 +63,6 @@ agreed-low s r head g = subst (λ (h : BumpHead). h.height ≤ 64) g.is (bump-wh
 -- it can be read
 pub never-unread : {A : Type 0} (s r : List ℕ) {n p : ℕ} → bump_clients s ≡ accepted r → each head_of (bump_whole s) ≡ fault n p → A
 never-unread s r e f = let z = sym ((clients-agree s r).0 e).read ∙ each-fault head_of (bump_whole s) f in absurd (let y : ◌≡◌ {A = ℕ} 0 1 = cc in omega arith)
-
--- the check's answer
-module _ (c : Check) where
-  pub check-refused : (v : Result (List ℕ)) (why : Rejection) → c ≡ checked_of v → c.agreement ≡ Agreement.Refused why → v ≡ refused why
-  unfolding checked_of refused_check
-  check-refused (refused x) why e f = cc
-  check-refused (accepted r) why e f = let z : ◌≡◌ {A = ℕ} 0 1 = cc in absurd (omega arith)
-
-  pub check-agreed : (v : Result (List ℕ)) → c ≡ checked_of v → c.agreement ≡ Agreement.Agreed → v ≡ accepted c.root
-  unfolding checked_of refused_check
-  check-agreed (refused x) e f = let z : ◌≡◌ {A = ℕ} 0 1 = cc in absurd (omega arith)
-  check-agreed (accepted r) e f = cc
 
 -- ---- each path's own refusals
 
@@ -99,11 +86,11 @@ unfolding checked
 checked-read s r e f = rw (e, f) refl
 
 module _ (a b : List ℕ) (bytes rows : ℕ) where
-  pub first-refused : (why : Rejection) → bump_clients a ≡ refused why → refused why ≡ merging a b bytes rows
+  pub first-refused : (why : Rejection) → bump_clients a ≡ refused why → merging a b bytes rows ≡ refused why
   unfolding merging
   first-refused why e = rw (checked_refused a why e) refl
 
-  pub second-refused : (r : List ℕ) (why : Rejection) → bump_clients a ≡ accepted r → bump_clients b ≡ refused why → refused why ≡ merging a b bytes rows
+  pub second-refused : (r : List ℕ) (why : Rejection) → bump_clients a ≡ accepted r → bump_clients b ≡ refused why → merging a b bytes rows ≡ refused why
   unfolding merging
   second-refused r why e f = rw (checked-read a r ((clients-agree a r).0 e).read e, checked_refused b why f) refl
 
@@ -178,14 +165,14 @@ module _ (a b : List ℕ) (x y : BumpHead) (r t : List ℕ) (ga : Agreed a x r) 
   unfolding merging joining rooted fitting
   whole = rw (checked-read a r ga.read ga.agrees, checked-read b t gb.read gb.agrees) refl
 
-  by : (p o c h f : Bool) → alike first second ≡ p → over ≡ o → clashing ≡ c → rightly ≡ h → fits ≡ f → decided p o c h f M ≡ merging a b bytes rows
+  by : (p o c h f : Bool) → alike first second ≡ p → over ≡ o → clashing ≡ c → rightly ≡ h → fits ≡ f → merging a b bytes rows ≡ decided p o c h f M
   by p o c h f e1 e2 e3 e4 e5 =
-      sym (whole
+      whole
       ∙ ap (λ (v : Bool). decided v over clashing rightly fits M) e1
       ∙ ap (λ (v : Bool). decided p v clashing rightly fits M) e2
       ∙ ap (λ (v : Bool). decided p o v rightly fits M) e3
       ∙ ap (λ (v : Bool). decided p o c v fits M) e4
-      ∙ ap (λ (v : Bool). decided p o c h v M) e5)
+      ∙ ap (λ (v : Bool). decided p o c h v M) e5
 
   abbrev test : Bool
   test = eqb x.block y.block && eqb x.height y.height && same r t
@@ -194,7 +181,7 @@ module _ (a b : List ℕ) (x y : BumpHead) (r t : List ℕ) (ga : Agreed a x r) 
   unfolding alike
   alike_is = ap₂ (λ (h k : BumpHead). eqb h.block k.block && eqb h.height k.height && same r t) ga.is gb.is
 
-  pub unlike : test ≡ false → refused (carrying UNLIKE 0) ≡ merging a b bytes rows
+  pub unlike : test ≡ false → merging a b bytes rows ≡ refused (carrying UNLIKE 0)
   unlike e = by false over clashing rightly fits (alike_is ∙ e) refl refl refl refl
 
   module _ (same_test : test ≡ true) where
@@ -219,11 +206,11 @@ module _ (a b : List ℕ) (x y : BumpHead) (r t : List ℕ) (ga : Agreed a x r) 
       unfolding tally_all
       clash-is = sym (ap (λ (v : Tally). v.clash) tallied)
 
-      pub too_many : tally.over ≡ true → refused (carrying OVER_LIMIT 0) ≡ merging a b bytes rows
+      pub too_many : tally.over ≡ true → merging a b bytes rows ≡ refused (carrying OVER_LIMIT 0)
       too_many e = by true true clashing rightly fits (alike_is ∙ same_test) (over_is ∙ e) refl refl refl
 
       module _ (few : tally.over ≡ false) where
-        pub two-hashes : tally.clash ≡ true → refused (carrying ROOTS_DIFFER 0) ≡ merging a b bytes rows
+        pub two-hashes : tally.clash ≡ true → merging a b bytes rows ≡ refused (carrying ROOTS_DIFFER 0)
         two-hashes e = by true false true rightly fits (alike_is ∙ same_test) (over_is ∙ few) (clash-is ∙ e) refl refl
 
         module _ (calm : tally.clash ≡ false) where
@@ -266,7 +253,7 @@ module _ (a b : List ℕ) (x y : BumpHead) (r t : List ℕ) (ga : Agreed a x r) 
               sym reached
               ∙ ap₂ (λ (h k : BumpHead). level_reaches (both_siblings a (bump_path_of a h).at b (bump_path_of b k).at) h.height a r h.levels.at && level_reaches (both_siblings a (bump_path_of a h).at b (bump_path_of b k).at) h.height b r k.levels.at) ga.is gb.is
 
-          pub other-root : (level_reaches τ x.height a r x.levels.at && level_reaches τ x.height b r y.levels.at) ≡ false → refused (carrying ROOTS_DIFFER 0) ≡ merging a b bytes rows
+          pub other-root : (level_reaches τ x.height a r x.levels.at && level_reaches τ x.height b r y.levels.at) ≡ false → merging a b bytes rows ≡ refused (carrying ROOTS_DIFFER 0)
           other-root e = by true false false false fits (alike_is ∙ same_test) (over_is ∙ few) (clash-is ∙ calm) (reach-is ∙ e) refl
 
           module _ (reach : (level_reaches τ x.height a r x.levels.at && level_reaches τ x.height b r y.levels.at) ≡ true) (size : ℕ) (se : size ≡ length (varint_bytes x.block)) where
@@ -285,50 +272,36 @@ module _ (a b : List ℕ) (x y : BumpHead) (r t : List ℕ) (ga : Agreed a x r) 
                 let z = merged-read X Y (bump-written a ga.bytes ga.read).1 (bump-written b gb.bytes gb.read).1 (over_is ∙ few) (clash-is ∙ calm) in
                 merged-leaves X Y z.0 (clash-is ∙ calm) z.1 z.2 ∙ sym (ap (λ (v : Tally). v.leaves) tallied)
 
-            pub bytes_over : bytes < size + 1 + tally.bytes → refused (carrying NO_ROOM 0) ≡ merging a b bytes rows
+            pub bytes_over : bytes < size + 1 + tally.bytes → merging a b bytes rows ≡ refused (carrying NO_ROOM 0)
             bytes_over l =
                 by true false false true false (alike_is ∙ same_test) (over_is ∙ few) (clash-is ∙ calm) (reach-is ∙ reach)
                 (let s = size_is in ap (λ (v : Bool). v && leb (length (list_of (bump_bytes M))) rows) (lt-leb (length (bump_bytes M)) bytes (omega (arith, s, l))))
 
-            pub list_over : rows < tally.leaves → refused (carrying NO_ROOM 0) ≡ merging a b bytes rows
+            pub list_over : rows < tally.leaves → merging a b bytes rows ≡ refused (carrying NO_ROOM 0)
             list_over l =
                 by true false false true false (alike_is ∙ same_test) (over_is ∙ few) (clash-is ∙ calm) (reach-is ∙ reach)
                 (let s = leaves-is in ap (λ (v : Bool). leb (length (bump_bytes M)) bytes && v) (lt-leb (length (list_of (bump_bytes M))) rows (omega (arith, s, l))) ∙ and-false (leb (length (bump_bytes M)) bytes))
 
-            pub both_fit : size + 1 + tally.bytes ≤ bytes → tally.leaves ≤ rows → Merged.Written (size + 1 + tally.bytes) tally.leaves ≡ merged_of (merging a b bytes rows)
-            unfolding merged_of
+            pub both_fit : size + 1 + tally.bytes ≤ bytes → tally.leaves ≤ rows → Ok (record { bytes = size + 1 + tally.bytes; leaves = tally.leaves }) ≡ merged_of (merging a b bytes rows)
             both_fit l m =
                 let s = size_is in
                 let k = leaves-is in
                 let e = le-leb (length (bump_bytes M)) bytes (omega (arith, s, l)) in
                 let f = le-leb (length (list_of (bump_bytes M))) rows (omega (arith, k, m)) in
-                sym (ap₂ Merged.Written s k)
-                ∙ ap merged_of (by true false false true true (alike_is ∙ same_test) (over_is ∙ few) (clash-is ∙ calm) (reach-is ∙ reach) (ap₂ ◌&&◌ e f))
+                sym (ap₂ (λ (n m : ℕ). Ok (record { bytes = n; leaves = m })) s k)
+                ∙ sym (ap merged_of (by true false false true true (alike_is ∙ same_test) (over_is ∙ few) (clash-is ∙ calm) (reach-is ∙ reach) (ap₂ ◌&&◌ e f)))
 
 -- ---- answers
 
-module _ (v : Result Content) where
-  pub told-refused : (why why' : Rejection) → why' ≡ why → refused why ≡ v → Merged.Refused why' ≡ merged_of v
-  unfolding merged_of
-  told-refused why why' e f = rw (← f) (ap Merged.Refused e)
-
-  pub left-bytes : (why : Rejection) (w : List ℕ) → refused why ≡ v → w ≡ bytes_in v w
+-- a refusal leaves the memory as it was
+module _ (v : Result Content) (why : Rejection) (e : v ≡ refused why) where
+  pub left-bytes : (w : List ℕ) → w ≡ bytes_in v w
   unfolding bytes_in
-  left-bytes why w f = rw (← f) refl
+  left-bytes w = rw e refl
 
-  pub left-list : (why : Rejection) (w : List ℕ) → refused why ≡ v → w ≡ list_in v w
+  pub left-list : (w : List ℕ) → w ≡ list_in v w
   unfolding list_in
-  left-list why w f = rw (← f) refl
-
-pub refused-told : (v : Result Content) (why : Rejection) → Merged.Refused why ≡ merged_of v → refused why ≡ v
-unfolding merged_of
-refused-told (refused other) why e = let z : why ≡ other = cc in ap refused z
-refused-told (accepted m) why e = absurd (let z : ◌≡◌ {A = ℕ} 0 1 = cc in omega arith)
-
-written-told : (v : Result Content) (n k : ℕ) → Merged.Written n k ≡ merged_of v → (m : Content) × (v ≡ accepted m) × (n ≡ length (bump_bytes m))
-unfolding merged_of
-written-told (refused other) n k e = absurd (let z : ◌≡◌ {A = ℕ} 0 1 = cc in omega arith)
-written-told (accepted m) n k e = (m, refl, cc)
+  left-list w = rw e refl
 
 -- ---- what is written
 
@@ -358,7 +331,7 @@ module _ (s : List ℕ) (x : BumpHead) (t : List ℕ) (y : BumpHead) (n bytes ro
 
   pub facts : Facts
   facts =
-      let u = written-told (merging s t bytes rows) n g.leaves g.says in
+      let u = answered-ok sizes_of (merging s t bytes rows) (record { bytes = n; leaves = g.leaves }) g.says in
       let w = whole s t x y g.root g.other g.first g.second bytes rows in
       let d = decided_told (alike (record { content = content_of s g.first.bump; root = g.root }) (record { content = content_of t g.second.bump; root = g.other })) (any_of over_limit (all_spots (content_of s g.first.bump) (content_of t g.second.bump))) (any_of clashes (all_spots (content_of s g.first.bump) (content_of t g.second.bump))) (has_root g.root (bump_clients (bump_bytes content))) (leb (length (bump_bytes content)) bytes && leb (length (list_of (bump_bytes content))) rows) content u.0 (sym w ∙ u.1) in
       let same_test = sym (alike_is s t x y g.root g.other g.first g.second bytes rows) ∙ d.0 in
@@ -370,7 +343,7 @@ module _ (s : List ℕ) (x : BumpHead) (t : List ℕ) (y : BumpHead) (n bytes ro
         calm = d.2;
         right = d.3;
         result = u.1 ∙ ap accepted (sym d.5);
-        size = u.2 ∙ ap (λ (m : Content). length (bump_bytes m)) (sym d.5);
+        size = sym (ap (λ (m : Merged). m.bytes) u.2) ∙ ap (λ (m : Content). length (bump_bytes m)) (sym d.5);
         text = ap (λ (h : BumpHead). varint_bytes h.block ++ (h.height ∷ encode_all level_text (walk_levels s t x.height x.levels.at y.levels.at))) (sym g.first.is)
             ∙ ap (λ (ls : List (List Spot)). varint_bytes g.first.bump.block ++ (g.first.bump.height ∷ encode_all level_text ls)) (walked s t x y g.root g.other g.first g.second bytes rows same_test)
             ∙ sym (merged-bytes (content_of s g.first.bump) (content_of t g.second.bump) d.2);
@@ -414,16 +387,6 @@ module _ (s : List ℕ) (x : BumpHead) (t : List ℕ) (y : BumpHead) (n bytes ro
         ∙ sym (ap (λ (v : Result Content). list_in v w) facts.result)
 
 -- ---- the tests of the code
-
-module _ (a b c d : ℕ) (r t : List ℕ) where
-  pub other_block : (a ≡ b → ⊥) → false ≡ (eqb a b && eqb c d && same r t)
-  other_block e = rw (ne_eqb a b e) refl
-
-  pub other-height : a ≡ b → (c ≡ d → ⊥) → false ≡ (eqb a b && eqb c d && same r t)
-  other-height e f = rw (eq-eqb a b e, ne_eqb c d f) refl
-
-  pub same_heights : a ≡ b → c ≡ d → same r t ≡ (eqb a b && eqb c d && same r t)
-  same_heights e f = rw (eq-eqb a b e, eq-eqb c d f) refl
 
 module _ (s t : List ℕ) (x y : BumpHead) (root : List ℕ) (p q : Path) (e : p ≡ bump_path_of s x) (f : q ≡ bump_path_of t y) (low : x.height ≤ 64) where
   abbrev ρ : Siblings

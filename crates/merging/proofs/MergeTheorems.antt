@@ -5,7 +5,6 @@ use mathlib.Core.Bool.{false, ◌&&◌}
 use Prim.Native.Nat.{ℕ, ◌/◌, ◌≤◌}
 use lib.ListN.{length, get_or}
 use lib.Dec.{eqb}
-use native.Mathlib.Omega.{arith}
 use borrow.Author.Tests.{eqb-true}
 use Rattle.format.proofs.Basics.{and-true}
 use Rattle.format.specs.Bytes.{same}
@@ -64,7 +63,7 @@ agreed s r all e = let a = (clients-agree s r).0 e in (a.bump, record { bump = a
 
 module _ (a b : List ℕ) (bytes rows : ℕ) (m : Content) (all-a : AllBytes a) (all-b : AllBytes b) (e : merging a b bytes rows ≡ accepted m) where
   joined_by : (r t : List ℕ) → bump_clients a ≡ accepted r → bump_clients b ≡ accepted t → Joined a b bytes rows m
-  unfolding merged_of merged
+  unfolding merged
   joined_by r t f g =
       let x = agreed a r all-a f in
       let y = agreed b t all-b g in
@@ -111,11 +110,11 @@ module _ (a b : List ℕ) (bytes rows : ℕ) (m : Content) (all-a : AllBytes a) 
     where
       second_by : (r : List ℕ) → bump_clients a ≡ accepted r → (v : Result (List ℕ)) → bump_clients b ≡ v → Joined a b bytes rows m
       second_by r f (accepted t) g = joined_by r t f g
-      second_by r f (refused why) g = absurd (let z = second-refused a b bytes rows r why f g ∙ e in let y : ◌≡◌ {A = ℕ} 0 1 = cc in omega arith)
+      second_by r f (refused why) g = let z = sym (second-refused a b bytes rows r why f g) ∙ e in cc
 
       first_by : (v : Result (List ℕ)) → bump_clients a ≡ v → Joined a b bytes rows m
       first_by (accepted r) f = second_by r f (bump_clients b) refl
-      first_by (refused why) f = absurd (let z = first-refused a b bytes rows why f ∙ e in let y : ◌≡◌ {A = ℕ} 0 1 = cc in omega arith)
+      first_by (refused why) f = let z = sym (first-refused a b bytes rows why f) ∙ e in cc
 
 -- so the memory lent for the list holds what a fresh build over the merged bytes writes there
 pub fresh-list : (a b w : List ℕ) (bytes : ℕ) (m : Content) → AllBytes a → AllBytes b → merging a b bytes (room_in w) ≡ accepted m

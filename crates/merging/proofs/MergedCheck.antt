@@ -1,5 +1,6 @@
 -- The all-clients check of the merged path gives a root exactly when every client of either path climbs to it by what the two have written between them.
 -- So it can be checked before a byte of it is written.
+use Rattle.std.proofs.Common.{Some}
 use mathlib.Core.Path.{◌≡◌, refl, ap, sym, subst, ◌∙◌}
 use mathlib.Core.List.{List, [], ◌∷◌, map}
 use mathlib.Core.Bool.{Bool, true, false, ◌||◌, false≢true}
@@ -11,7 +12,6 @@ use borrow.Author.Tests.{lt-ltb, eq-eqb, ne_eqb, eqb-true, leb-true, leb-false}
 use Rattle.format.specs.declared.leaf.Kind.{Kind}
 use Rattle.format.specs.declared.leaf.Kind.TheVariants.{Plain, Copy, Client}
 use Rattle.format.specs.declared.leaf.Leaf.{Leaf}
-use Rattle.path.specs.declared.path.Found.TheVariants.{Here}
 use Rattle.format.specs.declared.level.Layout.{Layout}
 use Rattle.format.proofs.Basics.{or_true}
 use Rattle.format.specs.Bytes.{same, hash_at}
@@ -62,7 +62,7 @@ found_seen s q (leaf ∷ l) = go (eqb leaf.offset q) (found_seen s q l)
     kind (Client p) = refl
 
     go : (b : Bool) → sibling s (lookup q l) ≡ seen (standing_in q (map (entry_of s) l))
-        → sibling s (pick b (Here leaf.kind) (lookup q l)) ≡ seen (pick b (stands (carried_of s leaf.kind)) (standing_in q (map (entry_of s) l)))
+        → sibling s (pick b (Some leaf.kind) (lookup q l)) ≡ seen (pick b (stands (carried_of s leaf.kind)) (standing_in q (map (entry_of s) l)))
     go true r = kind leaf.kind
     go false r = r
 

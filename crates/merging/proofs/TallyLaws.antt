@@ -1,4 +1,5 @@
 -- Laws of the loops over a merged level: one offset more.
+use Rattle.std.proofs.Common.{Option, Some, None, is_some, not}
 use mathlib.Core.Path.{◌≡◌, refl, ap, sym, ◌∙◌}
 use mathlib.Core.List.{List, [], ◌∷◌, ◌++◌}
 use mathlib.Core.Bool.{Bool, true, false, ◌||◌}
@@ -9,7 +10,7 @@ use native.Mathlib.Omega.{arith}
 use borrow.Author.Tests.{eq-eqb}
 use Rattle.format.specs.declared.leaf.Kind.{Kind}
 use Rattle.format.specs.declared.leaf.Kind.TheVariants.{Plain, Copy, Client}
-use Rattle.format.proofs.Basics.{one_less, or_true}
+use Rattle.format.proofs.Basics.{one_less}
 use Rattle.format.specs.Parse.{pick}
 use Rattle.encoding.specs.Digits.{varint_bytes}
 use Rattle.encoding.specs.Buffer.{Buffer, put_on, write_on}
@@ -18,15 +19,16 @@ use Rattle.format.specs.Bytes.{hash_at}
 use Rattle.format.proofs.BytesLaws.{hash-at-length}
 use Rattle.encoding.specs.Encode.{encode_all}
 use Rattle.encoding.specs.BumpBytes.{Carried, Entry, carried_bytes, entry_bytes, carried_of}
-use Rattle.levels.specs.declared.level.Next.TheVariants.{Offset, End}
 use Rattle.levels.specs.Standing.{Standing, stands, nothing}
-use Rattle.levels.specs.Fronts.{next_of, lesser, front, past, flags_of}
+use Rattle.levels.specs.Fronts.{next_of, lesser, front, past, flags_of, place_of}
 use Rattle.merging.specs.declared.uniting.LevelTally.{LevelTally}
+use Rattle.merging.specs.declared.uniting.Choice.{Choice}
+use Rattle.merging.specs.declared.uniting.Choice.TheVariants.{First, Second}
 use Rattle.merging.specs.Merging.{Kept, keeps, clash, Spot, spot, unite, is_clash, clashes, keep, kept_of}
-use Rattle.merging.specs.Walk.{left_at, walk_spots, kept_at, kept_text, tally_of}
+use Rattle.merging.specs.Walk.{left_at, walk_spots, kind_in, kept_by, kept_at, kept_text, tally_of}
 
 -- the least offset is that of a leaf
-front-there : (o : ℕ) (x y : List Entry) → lesser (next_of x) (next_of y) ≡ Offset o → front o x ≡ nothing → front o y ≡ nothing → ⊥
+front-there : (o : ℕ) (x y : List Entry) → lesser (next_of x) (next_of y) ≡ Some o → front o x ≡ nothing → front o y ≡ nothing → ⊥
 unfolding next_of lesser front
 front-there o [] [] e f g = absurd (let z : ◌≡◌ {A = ℕ} 0 1 = cc in omega arith)
 front-there o (a ∷ x) [] e f g = let i : a.offset ≡ o = cc in absurd (standing-there a.carried (ap (λ (b : Bool). pick b (stands a.carried) nothing) (sym (eq-eqb a.offset o i)) ∙ f))
@@ -42,7 +44,7 @@ front-there o (a ∷ x) (b ∷ y) e f g = go (ltb b.offset a.offset) e
     standing-there : (c : Carried) → stands c ≡ nothing → ⊥
     standing-there c h = let z : ◌≡◌ {A = ℕ} 0 1 = cc in omega arith
 
-    go : (t : Bool) → Offset (pick t b.offset a.offset) ≡ Offset o → ⊥
+    go : (t : Bool) → Some (pick t b.offset a.offset) ≡ Some o → ⊥
     go true h = let i : b.offset ≡ o = cc in standing-there b.carried (ap (λ (u : Bool). pick u (stands b.carried) nothing) (sym (eq-eqb b.offset o i)) ∙ g)
     go false h = let i : a.offset ≡ o = cc in standing-there a.carried (ap (λ (u : Bool). pick u (stands a.carried) nothing) (sym (eq-eqb a.offset o i)) ∙ f)
 
@@ -59,11 +61,11 @@ module _ (n i last : ℕ) (f g : Standing) (x y : List Entry) where
   spots-end h = let e : n - i ≡ 0 = omega arith in rw e
 
   module _ (h : i < n) where
-    pub spots-stop : lesser (next_of x) (next_of y) ≡ End → walk_spots (n - i) last f g x y ≡ []
+    pub spots-stop : lesser (next_of x) (next_of y) ≡ None → walk_spots (n - i) last f g x y ≡ []
     unfolding walk_spots
     spots-stop e = rw (one_less n i h, e)
 
-    pub spots_on : {o : ℕ} {k : Kept} {v w : Standing} {x' y' : List Entry} → lesser (next_of x) (next_of y) ≡ Offset o → v ≡ front o x → w ≡ front o y
+    pub spots_on : {o : ℕ} {k : Kept} {v w : Standing} {x' y' : List Entry} → lesser (next_of x) (next_of y) ≡ Some o → v ≡ front o x → w ≡ front o y
         → k ≡ kept_at (left_at last o f) (left_at last o g) v w → x' ≡ past o x → y' ≡ past o y → walk_spots (n - i) last f g x y ≡ spot o k ∷ walk_spots (n - (i + 1)) o v w x' y'
     unfolding walk_spots
     spots_on {o} {k} {v} {w} {x'} {y'} e a b d p q =
@@ -92,16 +94,16 @@ unfolding write_on encode_all kept_of
 write_last p = refl
 
 -- sizes
-pub size-copy : (s : List ℕ) (k : Kind) → flags_of k ≡ 1 → 1 ≡ length (carried_bytes (carried_of s k))
-unfolding flags_of carried_bytes carried_of
-size-copy s (Plain p) e = absurd (omega arith)
+pub size-copy : (s : List ℕ) (k : Kind) → None ≡ place_of k → 1 ≡ length (carried_bytes (carried_of s k))
+unfolding place_of carried_bytes carried_of
+size-copy s (Plain p) e = cc
 size-copy s Copy e = refl
-size-copy s (Client p) e = absurd (omega arith)
+size-copy s (Client p) e = cc
 
-pub size-hash : (s : List ℕ) (k : Kind) → (flags_of k ≡ 1 → ⊥) → 33 ≡ length (carried_bytes (carried_of s k))
-unfolding flags_of carried_bytes carried_of
+pub size-hash : (s : List ℕ) (k : Kind) {p : ℕ} → Some p ≡ place_of k → 33 ≡ length (carried_bytes (carried_of s k))
+unfolding place_of carried_bytes carried_of
 size-hash s (Plain p) e = let h = hash-at-length s p in omega (arith, h)
-size-hash s Copy e = absurd (e refl)
+size-hash s Copy e = cc
 size-hash s (Client p) e = let h = hash-at-length s p in omega (arith, h)
 
 pub size-kept : (o : ℕ) (c : Carried) {a b : ℕ} → a ≡ length (varint_bytes o) → b ≡ length (carried_bytes c) → a + b ≡ length (kept_text o (keeps c))
@@ -154,37 +156,46 @@ tally_end r l whole t e =
     made : r.count ≡ length whole → r.bytes ≡ length (encode_all entry_bytes (kept_of whole)) → r.clash ≡ clashes whole → r ≡ record { count = length whole; bytes = length (encode_all entry_bytes (kept_of whole)); clash = clashes whole }
     made c d f = rw (← c, ← d, ← f) refl
 
--- a clash before, or now
-pub clash_now : (before : Bool) (k : Kept) → k ≡ clash → true ≡ (before || is_clash k)
+-- a clash is where none is kept
+pub none_clashes : (s t : List ℕ) (choice : Option Choice) (b : Bool) → is_some choice ≡ not b → b ≡ is_clash (kept_by s t choice)
 unfolding is_clash
-clash_now before k e = rw e (sym (or_true before))
+none_clashes s t (Some (First k)) false e = refl
+none_clashes s t (Some (Second k)) false e = refl
+none_clashes s t None true e = refl
+none_clashes s t (Some (First k)) true e = cc
+none_clashes s t (Some (Second k)) true e = cc
+none_clashes s t None false e = cc
 
-pub clash-before : (before : Bool) (k : Kept) (c : Carried) → k ≡ keeps c → before ≡ (before || is_clash k)
-unfolding is_clash
-clash-before before k c e = rw e (sym (or-false before))
+-- the size of a leaf that is kept, whichever path has it
+pub size-chosen : (o : ℕ) (choice : Choice) {a b : ℕ} → a ≡ length (varint_bytes o) → ((s : List ℕ) → b ≡ length (carried_bytes (carried_of s (kind_in choice)))) → (s t : List ℕ) → a + b ≡ length (kept_text o (kept_by s t (Some choice)))
+size-chosen o (First k) e f s t = size-kept o (carried_of s k) e (f s)
+size-chosen o (Second k) e f s t = size-kept o (carried_of t k) e (f t)
 
 pub size-clash : (o : ℕ) (k : Kept) → k ≡ clash → 0 ≡ length (kept_text o k)
 unfolding kept_text
 size-clash o k e = rw e refl
 
-pub size_is : (o : ℕ) (k : Kept) (c : Carried) {n : ℕ} → k ≡ keeps c → n ≡ length (kept_text o (keeps c)) → n ≡ length (kept_text o k)
-size_is o k c e f = rw e f
-
 -- the bytes of a leaf and of what is kept
 pub wrote_hash : (p : Buffer) (flag : ℕ) (h : List ℕ) (c : Carried) {q r : Buffer} {v : List ℕ} → carried_bytes c ≡ flag ∷ h → q ≡ put_on p flag → v ≡ h → r ≡ write_on q v → r ≡ write_on p (carried_bytes c)
 wrote_hash p flag h c {q} {r} {v} a e d f = wrote_cons p flag h a e (f ∙ ap (write_on q) d)
 
-pub plain-bytes : (s : List ℕ) (k : Kind) (p : ℕ) → k ≡ Plain p → carried_bytes (carried_of s k) ≡ 0 ∷ hash_at s p
-unfolding carried_bytes carried_of
-plain-bytes s k p e = rw e refl
+pub hash-bytes : (s : List ℕ) (k : Kind) {p : ℕ} → Some p ≡ place_of k → carried_bytes (carried_of s k) ≡ flags_of k ∷ hash_at s p
+unfolding flags_of place_of carried_bytes carried_of
+hash-bytes s (Plain q) {p} e = let f : q ≡ p = cc in rw f refl
+hash-bytes s Copy e = cc
+hash-bytes s (Client q) {p} e = let f : q ≡ p = cc in rw f refl
 
-pub client-bytes : (s : List ℕ) (k : Kind) (p : ℕ) → k ≡ Client p → carried_bytes (carried_of s k) ≡ 2 ∷ hash_at s p
-unfolding carried_bytes carried_of
-client-bytes s k p e = rw e refl
+pub copy-bytes : (s : List ℕ) (k : Kind) → None ≡ place_of k → carried_bytes (carried_of s k) ≡ flags_of k ∷ []
+unfolding flags_of place_of carried_bytes carried_of
+copy-bytes s (Plain p) e = cc
+copy-bytes s Copy e = refl
+copy-bytes s (Client p) e = cc
 
-pub copy-bytes : (s : List ℕ) (k : Kind) → k ≡ Copy → carried_bytes (carried_of s k) ≡ 1 ∷ []
-unfolding carried_bytes carried_of
-copy-bytes s k e = rw e refl
+pub flags-few : (k : Kind) → flags_of k ≤ 2
+unfolding flags_of
+flags-few (Plain p) = omega arith
+flags-few Copy = omega arith
+flags-few (Client p) = omega arith
 
 pub wrote_kept : (p : Buffer) (o : ℕ) (k : Kept) (c : Carried) {q r : Buffer} → k ≡ keeps c → q ≡ write_on p (varint_bytes o) → r ≡ write_on q (carried_bytes c) → r ≡ write_on p (kept_text o k)
 unfolding kept_text entry_bytes

@@ -1,4 +1,5 @@
 -- Walked from the least offset up, the leaves of two levels in order are the definition's.
+use Rattle.std.proofs.Common.{Some}
 use mathlib.Core.Path.{◌≡◌, refl, ap, sym, ◌∙◌}
 use mathlib.Core.List.{List, []}
 use mathlib.Core.Bool.{Bool, true, false}
@@ -9,7 +10,6 @@ use native.Mathlib.Omega.{arith}
 use borrow.Author.Tests.{eq-eqb, eqb-true}
 use Rattle.format.specs.Parse.{pick}
 use Rattle.encoding.specs.BumpBytes.{Entry}
-use Rattle.levels.specs.declared.level.Next.TheVariants.{Offset}
 use Rattle.levels.specs.Standing.{Standing, nothing, standing_in}
 use Rattle.levels.proofs.InOrder.{From, Under, InOrder, under_weaken, standing-below}
 use Rattle.levels.specs.Fronts.{next_of, lesser, front, past}
@@ -43,7 +43,7 @@ unfolding walk_spots next_of lesser
 walk_none zero last f g = refl
 walk_none (suc n) last f g = refl
 
-walk_here : (n last : ℕ) (f g : Standing) (o : ℕ) (x y : List Entry) → lesser (next_of x) (next_of y) ≡ Offset o
+walk_here : (n last : ℕ) (f g : Standing) (o : ℕ) (x y : List Entry) → lesser (next_of x) (next_of y) ≡ Some o
     → walk_spots (suc n) last f g x y ≡ unite o (left_at last o f) (left_at last o g) (front o x) (front o y) (walk_spots n o (front o x) (front o y) (past o x) (past o y))
 unfolding walk_spots
 walk_here n last f g o x y e = rw e refl

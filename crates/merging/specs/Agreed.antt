@@ -1,12 +1,11 @@
 -- Paths whose clients agree, which alone are merged: what the contracts inside of merging rest on.
-use Rattle.std.specs.Prelude.{◌≡◌, List, ℕ}
+use Rattle.std.specs.Prelude.{◌≡◌, List, ℕ, Ok}
 use Rattle.format.specs.declared.bump.BumpHead.{BumpHead}
 use Rattle.format.specs.Parse.{ok}
 use Rattle.format.specs.Bump.{Bump, bump_whole, head_of}
 use Rattle.encoding.specs.Encode.{AllBytes}
 use Rattle.spv.specs.Result.{accepted}
 use Rattle.spv.specs.Clients.{bump_clients}
-use Rattle.merging.specs.declared.merging.Merged.{Merged}
 use Rattle.merging.specs.Merging.{merging, merged_of}
 
 -- clients that agree on a root, and what the path's reading gives
@@ -25,4 +24,4 @@ pub record Taken (s : List ℕ) (x : BumpHead) (t : List ℕ) (y : BumpHead) (n 
   pub leaves : ℕ
   pub first : Agreed s x root
   pub second : Agreed t y other
-  pub says : Merged.Written n leaves ≡ merged_of (merging s t bytes rows)
+  pub says : Ok (record { bytes = n; leaves = leaves }) ≡ merged_of (merging s t bytes rows)

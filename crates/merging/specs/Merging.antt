@@ -1,13 +1,14 @@
 -- Two BUMPs merged (02, Item 14): "merging another BUMP of the same block height and root (003), which keeps every leaf of either once and no other".
-use Rattle.std.specs.Prelude.{List, [], ◌∷◌, ◌++◌, map, Bool, true, false, not, ◌&&◌, ◌||◌, ℕ, zero, suc, ◌*◌, ◌^◌, length, drop, eqb, leb}
+use Rattle.std.specs.Prelude.{List, [], ◌∷◌, ◌++◌, map, Bool, true, false, not, ◌&&◌, ◌||◌, ℕ, zero, suc, ◌*◌, ◌^◌, length, drop, eqb, leb, Result as Answer}
 use Rattle.format.specs.Bytes.{same}
 use Rattle.format.specs.Parse.{pick, otherwise}
 use Rattle.format.specs.Refusals.{OVER_LIMIT, ROOTS_DIFFER, NO_ROOM, UNLIKE, MAX_LEAVES}
 use Rattle.format.specs.Bump.{bump_whole}
 use Rattle.encoding.specs.BumpBytes.{Carried, plain, copy, client, Entry, Content, bump_bytes, content_of}
-use Rattle.spv.specs.Result.{Result, accepted, refused, carrying, after_reading, follow}
+use Rattle.spv.specs.Result.{Result, accepted, refused, carrying, after_reading, follow, answer_of}
 use Rattle.spv.specs.Clients.{bump_clients}
 use Rattle.levels.specs.Standing.{Standing, stands, nothing, standing}
+use Rattle.spv.specs.declared.rejection.Rejection.{Rejection}
 use Rattle.merging.specs.declared.merging.Merged.{Merged}
 use Rattle.leaflist.specs.LeafList.{Row, leaf_list, words_of}
 
@@ -156,6 +157,8 @@ list_in (accepted m) w = words_of (list_of (bump_bytes m)) ++ drop (3 * length (
 list_in (refused why) w = w
 
 -- what the code's answer says: how many bytes and how many leaves
-unfoldable pub merged_of : Result Content → Merged
-merged_of (accepted m) = Merged.Written (length (bump_bytes m)) (length (list_of (bump_bytes m)))
-merged_of (refused why) = Merged.Refused why
+abbrev pub sizes_of : Content → Merged
+sizes_of m = record { bytes = length (bump_bytes m); leaves = length (list_of (bump_bytes m)) }
+
+abbrev pub merged_of : Result Content → Answer Merged Rejection
+merged_of = answer_of sizes_of

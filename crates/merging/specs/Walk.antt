@@ -1,17 +1,14 @@
 -- The leaves of a level of two paths, both in order, from the least offset up: what the code of merging goes through.
-use Rattle.std.specs.Prelude.{List, [], ℕ, zero, suc, length, eqb}
+use Rattle.std.specs.Prelude.{List, [], ℕ, zero, suc, length, eqb, Option, Some, None}
+use Rattle.format.specs.declared.leaf.Kind.{Kind}
 use Rattle.format.specs.Parse.{pick}
 use Rattle.encoding.specs.Encode.{encode_all}
 use Rattle.encoding.specs.BumpBytes.{Entry, entry_bytes, carried_of}
-use Rattle.levels.specs.declared.level.Next.{Next}
-use Rattle.levels.specs.declared.level.Next.TheVariants.{Offset, End}
-use Rattle.levels.specs.declared.level.Spot.TheVariants.{Nothing}
-use Rattle.levels.specs.declared.level.Spot as D
 use Rattle.levels.specs.Standing.{Standing, stands, nothing}
 use Rattle.levels.specs.Fronts.{next_of, lesser, front, past}
 use Rattle.merging.specs.declared.uniting.LevelTally.{LevelTally}
 use Rattle.merging.specs.declared.uniting.Choice.{Choice}
-use Rattle.merging.specs.declared.uniting.Choice.TheVariants.{First, Second, Clash}
+use Rattle.merging.specs.declared.uniting.Choice.TheVariants.{First, Second}
 use Rattle.merging.specs.Merging.{Kept, keeps, clash, agree, Spot, unite, clashes, kept_of}
 
 -- what stands on the left of an offset, by what stood at the last one
@@ -19,9 +16,9 @@ unfoldable pub left_at : ℕ → ℕ → Standing → Standing
 left_at last zero v = nothing
 left_at last (suc o) v = pick (eqb last o) v nothing
 
-abbrev pub on_next : Next → (ℕ → List Spot) → List Spot
-on_next End f = []
-on_next (Offset o) f = f o
+abbrev pub on_next : Option ℕ → (ℕ → List Spot) → List Spot
+on_next None f = []
+on_next (Some o) f = f o
 
 -- at most n offsets
 unfoldable pub walk_spots : ℕ → ℕ → Standing → Standing → List Entry → List Entry → List Spot
@@ -32,11 +29,16 @@ walk_spots (suc n) last f g x y =
 
 -- ---- what the code's answers say
 
+-- what is kept, whichever path has it
+abbrev pub kind_in : Choice → Kind
+kind_in (First kind) = kind
+kind_in (Second kind) = kind
+
 -- the leaf of the first or of the second is kept
-unfoldable pub kept_by : List ℕ → List ℕ → Choice → Kept
-kept_by s t (First kind) = keeps (carried_of s kind)
-kept_by s t (Second kind) = keeps (carried_of t kind)
-kept_by s t Clash = clash
+abbrev pub kept_by : List ℕ → List ℕ → Option Choice → Kept
+kept_by s t (Some (First kind)) = keeps (carried_of s kind)
+kept_by s t (Some (Second kind)) = keeps (carried_of t kind)
+kept_by s t None = clash
 
 -- of two that stand there; of none nothing is asked
 unfoldable pub kept_at : Standing → Standing → Standing → Standing → Kept
@@ -46,9 +48,9 @@ kept_at l m nothing (stands d) = keeps d
 kept_at l m (stands c) (stands d) = agree l m c d
 
 -- the spot that was the left one of an offset
-unfoldable pub left_spot : ℕ → ℕ → D.Spot → D.Spot
-left_spot last zero v = Nothing
-left_spot last (suc o) v = pick (eqb last o) v Nothing
+unfoldable pub left_spot : ℕ → ℕ → Option Kind → Option Kind
+left_spot last zero v = None
+left_spot last (suc o) v = pick (eqb last o) v None
 
 -- the bytes of what is kept at an offset
 unfoldable pub kept_text : ℕ → Kept → List ℕ

@@ -9,8 +9,11 @@ ghost use Rattle.merging.specs.Walk.{tally_of, walk_spots};
 ghost use Rattle.merging.specs.Levels.{walk_levels, level_text, tally_all, Added};
 
 use super::uniting::{LevelTally, put_leaves, tally_level};
-use format::Cursor;
+use format::{Cursor, Layout};
 use levels::order_level;
+
+// The most places that a level has.
+pub(crate) const PLACES: usize = Layout::MAX_LEAVES;
 
 // Whether a level is over its limit, whether two leaves clash, and how many bytes and leaves the levels take.
 #[derive(Clone, Copy)]
@@ -21,40 +24,31 @@ pub(crate) struct Tally {
     pub leaves: usize,
 }
 
-fn either(a: bool, b: bool) -> bool
-    ensures { result ≡ (a || b) }
-{
-    if a {
-        return true;
-    }
-    b
-}
-
 // One level more.
 fn add_level(tally: Tally, l: LevelTally) -> Tally
     requires { (tally.bytes ≤ 8388608) × (tally.leaves ≤ 8388608) × (l.count ≤ 2048) × (l.bytes ≤ 86016) }
     ensures { ((v : List Spot) → l ≡ tally_of v → Added tally v result) × (result.bytes ≤ tally.bytes + 86025) × (result.leaves ≤ tally.leaves + 2048) }
 {
     Tally {
-        over: either(tally.over, 1024 < l.count),
-        clash: either(tally.clash, l.clash),
+        over: tally.over || 1024 < l.count,
+        clash: tally.clash || l.clash,
         bytes: tally.bytes + encoding::buffer::varint_size(l.count as u64) + l.bytes,
         leaves: tally.leaves + l.count,
     }
 }
 
-// All levels before they are written; the arrays have room for a level's places.
+// All levels before they are written.
 pub(crate) fn tally_levels(
     s: &[u8],
     c: Cursor,
     t: &[u8],
     d: Cursor,
     height: u64,
-    x: &mut [usize],
-    y: &mut [usize],
-    room: &mut [usize],
+    x: &mut [usize; PLACES],
+    y: &mut [usize; PLACES],
+    room: &mut [usize; PLACES],
 ) -> Tally
-    requires { (length x.old ≡ 1024) × (length y.old ≡ 1024) × (length room.old ≡ 1024) × (height ≤ 64) }
+    requires { height ≤ 64 }
     ensures { (result ≡ tally_all (walk_levels s.now t.now height c.at d.at)) × (result.bytes ≤ 8388608) }
 {
     let mut tally = Tally {
@@ -65,16 +59,12 @@ pub(crate) fn tally_levels(
     };
     let mut p = c;
     let mut q = d;
-    let mut level: u64 = 0;
-    while level < height {
+    for _ in 0..height {
         let a = order_level(s, p, x, room);
         let b = order_level(t, q, y, room);
-        let n = a.count;
-        let m = b.count;
-        tally = add_level(tally, tally_level(s, &x[..n], t, &y[..m]));
+        tally = add_level(tally, tally_level(s, &x[..a.count], t, &y[..b.count]));
         p = a.next;
         q = b.next;
-        level += 1;
     }
     tally
 }
@@ -95,28 +85,23 @@ pub(crate) fn put_levels(
     t: &[u8],
     d: Cursor,
     height: u64,
-    x: &mut [usize],
-    y: &mut [usize],
-    room: &mut [usize],
+    x: &mut [usize; PLACES],
+    y: &mut [usize; PLACES],
+    room: &mut [usize; PLACES],
     out: &mut [u8],
     at: usize,
 ) -> usize
-    requires { (length x.old ≡ 1024) × (length y.old ≡ 1024) × (length room.old ≡ 1024) × (height ≤ 64) }
     ensures { buffer out.new result ≡ write_on (buffer out.old at) (encode_all level_text (walk_levels s.now t.now height c.at d.at)) }
 {
     let mut at = at;
     let mut p = c;
     let mut q = d;
-    let mut level: u64 = 0;
-    while level < height {
+    for _ in 0..height {
         let a = order_level(s, p, x, room);
         let b = order_level(t, q, y, room);
-        let n = a.count;
-        let m = b.count;
-        at = put_level(s, &x[..n], t, &y[..m], out, at);
+        at = put_level(s, &x[..a.count], t, &y[..b.count], out, at);
         p = a.next;
         q = b.next;
-        level += 1;
     }
     at
 }

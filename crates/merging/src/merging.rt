@@ -14,83 +14,35 @@ ghost use Rattle.merging.specs.Both.{both_siblings};
 ghost use Rattle.merging.specs.Levels.{walk_levels, level_text, tally_all};
 ghost use Rattle.merging.specs.Agreed.{Agreed, Taken};
 
-use super::joining::{Tally, put_levels, tally_levels};
-use climbs::Agreement;
-use format::refusal::{NO_ROOM, OVER_LIMIT, ROOTS_DIFFER, UNLIKE};
-use format::{BumpAnswer, BumpHead, Layout};
+use super::joining::{PLACES, Tally, put_levels, tally_levels};
+use format::{BumpHead, Refusal};
 use leaflist::build;
 use spv::Rejection;
 
-// How many bytes the merged path has and how many leaves its list, or why there is none.
+// How many bytes the merged path has, and how many leaves its list.
 #[derive(Clone, Copy)]
-pub enum Merged {
-    Written(usize, usize),
-    Refused(Rejection),
+pub struct Merged {
+    pub bytes: usize,
+    pub leaves: usize,
 }
 
 // Whether block height, tree height and root are the same.
 fn alike(x: BumpHead, root: [u8; 32], y: BumpHead, other: [u8; 32]) -> bool
     ensures { result ≡ (eqb x.block y.block && eqb x.height y.height && same root other) }
 {
-    if x.block != y.block {
-        return false;
-    }
-    if x.height != y.height {
-        return false;
-    }
-    format::same_bytes(root, other)
+    x.block == y.block && x.height == y.height && format::same_bytes(root, other)
 }
 
-// The most places that a level has.
-const PLACES: usize = Layout::MAX_LEAVES;
-
-// What a walk over the merged levels comes to: their tally, or where they end once they are written.
-#[derive(Clone, Copy)]
-struct Walked {
-    tally: Tally,
-    end: usize,
-}
-
-// The merged levels, written from a place on or only tallied, with room for a level's places. It is called from two places so that it has a frame of its
-// own: the room is not there while clients climb.
-fn walk_paths(
-    s: &[u8],
-    x: BumpHead,
-    t: &[u8],
-    y: BumpHead,
-    write: bool,
-    out: &mut [u8],
-    at: usize,
-) -> Walked
+// The merged levels before they are written. Its frame is its own: the room for a level's places is not there while clients climb.
+#[inline(never)]
+fn tally_paths(s: &[u8], x: BumpHead, t: &[u8], y: BumpHead) -> Tally
     requires { x.height ≤ 64 }
-    ensures { (write ≡ false → (result.tally ≡ tally_all (walk_levels s.now t.now x.height x.levels.at y.levels.at)) × (result.tally.bytes ≤ 8388608))
-        × (write ≡ true → buffer out.new result.end ≡ write_on (buffer out.old at) (encode_all level_text (walk_levels s.now t.now x.height x.levels.at y.levels.at))) }
+    ensures { (result ≡ tally_all (walk_levels s.now t.now x.height x.levels.at y.levels.at)) × (result.bytes ≤ 8388608) }
 {
-    let mut first = [0usize; PLACES];
-    let mut second = [0usize; PLACES];
-    let mut room = [0usize; PLACES];
-    if write {
-        let end = put_levels(
-            s,
-            x.levels,
-            t,
-            y.levels,
-            x.height,
-            &mut first,
-            &mut second,
-            &mut room,
-            out,
-            at,
-        );
-        let tally = Tally {
-            over: false,
-            clash: false,
-            bytes: 0,
-            leaves: 0,
-        };
-        return Walked { tally, end };
-    }
-    let tally = tally_levels(
+    let mut first = [0; PLACES];
+    let mut second = [0; PLACES];
+    let mut room = [0; PLACES];
+    tally_levels(
         s,
         x.levels,
         t,
@@ -99,18 +51,7 @@ fn walk_paths(
         &mut first,
         &mut second,
         &mut room,
-    );
-    Walked { tally, end: at }
-}
-
-// The merged levels before they are written.
-fn tally_paths(s: &[u8], x: BumpHead, t: &[u8], y: BumpHead) -> Tally
-    requires { x.height ≤ 64 }
-    ensures { (result ≡ tally_all (walk_levels s.now t.now x.height x.levels.at y.levels.at)) × (result.bytes ≤ 8388608) }
-{
-    let mut none = [0u8; 0];
-    let walked = walk_paths(s, x, t, y, false, &mut none, 0);
-    walked.tally
+    )
 }
 
 // Whether every client of either path comes to the root by what the two have written between them.
@@ -121,10 +62,8 @@ fn both_reach(s: &[u8], x: BumpHead, t: &[u8], y: BumpHead, root: [u8; 32]) -> b
 {
     let first = path::bump_path(s, x);
     let second = path::bump_path(t, y);
-    if !climbs::both_reach(s, x.levels, s, first, t, second, root) {
-        return false;
-    }
-    climbs::both_reach(t, y.levels, s, first, t, second, root)
+    climbs::both_reach(s, x.levels, s, first, t, second, root)
+        && climbs::both_reach(t, y.levels, s, first, t, second, root)
 }
 
 // What two paths whose clients agree come to, with room for so many bytes and so many leaves.
@@ -137,42 +76,53 @@ fn weigh(
     other: [u8; 32],
     bytes: usize,
     rows: usize,
-) -> Merged
+) -> Result<Merged, Rejection>
     requires { (Agreed s.now x root) × (Agreed t.now y other) }
     ensures { result ≡ merged_of (merging s.now t.now bytes rows) }
 {
     if !alike(x, root, y, other) {
-        return Merged::Refused(spv::reject(UNLIKE));
+        return Err(spv::reject(Refusal::Unlike));
     }
     let tally = tally_paths(s, x, t, y);
     if tally.over {
-        return Merged::Refused(spv::reject(OVER_LIMIT));
+        return Err(spv::reject(Refusal::OverLimit));
     }
-    if tally.clash {
-        return Merged::Refused(spv::reject(ROOTS_DIFFER));
-    }
-    if !both_reach(s, x, t, y, root) {
-        return Merged::Refused(spv::reject(ROOTS_DIFFER));
+    if tally.clash || !both_reach(s, x, t, y, root) {
+        return Err(spv::reject(Refusal::RootsDiffer));
     }
     let size = encoding::buffer::varint_size(x.block) + 1 + tally.bytes;
-    if bytes < size {
-        return Merged::Refused(spv::reject(NO_ROOM));
+    if bytes < size || rows < tally.leaves {
+        return Err(spv::reject(Refusal::NoRoom));
     }
-    if rows < tally.leaves {
-        return Merged::Refused(spv::reject(NO_ROOM));
-    }
-    Merged::Written(size, tally.leaves)
+    Ok(Merged {
+        bytes: size,
+        leaves: tally.leaves,
+    })
 }
 
 // The merged path's bytes: block height, tree height, levels.
+#[inline(never)]
 fn put_path(s: &[u8], x: BumpHead, t: &[u8], y: BumpHead, out: &mut [u8]) -> usize
     requires { x.height ≤ 64 }
     ensures { buffer out.new result ≡ write_on (buffer out.old 0) (varint_bytes x.block ++ (x.height ∷ encode_all level_text (walk_levels s.now t.now x.height x.levels.at y.levels.at))) }
 {
     let block = encoding::buffer::write_varint(out, 0, x.block);
     let height = encoding::buffer::put(out, block, x.height as u8);
-    let walked = walk_paths(s, x, t, y, true, out, height);
-    walked.end
+    let mut first = [0; PLACES];
+    let mut second = [0; PLACES];
+    let mut room = [0; PLACES];
+    put_levels(
+        s,
+        x.levels,
+        t,
+        y.levels,
+        x.height,
+        &mut first,
+        &mut second,
+        &mut room,
+        out,
+        height,
+    )
 }
 
 // Writes the merged path, of n bytes, and its list.
@@ -190,7 +140,7 @@ fn put_merged(
     ensures list_after { list.new ≡ list_in (merging s.now t.now (length bytes.old) (room_in list.old)) list.old }
 {
     put_path(s, x, t, y, bytes);
-    build(&bytes[..n], list);
+    let _ = build(&bytes[..n], list);
 }
 
 // Two paths whose clients agree.
@@ -203,21 +153,15 @@ fn merge_agreed(
     other: [u8; 32],
     bytes: &mut [u8],
     list: &mut [u64],
-) -> Merged
+) -> Result<Merged, Rejection>
     requires { (Agreed s.now x root) × (Agreed t.now y other) }
     ensures value { result ≡ merged_of (merging s.now t.now (length bytes.old) (room_in list.old)) }
     ensures bytes_after { bytes.new ≡ bytes_in (merging s.now t.now (length bytes.old) (room_in list.old)) bytes.old }
     ensures list_after { list.new ≡ list_in (merging s.now t.now (length bytes.old) (room_in list.old)) list.old }
 {
-    let rows = list.len() / 3;
-    let weighed = weigh(s, x, root, t, y, other, bytes.len(), rows);
-    match weighed {
-        Merged::Refused(rejection) => Merged::Refused(rejection),
-        Merged::Written(n, leaves) => {
-            put_merged(s, x, t, y, n, bytes, list);
-            Merged::Written(n, leaves)
-        }
-    }
+    let merged = weigh(s, x, root, t, y, other, bytes.len(), list.len() / 3)?;
+    put_merged(s, x, t, y, merged.bytes, bytes, list);
+    Ok(merged)
 }
 
 // Two paths whose clients agree, and so can be read.
@@ -228,42 +172,29 @@ fn merge_checked(
     other: [u8; 32],
     bytes: &mut [u8],
     list: &mut [u64],
-) -> Merged
+) -> Result<Merged, Rejection>
     requires { (bump_clients s.now ≡ accepted root) × (bump_clients t.now ≡ accepted other) }
     ensures value { result ≡ merged_of (merging s.now t.now (length bytes.old) (room_in list.old)) }
     ensures bytes_after { bytes.new ≡ bytes_in (merging s.now t.now (length bytes.old) (room_in list.old)) bytes.old }
     ensures list_after { list.new ≡ list_in (merging s.now t.now (length bytes.old) (room_in list.old)) list.old }
 {
-    let a = format::read_bump(s);
-    let BumpAnswer::Value(x, _) = a else {
-        return Merged::Refused(spv::reject_reading(a.refusal()));
-    };
-    let b = format::read_bump(t);
-    let BumpAnswer::Value(y, _) = b else {
-        return Merged::Refused(spv::reject_reading(b.refusal()));
-    };
+    let (x, _) = format::read_bump(s)?;
+    let (y, _) = format::read_bump(t)?;
     merge_agreed(s, x, root, t, y, other, bytes, list)
 }
 
 // Merges two BUMPs of one block: the merged path's bytes and the list of its leaves, three words a leaf. If refused, nothing is written.
-pub fn merge(first: &[u8], second: &[u8], bytes: &mut [u8], list: &mut [u64]) -> Merged
+pub fn merge(
+    first: &[u8],
+    second: &[u8],
+    bytes: &mut [u8],
+    list: &mut [u64],
+) -> Result<Merged, Rejection>
     ensures value { result ≡ merged_of (merging first.now second.now (length bytes.old) (room_in list.old)) }
     ensures bytes_after { bytes.new ≡ bytes_in (merging first.now second.now (length bytes.old) (room_in list.old)) bytes.old }
     ensures list_after { list.new ≡ list_in (merging first.now second.now (length bytes.old) (room_in list.old)) list.old }
 {
-    let p = climbs::check_clients(first);
-    let x = p.agreement;
-    let root = p.root;
-    match x {
-        Agreement::Refused(rejection) => Merged::Refused(rejection),
-        Agreement::Agreed => {
-            let q = climbs::check_clients(second);
-            let y = q.agreement;
-            let other = q.root;
-            match y {
-                Agreement::Refused(rejection) => Merged::Refused(rejection),
-                Agreement::Agreed => merge_checked(first, root, second, other, bytes, list),
-            }
-        }
-    }
+    let root = climbs::check_clients(first)?;
+    let other = climbs::check_clients(second)?;
+    merge_checked(first, root, second, other, bytes, list)
 }

@@ -1,130 +1,117 @@
 // Two levels side by side, both in order (specs/Walk.antt): which leaf is kept where either has one.
-ghost use Rattle.std.specs.Prelude.{◌≡◌, ◌||◌, List, ℕ, ◌≤◌, length};
+ghost use Rattle.std.specs.Prelude.{◌≡◌, ◌||◌, List, ℕ, ◌≤◌, Some, None, length};
 ghost use Rattle.format.specs.Parse.{pick};
 ghost use Rattle.encoding.specs.BumpBytes.{carried_bytes, entry_bytes, carried_of};
-ghost use Rattle.levels.specs.Fronts.{flags_of, place_of, standing_of};
-ghost use Rattle.merging.specs.Merging.{has_hash, agree, is_clash, kept_of};
+ghost use Rattle.levels.specs.Fronts.{standing_of};
+ghost use Rattle.merging.specs.Merging.{has_hash, agree, kept_of};
 ghost use Rattle.encoding.specs.Encode.{encode_all};
 ghost use Rattle.encoding.specs.Buffer.{buffer, write_on};
 ghost use Rattle.levels.specs.Standing.{nothing};
 ghost use Rattle.levels.specs.Places.{entries};
-ghost use Rattle.merging.specs.Walk.{left_spot, kept_by, kept_at, kept_text, tally_of, walk_spots};
+ghost use Rattle.merging.specs.Walk.{left_spot, kind_in, kept_by, kept_at, kept_text, tally_of, walk_spots};
 
 use format::Kind;
-use levels::{Next, Spot, flags_of, front, lesser, next_offset, past, place_of};
+use levels::{flags_of, front, lesser, next_offset, past, place_of};
 
-// The leaf of the first or of the second path is kept, or the two can't both be.
+// The leaf that is kept is that of the first or of the second path. Where two can't both be, there is none.
 #[derive(Clone, Copy)]
 pub(crate) enum Choice {
     First(Kind),
     Second(Kind),
-    Clash,
+}
+
+impl Choice {
+    fn kind(self) -> Kind
+        ensures { result ≡ kind_in self }
+    {
+        match self {
+            Choice::First(kind) | Choice::Second(kind) => kind,
+        }
+    }
 }
 
 // What stands on the left of an offset, by what stood at the last one.
-fn left_spot(last: u64, offset: u64, spot: Spot) -> Spot
+fn left_spot(last: u64, offset: u64, spot: Option<Kind>) -> Option<Kind>
     ensures { result ≡ left_spot last offset spot }
 {
-    if offset == 0 {
-        return Spot::Nothing;
-    }
-    if last != offset - 1 {
-        return Spot::Nothing;
+    if offset == 0 || last != offset - 1 {
+        return None;
     }
     spot
 }
 
 // Whether a leaf is written there with this hash.
-fn has_hash(s: &[u8], spot: Spot, hash: [u8; 32]) -> bool
+#[tactic(auto, unfolding(crate::specs::Merging::has_hash, levels::specs::Fronts::standing_of, encoding::specs::BumpBytes::carried_of))]
+fn has_hash(s: &[u8], spot: Option<Kind>, hash: [u8; 32]) -> bool
     ensures { result ≡ has_hash hash (standing_of s.now spot) }
 {
     match spot {
-        Spot::Nothing => false,
-        Spot::Stands(kind) => {
-            if flags_of(kind) == 1 {
-                return false;
-            }
-            format::same_bytes(format::hash_at(s, place_of(kind)), hash)
+        Some(Kind::Plain(place) | Kind::Client(place)) => {
+            format::same_bytes(format::hash_at(s, place), hash)
         }
+        _ => false,
     }
 }
 
 // Two leaves at one place, and what stands on the left of it in either path.
-fn agree(s: &[u8], x: Kind, l: Spot, t: &[u8], y: Kind, m: Spot) -> Choice
+fn agree(s: &[u8], x: Kind, l: Option<Kind>, t: &[u8], y: Kind, m: Option<Kind>) -> Option<Choice>
     ensures { kept_by s.now t.now result ≡ agree (standing_of s.now l) (standing_of t.now m) (carried_of s.now x) (carried_of t.now y) }
 {
-    if flags_of(x) == 1 {
-        if flags_of(y) == 1 {
-            return Choice::First(x);
+    match (place_of(x), place_of(y)) {
+        (None, None) => Some(Choice::First(x)),
+        (None, Some(place)) => {
+            against_copy(s, l, t, m, format::hash_at(t, place), Choice::Second(y))
         }
-        return against_copy(
-            s,
-            l,
-            t,
-            m,
-            format::hash_at(t, place_of(y)),
-            Choice::Second(y),
-        );
+        (Some(place), None) => {
+            against_copy(s, l, t, m, format::hash_at(s, place), Choice::First(x))
+        }
+        (Some(first), Some(second)) => {
+            if !format::same_bytes(format::hash_at(s, first), format::hash_at(t, second)) {
+                return None;
+            }
+            if flags_of(x) < flags_of(y) {
+                return Some(Choice::Second(y));
+            }
+            Some(Choice::First(x))
+        }
     }
-    if flags_of(y) == 1 {
-        return against_copy(
-            s,
-            l,
-            t,
-            m,
-            format::hash_at(s, place_of(x)),
-            Choice::First(x),
-        );
-    }
-    if !format::same_bytes(
-        format::hash_at(s, place_of(x)),
-        format::hash_at(t, place_of(y)),
-    ) {
-        return Choice::Clash;
-    }
-    if flags_of(x) < flags_of(y) {
-        return Choice::Second(y);
-    }
-    Choice::First(x)
 }
 
 // A hash against a copy is kept if the left neighbour is written with it in either path.
-fn against_copy(s: &[u8], l: Spot, t: &[u8], m: Spot, hash: [u8; 32], kept: Choice) -> Choice
-    ensures { result ≡ pick (has_hash hash (standing_of s.now l) || has_hash hash (standing_of t.now m)) kept Choice.Clash }
+fn against_copy(
+    s: &[u8],
+    l: Option<Kind>,
+    t: &[u8],
+    m: Option<Kind>,
+    hash: [u8; 32],
+    kept: Choice,
+) -> Option<Choice>
+    ensures { result ≡ pick (has_hash hash (standing_of s.now l) || has_hash hash (standing_of t.now m)) (Some kept) None }
 {
-    if has_hash(s, l, hash) {
-        return kept;
+    if has_hash(s, l, hash) || has_hash(t, m, hash) {
+        Some(kept)
+    } else {
+        None
     }
-    if has_hash(t, m, hash) {
-        return kept;
-    }
-    Choice::Clash
 }
 
 // What is kept at a place where either path has a leaf.
-pub(crate) fn choose(s: &[u8], v: Spot, l: Spot, t: &[u8], w: Spot, m: Spot) -> Choice
+#[tactic(auto, unfolding(crate::specs::Walk::kept_at, levels::specs::Fronts::standing_of))]
+pub(crate) fn choose(
+    s: &[u8],
+    v: Option<Kind>,
+    l: Option<Kind>,
+    t: &[u8],
+    w: Option<Kind>,
+    m: Option<Kind>,
+) -> Option<Choice>
     ensures { kept_by s.now t.now result ≡ kept_at (standing_of s.now l) (standing_of t.now m) (standing_of s.now v) (standing_of t.now w) }
 {
-    match v {
-        Spot::Nothing => match w {
-            Spot::Nothing => Choice::Clash,
-            Spot::Stands(y) => Choice::Second(y),
-        },
-        Spot::Stands(x) => match w {
-            Spot::Nothing => Choice::First(x),
-            Spot::Stands(y) => agree(s, x, l, t, y, m),
-        },
-    }
-}
-
-// Whether there was a clash before, or this is one.
-fn clashes_with(before: bool, choice: Choice) -> bool
-    ensures { (s t : List ℕ) → result ≡ (before || is_clash (kept_by s t choice)) }
-{
-    match choice {
-        Choice::Clash => true,
-        Choice::First(_) => before,
-        Choice::Second(_) => before,
+    match (v, w) {
+        (None, None) => None,
+        (None, Some(y)) => Some(Choice::Second(y)),
+        (Some(x), None) => Some(Choice::First(x)),
+        (Some(x), Some(y)) => agree(s, x, l, t, y, m),
     }
 }
 
@@ -132,20 +119,19 @@ fn clashes_with(before: bool, choice: Choice) -> bool
 fn kind_size(kind: Kind) -> usize
     ensures { ((s : List ℕ) → result ≡ length (carried_bytes (carried_of s kind))) × (result ≤ 33) }
 {
-    if flags_of(kind) == 1 {
-        return 1;
+    match place_of(kind) {
+        Some(_) => 33,
+        None => 1,
     }
-    33
 }
 
 // How many bytes what is kept at an offset takes.
-fn kept_size(offset: u64, choice: Choice) -> usize
+fn kept_size(offset: u64, choice: Option<Choice>) -> usize
     ensures { ((s t : List ℕ) → result ≡ length (kept_text offset (kept_by s t choice))) × (result ≤ 42) }
 {
     match choice {
-        Choice::Clash => 0,
-        Choice::First(kind) => encoding::buffer::varint_size(offset) + kind_size(kind),
-        Choice::Second(kind) => encoding::buffer::varint_size(offset) + kind_size(kind),
+        Some(kept) => encoding::buffer::varint_size(offset) + kind_size(kept.kind()),
+        None => 0,
     }
 }
 
@@ -170,14 +156,12 @@ pub(crate) fn tally_level(s: &[u8], x: &[usize], t: &[u8], y: &[usize]) -> Level
         clash: false,
     };
     let mut last: u64 = 0;
-    let mut first = Spot::Nothing;
-    let mut second = Spot::Nothing;
+    let mut first = None;
+    let mut second = None;
     let mut i: usize = 0;
     let mut j: usize = 0;
-    let mut turn: usize = 0;
-    while turn < OFFSETS {
-        let next = lesser(next_offset(s, x, i), next_offset(t, y, j));
-        let Next::Offset(offset) = next else {
+    for _ in 0..OFFSETS {
+        let Some(offset) = lesser(next_offset(s, x, i), next_offset(t, y, j)) else {
             return tally;
         };
         let v = front(s, x, i, offset);
@@ -188,14 +172,13 @@ pub(crate) fn tally_level(s: &[u8], x: &[usize], t: &[u8], y: &[usize]) -> Level
         tally = LevelTally {
             count: tally.count + 1,
             bytes: tally.bytes + kept_size(offset, choice),
-            clash: clashes_with(tally.clash, choice),
+            clash: tally.clash || choice.is_none(),
         };
         last = offset;
         first = v;
         second = w;
         i = past(s, x, i, offset);
         j = past(t, y, j, offset);
-        turn += 1;
     }
     tally
 }
@@ -204,35 +187,31 @@ pub(crate) fn tally_level(s: &[u8], x: &[usize], t: &[u8], y: &[usize]) -> Level
 fn put_kind(s: &[u8], kind: Kind, out: &mut [u8], at: usize) -> usize
     ensures { buffer out.new result ≡ write_on (buffer out.old at) (carried_bytes (carried_of s.now kind)) }
 {
-    match kind {
-        Kind::Plain(place) => {
-            let next = encoding::buffer::put(out, at, 0);
-            let hash = format::hash_at(s, place);
-            encoding::buffer::write(out, next, &hash)
-        }
-        Kind::Copy => encoding::buffer::put(out, at, 1),
-        Kind::Client(place) => {
-            let next = encoding::buffer::put(out, at, 2);
-            let hash = format::hash_at(s, place);
-            encoding::buffer::write(out, next, &hash)
-        }
+    let next = encoding::buffer::put(out, at, flags_of(kind) as u8);
+    match place_of(kind) {
+        Some(place) => encoding::buffer::write(out, next, &format::hash_at(s, place)),
+        None => next,
     }
 }
 
 // The bytes of what is kept at an offset.
-fn put_kept(s: &[u8], t: &[u8], offset: u64, choice: Choice, out: &mut [u8], at: usize) -> usize
+fn put_kept(
+    s: &[u8],
+    t: &[u8],
+    offset: u64,
+    choice: Option<Choice>,
+    out: &mut [u8],
+    at: usize,
+) -> usize
     ensures { buffer out.new result ≡ write_on (buffer out.old at) (kept_text offset (kept_by s.now t.now choice)) }
 {
-    match choice {
-        Choice::Clash => at,
-        Choice::First(kind) => {
-            let next = encoding::buffer::write_varint(out, at, offset);
-            put_kind(s, kind, out, next)
-        }
-        Choice::Second(kind) => {
-            let next = encoding::buffer::write_varint(out, at, offset);
-            put_kind(t, kind, out, next)
-        }
+    let Some(kept) = choice else {
+        return at;
+    };
+    let next = encoding::buffer::write_varint(out, at, offset);
+    match kept {
+        Choice::First(kind) => put_kind(s, kind, out, next),
+        Choice::Second(kind) => put_kind(t, kind, out, next),
     }
 }
 
@@ -249,14 +228,12 @@ pub(crate) fn put_leaves(
 {
     let mut at = at;
     let mut last: u64 = 0;
-    let mut first = Spot::Nothing;
-    let mut second = Spot::Nothing;
+    let mut first = None;
+    let mut second = None;
     let mut i: usize = 0;
     let mut j: usize = 0;
-    let mut turn: usize = 0;
-    while turn < OFFSETS {
-        let next = lesser(next_offset(s, x, i), next_offset(t, y, j));
-        let Next::Offset(offset) = next else {
+    for _ in 0..OFFSETS {
+        let Some(offset) = lesser(next_offset(s, x, i), next_offset(t, y, j)) else {
             return at;
         };
         let v = front(s, x, i, offset);
@@ -270,7 +247,6 @@ pub(crate) fn put_leaves(
         second = w;
         i = past(s, x, i, offset);
         j = past(t, y, j, offset);
-        turn += 1;
     }
     at
 }

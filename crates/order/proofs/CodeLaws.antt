@@ -3,7 +3,7 @@ use Prim.Native.Nat.{ℕ, zero, suc, ◌+◌, ◌*◌, ◌-◌, ◌/◌, ◌%◌
 use mathlib.Core.Path.{◌≡◌, refl, sym, ap, ◌∙◌}
 use mathlib.Core.Bool.{Bool, true, false, not, ◌&&◌, ◌||◌}
 use mathlib.Core.List.{List, [], ◌∷◌, ◌++◌, append_assoc, append-nil}
-use mathlib.Core.Option.{Option, none, some}
+use Rattle.std.specs.Prelude.{Option, None, Some}
 use native.Mathlib.Omega.{arith}
 use native.Mathlib.Numerals.{add-one}
 use lib.Dec.{eqb}
@@ -16,7 +16,8 @@ use Rattle.order.specs.Set.{proposed, row_after}
 use Rattle.order.proofs.ListedLaws.{last_listed, other-listed}
 use Rattle.order.proofs.OrderLaws.{ready-told, placing-none, placing-some, placing-done}
 use Rattle.order.specs.Order.{rested, ready, check_from, check, first_from, first, ahead, placing, ours}
-use Rattle.order.specs.Code.{depends_in, Marks, found, is_some, TellsRests, TellsReady, TellsFirst}
+use Rattle.std.specs.Option.{is_some}
+use Rattle.order.specs.Code.{depends_in, Marks, TellsRests, TellsReady, TellsFirst}
 use Rattle.order.specs.Listed.{listed}
 
 -- ---- rests
@@ -73,20 +74,19 @@ module _ (matrix marks : List ℕ) (n : ℕ) where
   unfolding first
   search-start placed m = let e : n - 0 ≡ n = omega arith in rw e
 
-  turn : (placed : List ℕ) (i : ℕ) → i < n → first_from n (depends_in matrix) placed (n - i) i ≡ pick (ready n (depends_in matrix) placed i) (some i) (first_from n (depends_in matrix) placed (n - suc i) (suc i))
+  turn : (placed : List ℕ) (i : ℕ) → i < n → first_from n (depends_in matrix) placed (n - i) i ≡ pick (ready n (depends_in matrix) placed i) (Some i) (first_from n (depends_in matrix) placed (n - suc i) (suc i))
   unfolding first_from
   turn placed i h = let e : n - i ≡ suc (n - suc i) = omega arith in rw e
 
   pub search_on : (i : ℕ) → i < n → Searching i → TellsReady matrix marks n i false → Searching (suc i)
-  search_on i h f g placed m = sym (turn placed i h ∙ ap (λ (t : Bool). pick t (some i) (first_from n (depends_in matrix) placed (n - suc i) (suc i))) (sym (g placed m))) ∙ f placed m
+  search_on i h f g placed m = sym (turn placed i h ∙ ap (λ (t : Bool). pick t (Some i) (first_from n (depends_in matrix) placed (n - suc i) (suc i))) (sym (g placed m))) ∙ f placed m
 
-  pub search-here : (i : ℕ) → i < n → Searching i → TellsReady matrix marks n i true → TellsFirst matrix marks n i
-  unfolding found
-  search-here i h f g placed m = rw (lt-ltb i n h) (sym (turn placed i h ∙ ap (λ (t : Bool). pick t (some i) (first_from n (depends_in matrix) placed (n - suc i) (suc i))) (sym (g placed m))) ∙ f placed m)
+  pub search-here : (i : ℕ) → i < n → Searching i → TellsReady matrix marks n i true → TellsFirst matrix marks n (Some i)
+  search-here i h f g placed m = sym (turn placed i h ∙ ap (λ (t : Bool). pick t (Some i) (first_from n (depends_in matrix) placed (n - suc i) (suc i))) (sym (g placed m))) ∙ f placed m
 
-  pub search-end : Searching n → TellsFirst matrix marks n n
-  unfolding found first_from
-  search-end f placed m = let e : n - n ≡ 0 = omega arith in rw (le-ltb n n (omega arith)) (rw e at (f placed m))
+  pub search-end : Searching n → TellsFirst matrix marks n None
+  unfolding first_from
+  search-end f placed m = let e : n - n ≡ 0 = omega arith in rw e at (f placed m)
 
 -- ---- marks
 
@@ -152,13 +152,13 @@ zero-end row row₀ i a b e = sym (take-length row) ∙ ap (λ (m : ℕ). take m
 -- ---- our_order
 
 unfoldable pub prefixed : List ℕ → Option (List ℕ) → Option (List ℕ)
-prefixed p none = none
-prefixed p (some l) = some (p ++ l)
+prefixed p None = None
+prefixed p (Some l) = Some (p ++ l)
 
 prefixed_ahead : (p : List ℕ) (i : ℕ) (o : Option (List ℕ)) → prefixed p (ahead i o) ≡ prefixed (p ++ (i ∷ [])) o
 unfolding prefixed ahead
-prefixed_ahead p i none = refl
-prefixed_ahead p i (some l) = ap some (sym (append_assoc p (i ∷ []) l))
+prefixed_ahead p i None = refl
+prefixed_ahead p i (Some l) = ap Some (sym (append_assoc p (i ∷ []) l))
 
 module _ (matrix : List ℕ) (n : ℕ) where
   -- what is placed, and then what is left, is what was asked
@@ -170,52 +170,44 @@ module _ (matrix : List ℕ) (n : ℕ) where
   placing-start row = let e : n - 0 ≡ n = omega arith in rw e (same (placing n (depends_in matrix) n []))
     where
       same : (o : Option (List ℕ)) → prefixed [] o ≡ o
-      same none = unfold prefixed in refl
-      same (some l) = unfold prefixed in refl
+      same None = unfold prefixed in refl
+      same (Some l) = unfold prefixed in refl
 
-  first_of : (marks placed : List ℕ) (r : ℕ) → r < n → TellsFirst matrix marks n r → Marks marks placed → first n (depends_in matrix) placed ≡ some r
-  unfolding found
-  first_of marks placed r h f m = sym (f placed m) ∙ rw (lt-ltb r n h)
-
-  first-not : (marks placed : List ℕ) (r : ℕ) → n ≤ r → TellsFirst matrix marks n r → Marks marks placed → first n (depends_in matrix) placed ≡ none
-  unfolding found
-  first-not marks placed r h f m = sym (f placed m) ∙ rw (le-ltb r n h)
-
-  pub placing_on : (marks row : List ℕ) (k r : ℕ) → k < n → k < length row → r < n → TellsFirst matrix marks n r → Marks marks (take k row) → Placing k row → Placing (suc k) (set row k r)
-  placing_on marks row k r low h here f m p =
+  pub placing_on : (marks row : List ℕ) (k r : ℕ) → k < n → k < length row → TellsFirst matrix marks n (Some r) → Marks marks (take k row) → Placing k row → Placing (suc k) (set row k r)
+  placing_on marks row k r low h f m p =
       rw (take-suc-set row k r h)
       (sym (prefixed_ahead (take k row) r (placing n (depends_in matrix) (n - suc k) (take k row ++ (r ∷ []))))
-      ∙ ap (prefixed (take k row)) (sym (placing-some n (depends_in matrix) (n - suc k) (take k row) r (first_of marks (take k row) r here f m)))
+      ∙ ap (prefixed (take k row)) (sym (placing-some n (depends_in matrix) (n - suc k) (take k row) r (sym (f (take k row) m))))
       ∙ turned ∙ p)
     where
       turned : prefixed (take k row) (placing n (depends_in matrix) (suc (n - suc k)) (take k row)) ≡ prefixed (take k row) (placing n (depends_in matrix) (n - k) (take k row))
       turned = let e : suc (n - suc k) ≡ n - k = omega arith in ap (λ (x : ℕ). prefixed (take k row) (placing n (depends_in matrix) x (take k row))) e
 
-  pub placing_stops : (marks row : List ℕ) (k r : ℕ) → k < n → n ≤ r → TellsFirst matrix marks n r → Marks marks (take k row) → Placing k row → ours n (depends_in matrix) ≡ none
-  placing_stops marks row k r low high f m p = sym p ∙ ap (prefixed (take k row)) stuck ∙ (unfold prefixed in refl)
+  pub placing_stops : (marks row : List ℕ) (k : ℕ) → k < n → TellsFirst matrix marks n None → Marks marks (take k row) → Placing k row → ours n (depends_in matrix) ≡ None
+  placing_stops marks row k low f m p = sym p ∙ ap (prefixed (take k row)) stuck ∙ (unfold prefixed in refl)
     where
-      stuck : placing n (depends_in matrix) (n - k) (take k row) ≡ none
-      stuck = let e : n - k ≡ suc (n - suc k) = omega arith in rw e (placing-none n (depends_in matrix) (n - suc k) (take k row) (first-not marks (take k row) r high f m))
+      stuck : placing n (depends_in matrix) (n - k) (take k row) ≡ None
+      stuck = let e : n - k ≡ suc (n - suc k) = omega arith in rw e (placing-none n (depends_in matrix) (n - suc k) (take k row) (sym (f (take k row) m)))
 
-  pub placing_ends : (row : List ℕ) → Placing n row → ours n (depends_in matrix) ≡ some (take n row)
+  pub placing_ends : (row : List ℕ) → Placing n row → ours n (depends_in matrix) ≡ Some (take n row)
   placing_ends row p = sym p ∙ ap (prefixed (take n row)) done ∙ whole
     where
-      done : placing n (depends_in matrix) (n - n) (take n row) ≡ some []
+      done : placing n (depends_in matrix) (n - n) (take n row) ≡ Some []
       done = let e : n - n ≡ 0 = omega arith in rw e (placing-done n (depends_in matrix) (take n row))
 
-      whole : prefixed (take n row) (some []) ≡ some (take n row)
-      whole = unfold prefixed in ap some (append-nil (take n row))
+      whole : prefixed (take n row) (Some []) ≡ Some (take n row)
+      whole = unfold prefixed in ap Some (append-nil (take n row))
 
   -- the answer and the row
   abbrev pub Answers : Bool → List ℕ → List ℕ → Type 0
   Answers r row row₀ = (r ≡ is_some (ours n (depends_in matrix))) × (row ≡ row_after (proposed (ours n (depends_in matrix))) row₀)
 
-  pub answer_none : (row row₀ : List ℕ) → ours n (depends_in matrix) ≡ none → row ≡ replicate (length row₀) 0 → Answers false row row₀
-  unfolding is_some row_after proposed
+  pub answer_none : (row row₀ : List ℕ) → ours n (depends_in matrix) ≡ None → row ≡ replicate (length row₀) 0 → Answers false row row₀
+  unfolding row_after proposed
   answer_none row row₀ e q = (rw e, rw e q)
 
   pub answer_some : (row row₀ : List ℕ) → n ≤ length row → drop n row ≡ drop n row₀ → Placing n row → Answers true row row₀
-  unfolding is_some row_after proposed
+  unfolding row_after proposed
   answer_some row row₀ h d p =
       let e = placing_ends row p in
       (rw e, rw e (sym (take-append-drop n row) ∙ ap (λ (l : List ℕ). take n row ++ l) (d ∙ ap (λ (m : ℕ). drop m row₀) (sym (length-take-le n row h)))))

@@ -8,7 +8,7 @@ use native.Mathlib.Omega.{arith}
 use lib.Dec.{ltb}
 use lib.ListN.{length, get_or, take, drop, set, length-set}
 use lib.Seq.{length-take-le, get_or-take, take-suc, drop-cons, take-length, drop-length, get_or-set_same, get_or-set_other}
-use borrow.Author.Tests.{lt-ltb, le-ltb, le-leb}
+use borrow.Author.Tests.{lt-ltb, le-ltb, ltb-true, le-leb}
 use Rattle.format.specs.Parse.{pick}
 use Rattle.format.specs.Bytes.{same, hash_at}
 use Rattle.format.proofs.BytesLaws.{same_eq, same_ne, ne_same}
@@ -16,7 +16,10 @@ use Rattle.spv.specs.Hashes.{among, hashes, index_of, Distinct, Among}
 use Rattle.spv.proofs.HashesLaws.{hashes-length, hashes-at, among-told, told-among}
 use Rattle.spv.proofs.TestLaws.{clash, and_left, and_right}
 use Rattle.order.specs.Set.{new_from}
+use Rattle.std.specs.Prelude.{Option, None, Some}
+use Rattle.std.specs.Option.{is_some}
 use Rattle.order.specs.Ids.{key_of, Keys}
+use Rattle.order.specs.Code.{found}
 
 hashes_fewer : (i n : ℕ) (l : List ℕ) → i ≤ n → take i (hashes n l) ≡ hashes i l
 unfolding hashes
@@ -50,6 +53,15 @@ pub index-end : (x : List ℕ) (l : List (List ℕ)) → Passed x l (length l) �
 unfolding index_of
 index-end x [] p = refl
 index-end x (y ∷ l) p = rw (p 0 (omega arith)) (ap suc (index-end x l (λ k b. p (suc k) (omega arith))))
+
+-- what is found is one of them
+pub found-below : (n r : ℕ) {j : ℕ} → Some j ≡ found n r → j < n
+unfolding found
+found-below n r {j} = go (ltb r n) refl
+  where
+    go : (t : Bool) → ltb r n ≡ t → Some j ≡ pick t (Some r) None → j < n
+    go true q e = let z : j ≡ r = cc in let l = ltb-true r n q in omega arith
+    go false q e = cc
 
 -- ids whose first eight bytes differ are different
 pub keys_differ : (a x : List ℕ) → (key_of a ≡ key_of x → ⊥) → same a x ≡ false
@@ -154,21 +166,35 @@ module _ (x ids : List ℕ) (n : ℕ) (room : 32 * n ≤ length ids) where
   pub search_on : (i : ℕ) → i < n → Passed x (hashes n ids) i → same (hash_at ids (32 * i)) x ≡ false → Passed x (hashes n ids) (suc i)
   search_on i low p e = passed_on x (hashes n ids) i p (ap (λ (y : List ℕ). same y x) (sym (id-inside n ids i room low)) ∙ e)
 
-  pub search-here : (i : ℕ) → i < n → Passed x (hashes n ids) i → same (hash_at ids (32 * i)) x ≡ true → i ≡ index_of x (hashes n ids)
-  search-here i low p e = sym (index-here x (hashes n ids) i (rw (hashes-length n ids) low) p (ap (λ (y : List ℕ). same y x) (sym (id-inside n ids i room low)) ∙ e))
+  pub search-here : (i : ℕ) → i < n → Passed x (hashes n ids) i → same (hash_at ids (32 * i)) x ≡ true → Some i ≡ found n (index_of x (hashes n ids))
+  unfolding found
+  search-here i low p e =
+      let z : index_of x (hashes n ids) ≡ i = index-here x (hashes n ids) i (rw (hashes-length n ids) low) p (ap (λ (y : List ℕ). same y x) (sym (id-inside n ids i room low)) ∙ e) in
+      rw (z, lt-ltb i n low)
 
-  pub search-end : (i : ℕ) → i ≡ n → Passed x (hashes n ids) i → n ≡ index_of x (hashes n ids)
-  search-end i h p = let e = hashes-length n ids in sym (index-end x (hashes n ids) (λ k low. p k (omega arith)) ∙ e)
+  pub search-end : (i : ℕ) → i ≡ n → Passed x (hashes n ids) i → None ≡ found n (index_of x (hashes n ids))
+  unfolding found
+  search-end i h p =
+      let e = hashes-length n ids in
+      let z : index_of x (hashes n ids) ≡ n = index-end x (hashes n ids) (λ k low. p k (omega arith)) ∙ e in
+      rw (z, le-ltb n n (omega arith))
 
 -- the i-th id against the ids before it
 module _ (ids : List ℕ) (n i : ℕ) (room : 32 * n ≤ length ids) (low : i < n) where
-  pub new_here : {r : ℕ} → r ≡ index_of (hash_at ids (32 * i)) (hashes i ids) → among (get_or (hashes n ids) i []) (take i (hashes n ids)) ≡ ltb r i
-  new_here {r} e =
+  here : among (get_or (hashes n ids) i []) (take i (hashes n ids)) ≡ ltb (index_of (hash_at ids (32 * i)) (hashes i ids)) i
+  here =
       ap (λ (y : List ℕ). among y (take i (hashes n ids))) (sym (id-inside n ids i room low))
       ∙ ap (among (hash_at ids (32 * i))) (hashes_fewer i n ids (omega arith))
       ∙ index-among (hash_at ids (32 * i)) (hashes i ids)
       ∙ ap (λ (k : ℕ). ltb (index_of (hash_at ids (32 * i)) (hashes i ids)) k) (hashes-length i ids)
-      ∙ ap (λ (k : ℕ). ltb k i) (sym e)
+
+  pub new_here : {o : Option ℕ} → o ≡ found i (index_of (hash_at ids (32 * i)) (hashes i ids)) → among (get_or (hashes n ids) i []) (take i (hashes n ids)) ≡ is_some o
+  unfolding found
+  new_here e = here ∙ go (ltb (index_of (hash_at ids (32 * i)) (hashes i ids)) i) ∙ ap is_some (sym e)
+    where
+      go : (t : Bool) → t ≡ is_some (pick t (Some (index_of (hash_at ids (32 * i)) (hashes i ids))) None)
+      go true = refl
+      go false = refl
 
 -- ids that differ are all new
 pub different_new : (l : List (List ℕ)) → Distinct l → new_from [] l ≡ true

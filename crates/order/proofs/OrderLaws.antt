@@ -3,7 +3,7 @@ use Prim.Native.Nat.{ℕ, zero, suc, ◌+◌, ◌<◌, ◌≤◌}
 use mathlib.Core.Path.{◌≡◌, refl, sym, ◌∙◌}
 use mathlib.Core.Bool.{Bool, true, false, not, ◌&&◌, ◌||◌}
 use mathlib.Core.List.{List, [], ◌∷◌, ◌++◌, append_assoc, append-nil}
-use mathlib.Core.Option.{Option, none, some}
+use Rattle.std.specs.Prelude.{Option, None, Some}
 use native.Mathlib.Decide.{dec_lt}
 use native.Mathlib.Omega.{arith}
 use lib.Dec.{ltb}
@@ -87,7 +87,7 @@ module _ (n : ℕ) (depends : ℕ → ℕ → Bool) where
     pub here : ready n depends placed x ≡ true
     pub before : (j : ℕ) → i ≤ j → j < x → ready n depends placed j ≡ false
 
-  pub first-told : (placed : List ℕ) (k i x : ℕ) → first_from n depends placed k i ≡ some x → First placed i k x
+  pub first-told : (placed : List ℕ) (k i x : ℕ) → first_from n depends placed k i ≡ Some x → First placed i k x
   unfolding first_from
   first-told placed zero i x e = absurd (let z : ◌≡◌ {A = ℕ} 0 1 = cc in omega arith)
   first-told placed (suc k) i x e = go (ready n depends placed i) refl e (first-told placed k (suc i) x)
@@ -99,16 +99,16 @@ module _ (n : ℕ) (depends : ℕ → ℕ → Bool) where
           by (yes l) = w.before j (omega arith) b
           by (no l) = let q : j ≡ i = omega arith in rw q h
 
-      go : (t : Bool) → ready n depends placed i ≡ t → pick t (some i) (first_from n depends placed k (suc i)) ≡ some x → (first_from n depends placed k (suc i) ≡ some x → First placed (suc i) k x) → First placed i (suc k) x
+      go : (t : Bool) → ready n depends placed i ≡ t → pick t (Some i) (first_from n depends placed k (suc i)) ≡ Some x → (first_from n depends placed k (suc i) ≡ Some x → First placed (suc i) k x) → First placed i (suc k) x
       go true h m f = let q : i ≡ x = cc in record { from = omega arith; low = omega arith; here = rw (← q) h; before = λ j a b. absurd (omega arith) }
       go false h m f = let w = f m in record { from = omega (arith, w.from); low = omega (arith, w.low); here = w.here; before = later h w }
 
-  pub first-none : (placed : List ℕ) (k i : ℕ) → first_from n depends placed k i ≡ none → (j : ℕ) → i ≤ j → j < i + k → ready n depends placed j ≡ false
+  pub first-none : (placed : List ℕ) (k i : ℕ) → first_from n depends placed k i ≡ None → (j : ℕ) → i ≤ j → j < i + k → ready n depends placed j ≡ false
   unfolding first_from
   first-none placed zero i e j a b = absurd (omega arith)
   first-none placed (suc k) i e j a b = go (ready n depends placed i) refl e (first-none placed k (suc i))
     where
-      go : (t : Bool) → ready n depends placed i ≡ t → pick t (some i) (first_from n depends placed k (suc i)) ≡ none → (first_from n depends placed k (suc i) ≡ none → (j : ℕ) → suc i ≤ j → j < suc i + k → ready n depends placed j ≡ false) → ready n depends placed j ≡ false
+      go : (t : Bool) → ready n depends placed i ≡ t → pick t (Some i) (first_from n depends placed k (suc i)) ≡ None → (first_from n depends placed k (suc i) ≡ None → (j : ℕ) → suc i ≤ j → j < suc i + k → ready n depends placed j ≡ false) → ready n depends placed j ≡ false
       go true h m f = absurd (let z : ◌≡◌ {A = ℕ} 0 1 = cc in omega arith)
       go false h m f = by (dec_lt i j)
         where
@@ -118,44 +118,44 @@ module _ (n : ℕ) (depends : ℕ → ℕ → Bool) where
 
   -- ---- ours, turn by turn
 
-  pub placing-none : (k : ℕ) (placed : List ℕ) → first n depends placed ≡ none → placing n depends (suc k) placed ≡ none
+  pub placing-none : (k : ℕ) (placed : List ℕ) → first n depends placed ≡ None → placing n depends (suc k) placed ≡ None
   unfolding placing
   placing-none k placed e = rw (placing, e)
 
-  pub placing-some : (k : ℕ) (placed : List ℕ) (i : ℕ) → first n depends placed ≡ some i → placing n depends (suc k) placed ≡ ahead i (placing n depends k (placed ++ (i ∷ [])))
+  pub placing-some : (k : ℕ) (placed : List ℕ) (i : ℕ) → first n depends placed ≡ Some i → placing n depends (suc k) placed ≡ ahead i (placing n depends k (placed ++ (i ∷ [])))
   unfolding placing
   placing-some k placed i e = rw (placing, e)
 
-  pub placing-done : (placed : List ℕ) → placing n depends 0 placed ≡ some []
+  pub placing-done : (placed : List ℕ) → placing n depends 0 placed ≡ Some []
   unfolding placing
   placing-done placed = refl
 
-ahead-told : (i : ℕ) (o : Option (List ℕ)) (l : List ℕ) → ahead i o ≡ some l → (r : List ℕ) × (o ≡ some r) × (i ∷ r ≡ l)
+ahead-told : (i : ℕ) (o : Option (List ℕ)) (l : List ℕ) → ahead i o ≡ Some l → (r : List ℕ) × (o ≡ Some r) × (i ∷ r ≡ l)
 unfolding ahead
-ahead-told i none l e = absurd (let z : ◌≡◌ {A = ℕ} 0 1 = cc in omega arith)
-ahead-told i (some r) l e = (r, refl, cc)
+ahead-told i None l e = absurd (let z : ◌≡◌ {A = ℕ} 0 1 = cc in omega arith)
+ahead-told i (Some r) l e = (r, refl, cc)
 
-ahead_none : (i : ℕ) (o : Option (List ℕ)) → ahead i o ≡ none → o ≡ none
+ahead_none : (i : ℕ) (o : Option (List ℕ)) → ahead i o ≡ None → o ≡ None
 unfolding ahead
-ahead_none i none e = refl
-ahead_none i (some r) e = absurd (let z : ◌≡◌ {A = ℕ} 0 1 = cc in omega arith)
+ahead_none i None e = refl
+ahead_none i (Some r) e = absurd (let z : ◌≡◌ {A = ℕ} 0 1 = cc in omega arith)
 
 module _ (n : ℕ) (depends : ℕ → ℕ → Bool) where
   pub record Turn (k : ℕ) (placed l : List ℕ) : Type 0 where
     pub taken : ℕ
     pub rest : List ℕ
-    pub chosen : first n depends placed ≡ some taken
-    pub goes : placing n depends k (placed ++ (taken ∷ [])) ≡ some rest
+    pub chosen : first n depends placed ≡ Some taken
+    pub goes : placing n depends k (placed ++ (taken ∷ [])) ≡ Some rest
     pub whole : taken ∷ rest ≡ l
 
-  pub placing-told : (k : ℕ) (placed l : List ℕ) → placing n depends (suc k) placed ≡ some l → Turn k placed l
+  pub placing-told : (k : ℕ) (placed l : List ℕ) → placing n depends (suc k) placed ≡ Some l → Turn k placed l
   placing-told k placed l e = go (first n depends placed) refl
     where
       go : (t : Option ℕ) → first n depends placed ≡ t → Turn k placed l
-      go none h = let q = placing-none n depends k placed h in absurd (let z : ◌≡◌ {A = ℕ} 0 1 = cc in omega arith)
-      go (some i) h =
+      go None h = let q = placing-none n depends k placed h in absurd (let z : ◌≡◌ {A = ℕ} 0 1 = cc in omega arith)
+      go (Some i) h =
           let w = ahead-told i (placing n depends k (placed ++ (i ∷ []))) l (sym (placing-some n depends k placed i h) ∙ e) in
           record { taken = i; rest = w.0; chosen = h; goes = w.1; whole = w.2 }
 
-  pub placing_stuck : (k : ℕ) (placed : List ℕ) (i : ℕ) → first n depends placed ≡ some i → placing n depends (suc k) placed ≡ none → placing n depends k (placed ++ (i ∷ [])) ≡ none
+  pub placing_stuck : (k : ℕ) (placed : List ℕ) (i : ℕ) → first n depends placed ≡ Some i → placing n depends (suc k) placed ≡ None → placing n depends k (placed ++ (i ∷ [])) ≡ None
   placing_stuck k placed i h e = ahead_none i (placing n depends k (placed ++ (i ∷ []))) (sym (placing-some n depends k placed i h) ∙ e)

@@ -3,7 +3,7 @@ use Prim.Native.Nat.{ℕ, zero, suc, ◌<◌, ◌≤◌}
 use mathlib.Core.Path.{◌≡◌, refl, sym, ap, ◌∙◌}
 use mathlib.Core.Bool.{Bool, not, ◌&&◌}
 use mathlib.Core.List.{List, [], ◌∷◌, ◌++◌}
-use mathlib.Core.Option.{Option, none, some}
+use Rattle.std.specs.Prelude.{Option, None, Some}
 use native.Mathlib.Decide.{dec_lt}
 use native.Mathlib.Omega.{arith}
 use lib.Dec.{ltb}
@@ -49,8 +49,8 @@ module _ (n : ℕ) (d e : ℕ → ℕ → Bool) (agree : (i j : ℕ) → i < n �
   placing-same (suc k) placed = go (first n e placed) refl (λ i. placing-same k (placed ++ (i ∷ [])))
     where
       go : (t : Option ℕ) → first n e placed ≡ t → ((i : ℕ) → placing n d k (placed ++ (i ∷ [])) ≡ placing n e k (placed ++ (i ∷ []))) → placing n d (suc k) placed ≡ placing n e (suc k) placed
-      go none h f = placing-none n d k placed (first-same placed ∙ h) ∙ sym (placing-none n e k placed h)
-      go (some i) h f = placing-some n d k placed i (first-same placed ∙ h) ∙ ap (ahead i) (f i) ∙ sym (placing-some n e k placed i h)
+      go None h f = placing-none n d k placed (first-same placed ∙ h) ∙ sym (placing-none n e k placed h)
+      go (Some i) h f = placing-some n d k placed i (first-same placed ∙ h) ∙ ap (ahead i) (f i) ∙ sym (placing-some n e k placed i h)
 
   pub ours_same : ours n d ≡ ours n e
   unfolding ours

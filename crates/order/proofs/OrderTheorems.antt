@@ -5,7 +5,7 @@ use mathlib.Core.Path.{◌≡◌, refl, sym}
 use mathlib.Core.Bool.{Bool, true, false}
 use mathlib.Core.List.{List, [], ◌∷◌, ◌++◌, append_assoc, append-nil}
 use mathlib.Core.Logic.{◌⊎◌, inl, inr, ◌↔◌}
-use mathlib.Core.Option.{Option, none, some}
+use Rattle.std.specs.Prelude.{Option, None, Some}
 use native.Mathlib.Decide.{dec_lt}
 use native.Mathlib.Omega.{arith}
 use lib.ListN.{length, get_or, take, length-append}
@@ -113,26 +113,26 @@ module _ (n : ℕ) (depends : ℕ → ℕ → Bool) where
 
   -- ---- ours passes
 
-  placing-checked : (k : ℕ) (placed l : List ℕ) → length placed + k ≡ n → placing n depends k placed ≡ some l → check_from n depends placed l ≡ true
+  placing-checked : (k : ℕ) (placed l : List ℕ) → length placed + k ≡ n → placing n depends k placed ≡ Some l → check_from n depends placed l ≡ true
   placing-checked zero placed l size e =
       let d = placing-done n depends placed in
       let q : [] ≡ l = cc in
       rw (← q) (told-check n depends placed [] (record { size = size; each = λ k h. absurd (omega arith) }))
   placing-checked (suc k) placed l size e = go (placing-told n depends k placed l e) (placing-checked k)
     where
-      go : Turn n depends k placed l → ((placed l : List ℕ) → length placed + k ≡ n → placing n depends k placed ≡ some l → check_from n depends placed l ≡ true) → check_from n depends placed l ≡ true
+      go : Turn n depends k placed l → ((placed l : List ℕ) → length placed + k ≡ n → placing n depends k placed ≡ Some l → check_from n depends placed l ≡ true) → check_from n depends placed l ≡ true
       go w f = rw (← w.whole) (joined w.taken w.rest (first-told n depends placed n 0 w.taken (unfold first in w.chosen)).here (f (placed ++ (w.taken ∷ [])) w.rest (omega (arith, length-append placed (w.taken ∷ []))) w.goes))
         where
           joined : (i : ℕ) (r : List ℕ) → ready n depends placed i ≡ true → check_from n depends (placed ++ (i ∷ [])) r ≡ true → check_from n depends placed (i ∷ r) ≡ true
           joined i r a b = unfold check_from in and_both (ready n depends placed i) (check_from n depends (placed ++ (i ∷ [])) r) a b
 
-  pub ours-passes : (l : List ℕ) → ours n depends ≡ some l → Passes n depends l
+  pub ours-passes : (l : List ℕ) → ours n depends ≡ Some l → Passes n depends l
   unfolding ours check
   ours-passes l e = check-passes l (placing-checked n [] l (omega arith) e)
 
   -- ---- ours is the least
 
-  placing-least : (k : ℕ) (placed l m : List ℕ) → length placed + k ≡ n → placing n depends k placed ≡ some l → check_from n depends placed m ≡ true → NotAfter l m
+  placing-least : (k : ℕ) (placed l m : List ℕ) → length placed + k ≡ n → placing n depends k placed ≡ Some l → check_from n depends placed m ≡ true → NotAfter l m
   placing-least zero placed l m size e c =
       let d = placing-done n depends placed in
       let q : [] ≡ l = cc in
@@ -159,11 +159,11 @@ module _ (n : ℕ) (depends : ℕ → ℕ → Bool) where
           by (no a) (no b) = let q : i ≡ y = omega arith in inr (q, f m (rw q tail))
 
       go : Turn n depends k placed l
-          → ((placed l m : List ℕ) → length placed + k ≡ n → placing n depends k placed ≡ some l → check_from n depends placed m ≡ true → NotAfter l m) → NotAfter l m
+          → ((placed l m : List ℕ) → length placed + k ≡ n → placing n depends k placed ≡ Some l → check_from n depends placed m ≡ true → NotAfter l m) → NotAfter l m
       go w f = rw (← w.whole) (step w.taken w.rest m (chosen w) c (λ x d. f (placed ++ (w.taken ∷ [])) w.rest x (omega (arith, length-append placed (w.taken ∷ []))) w.goes d))
 
   -- ours is the least in dictionary order of all that pass
-  pub ours-least : (l m : List ℕ) → ours n depends ≡ some l → Passes n depends m → NotAfter l m
+  pub ours-least : (l m : List ℕ) → ours n depends ≡ Some l → Passes n depends m → NotAfter l m
   unfolding ours check
   ours-least l m e p = placing-least n [] l m (omega arith) e (passes-check m p)
 
@@ -200,25 +200,25 @@ module _ (n : ℕ) (depends : ℕ → ℕ → Bool) where
         none-listed : (y : ℕ) → listed y [] ≡ true → listed y placed ≡ true
         none-listed y d = let w = listed-told y [] d in absurd (omega (arith, w.1))
 
-  placing-none-told : (k : ℕ) (placed : List ℕ) → length placed + k ≡ n → placing n depends k placed ≡ none → (o : List ℕ) → check n depends o ≡ true → ⊥
+  placing-none-told : (k : ℕ) (placed : List ℕ) → length placed + k ≡ n → placing n depends k placed ≡ None → (o : List ℕ) → check n depends o ≡ true → ⊥
   placing-none-told zero placed size e o c = let d = placing-done n depends placed in let z : ◌≡◌ {A = ℕ} 0 1 = cc in omega arith
   placing-none-told (suc k) placed size e o c = go (first n depends placed) refl (λ p s d. placing-none-told k p s d o c)
     where
-      go : (t : Option ℕ) → first n depends placed ≡ t → ((p : List ℕ) → length p + k ≡ n → placing n depends k p ≡ none → ⊥) → ⊥
-      go none h f = stuck placed (λ i low. first-none n depends placed n 0 (unfold first in h) i (omega arith) (omega arith)) (omega arith) o c
-      go (some i) h f = f (placed ++ (i ∷ [])) (omega (arith, length-append placed (i ∷ []))) (placing_stuck n depends k placed i h e)
+      go : (t : Option ℕ) → first n depends placed ≡ t → ((p : List ℕ) → length p + k ≡ n → placing n depends k p ≡ None → ⊥) → ⊥
+      go None h f = stuck placed (λ i low. first-none n depends placed n 0 (unfold first in h) i (omega arith) (omega arith)) (omega arith) o c
+      go (Some i) h f = f (placed ++ (i ∷ [])) (omega (arith, length-append placed (i ∷ []))) (placing_stuck n depends k placed i h e)
 
   -- "29 exactly when no such order exists"
-  pub none_passes : ours n depends ≡ none → (o : List ℕ) → Passes n depends o → ⊥
+  pub none_passes : ours n depends ≡ None → (o : List ℕ) → Passes n depends o → ⊥
   unfolding ours
   none_passes e o p = placing-none-told n [] (omega arith) e o (passes-check o p)
 
-  pub passes_none : ((o : List ℕ) → Passes n depends o → ⊥) → ours n depends ≡ none
+  pub passes_none : ((o : List ℕ) → Passes n depends o → ⊥) → ours n depends ≡ None
   passes_none f = go (ours n depends) refl
     where
-      go : (t : Option (List ℕ)) → ours n depends ≡ t → ours n depends ≡ none
-      go none e = e
-      go (some l) e = absurd (f l (ours-passes l e))
+      go : (t : Option (List ℕ)) → ours n depends ≡ t → ours n depends ≡ None
+      go None e = e
+      go (Some l) e = absurd (f l (ours-passes l e))
 
-  pub none-exactly : (ours n depends ≡ none) ↔ ((o : List ℕ) → Passes n depends o → ⊥)
+  pub none-exactly : (ours n depends ≡ None) ↔ ((o : List ℕ) → Passes n depends o → ⊥)
   none-exactly = (none_passes, passes_none)

@@ -21,7 +21,8 @@ use Rattle.spv.specs.Hashes.{among, hashes, index_of, Distinct}
 use Rattle.spv.proofs.HashesLaws.{hashes-length}
 use Rattle.order.specs.Bits.{bit, with_bit}
 use Rattle.order.proofs.BitsLaws.{bit_with}
-use Rattle.order.specs.Code.{depends_in}
+use Rattle.std.specs.Prelude.{None, Some}
+use Rattle.order.specs.Code.{depends_in, found}
 use Rattle.order.proofs.IdsLaws.{index-here, index-told}
 use Rattle.order.specs.Parents.{parents_from, with_parent, put_parent, named, all_named, filled_from}
 
@@ -137,13 +138,25 @@ module _ (ids : List (List ℕ)) (few : length ids ≤ 256) where
 
 -- ---- put_parent
 
-pub put_made : (n : ℕ) (m : List ℕ) (i j : ℕ) {x : ℕ} → j < n → x ≡ with_bit (j % 8) (get_or m (32 * i + j / 8) 0) → set m (32 * i + j / 8) x ≡ put_parent n m i j
-unfolding with_parent put_parent
-put_made n m i j h e = rw (lt-ltb j n h) (ap (set m (32 * i + j / 8)) e)
+pub put_made : (m : List ℕ) (i j : ℕ) {x : ℕ} → x ≡ with_bit (j % 8) (get_or m (32 * i + j / 8) 0) → set m (32 * i + j / 8) x ≡ with_parent m i j
+unfolding with_parent
+put_made m i j e = ap (set m (32 * i + j / 8)) e
 
-pub put-none : (n : ℕ) (m : List ℕ) (i j : ℕ) → n ≤ j → m ≡ put_parent n m i j
-unfolding put_parent
-put-none n m i j h = rw (le-ltb j n h)
+pub put_found : (n : ℕ) (m : List ℕ) (i r : ℕ) {j : ℕ} → Some j ≡ found n r → with_parent m i j ≡ put_parent n m i r
+unfolding put_parent found
+put_found n m i r {j} = go (ltb r n)
+  where
+    go : (t : Bool) → Some j ≡ pick t (Some r) None → with_parent m i j ≡ pick t (with_parent m i r) m
+    go true e = let z : j ≡ r = cc in rw z
+    go false e = cc
+
+pub put-none : (n : ℕ) (m : List ℕ) (i r : ℕ) → None ≡ found n r → m ≡ put_parent n m i r
+unfolding put_parent found
+put-none n m i r = go (ltb r n)
+  where
+    go : (t : Bool) → None ≡ pick t (Some r) None → m ≡ pick t (with_parent m i r) m
+    go true e = cc
+    go false e = refl
 
 pub put-length : (n : ℕ) (m : List ℕ) (i j : ℕ) → length (put_parent n m i j) ≡ length m
 unfolding put_parent
@@ -164,12 +177,12 @@ module _ (s bytes : List ℕ) (c i n k at : ℕ) (m : List ℕ) where
   unfolding parents_from all_named
   putting_end past = let none : n - k ≡ 0 = omega arith in rw none
 
-  pub putting_on : {input : Input} {q j : ℕ} {x m' : List ℕ} → k < n → input_field s at ≡ ok input q → x ≡ hash_at s input.parent → j ≡ index_of x (hashes c bytes)
-      → m' ≡ put_parent c m i j → all_named (hashes c bytes) i m (parents_from s (n - k) at) ≡ all_named (hashes c bytes) i m' (parents_from s (n - (k + 1)) q)
+  pub putting_on : {input : Input} {q : ℕ} {x m' : List ℕ} → k < n → input_field s at ≡ ok input q → x ≡ hash_at s input.parent
+      → m' ≡ put_parent c m i (index_of x (hashes c bytes)) → all_named (hashes c bytes) i m (parents_from s (n - k) at) ≡ all_named (hashes c bytes) i m' (parents_from s (n - (k + 1)) q)
   unfolding parents_from all_named named
-  putting_on {input} {q} {j} {x} {m'} low e is found new =
+  putting_on {input} {q} {x} {m'} low e is new =
       rw (one_less n k low) (rw e (ap (λ (y : List ℕ). all_named (hashes c bytes) i y (parents_from s (n - (k + 1)) q))
-      (sym (new ∙ ap (put_parent c m i) (found ∙ ap (λ (y : List ℕ). index_of y (hashes c bytes)) is) ∙ ap (λ (y : ℕ). put_parent y m i (index_of (hash_at s input.parent) (hashes c bytes))) (sym (hashes-length c bytes))))))
+      (sym (new ∙ ap (λ (y : List ℕ). put_parent c m i (index_of y (hashes c bytes))) is ∙ ap (λ (y : ℕ). put_parent y m i (index_of (hash_at s input.parent) (hashes c bytes))) (sym (hashes-length c bytes))))))
 
 -- ---- fill_parents: a loop that has passed i of n transactions
 

@@ -4,7 +4,7 @@ use mathlib.Core.Path.{◌≡◌, refl, sym, ap, ◌∙◌}
 use mathlib.Core.Bool.{Bool, true, false}
 use mathlib.Core.List.{List, map}
 use mathlib.Core.Logic.{◌↔◌}
-use mathlib.Core.Option.{Option, none, some}
+use Rattle.std.specs.Prelude.{Option, None, Some}
 use native.Mathlib.Omega.{arith}
 use lib.Dec.{leb}
 use lib.ListN.{length}
@@ -97,8 +97,8 @@ module _ (s : List ℕ) (count : ℕ) where
       refused_22 = (λ e. go (leb (length (set_of s h)) room) refl (ours_of (set_of s h)) (sym (orders h room) ∙ e), λ short. orders h room ∙ rw (lt-leb (length (set_of s h)) room short))
         where
           go : (t : Bool) → leb (length (set_of s h)) room ≡ t → (x : Option (List ℕ)) → pick t (proposed x) (refusing NO_ROOM) ≡ refusing NO_ROOM → room < length (set_of s h)
-          go true q none f = absurd (let g : ◌≡◌ {A = SetResult (List ℕ)} (refusing NO_ORDER) (refusing NO_ROOM) = (unfold proposed in f) in let z : ◌≡◌ {A = ℕ} NO_ORDER NO_ROOM = same-refusal NO_ORDER NO_ROOM g in omega arith)
-          go true q (some l) f = absurd (let g : ◌≡◌ {A = SetResult (List ℕ)} (accepted l) (refusing NO_ROOM) = (unfold proposed in f) in let z : ◌≡◌ {A = ℕ} 0 1 = cc in omega arith)
+          go true q None f = absurd (let g : ◌≡◌ {A = SetResult (List ℕ)} (refusing NO_ORDER) (refusing NO_ROOM) = (unfold proposed in f) in let z : ◌≡◌ {A = ℕ} NO_ORDER NO_ROOM = same-refusal NO_ORDER NO_ROOM g in omega arith)
+          go true q (Some l) f = absurd (let g : ◌≡◌ {A = SetResult (List ℕ)} (accepted l) (refusing NO_ROOM) = (unfold proposed in f) in let z : ◌≡◌ {A = ℕ} 0 1 = cc in omega arith)
           go false q x f = leb-false (length (set_of s h)) room q
 
       module _ (fits : length (set_of s h) ≤ room) where
@@ -109,17 +109,17 @@ module _ (s : List ℕ) (count : ℕ) where
             ours_made : order_set s count room ≡ proposed (ours_of (set_of s h))
             ours_made = orders h room ∙ rw (le-leb (length (set_of s h)) room fits)
 
-            go : (o : Option (List ℕ)) → ours_of (set_of s h) ≡ o → proposed o ≡ refusing NO_ORDER → ours_of (set_of s h) ≡ none
-            go none q f = q
-            go (some l) q f = absurd (let g : ◌≡◌ {A = SetResult (List ℕ)} (accepted l) (refusing NO_ORDER) = (unfold proposed in f) in let z : ◌≡◌ {A = ℕ} 0 1 = cc in omega arith)
+            go : (o : Option (List ℕ)) → ours_of (set_of s h) ≡ o → proposed o ≡ refusing NO_ORDER → ours_of (set_of s h) ≡ None
+            go None q f = q
+            go (Some l) q f = absurd (let g : ◌≡◌ {A = SetResult (List ℕ)} (accepted l) (refusing NO_ORDER) = (unfold proposed in f) in let z : ◌≡◌ {A = ℕ} 0 1 = cc in omega arith)
 
       -- ours is accepted only with room for it, holds every transaction once after its parents, and is the least of all such orders
-      ours-told : (o : List ℕ) → order_set s count room ≡ accepted o → (length (set_of s h) ≤ room) × (ours_of (set_of s h) ≡ some o)
+      ours-told : (o : List ℕ) → order_set s count room ≡ accepted o → (length (set_of s h) ≤ room) × (ours_of (set_of s h) ≡ Some o)
       ours-told o e = go (leb (length (set_of s h)) room) refl (ours_of (set_of s h)) refl (sym (orders h room) ∙ e)
         where
-          go : (t : Bool) → leb (length (set_of s h)) room ≡ t → (x : Option (List ℕ)) → ours_of (set_of s h) ≡ x → pick t (proposed x) (refusing NO_ROOM) ≡ accepted o → (length (set_of s h) ≤ room) × (ours_of (set_of s h) ≡ some o)
-          go true q none r f = absurd (let g : ◌≡◌ {A = SetResult (List ℕ)} (refusing NO_ORDER) (accepted o) = (unfold proposed in f) in let z : ◌≡◌ {A = ℕ} 0 1 = cc in omega arith)
-          go true q (some l) r f = let g : ◌≡◌ {A = SetResult (List ℕ)} (accepted l) (accepted o) = (unfold proposed in f) in let z : l ≡ o = cc in (leb-true (length (set_of s h)) room q, r ∙ ap some z)
+          go : (t : Bool) → leb (length (set_of s h)) room ≡ t → (x : Option (List ℕ)) → ours_of (set_of s h) ≡ x → pick t (proposed x) (refusing NO_ROOM) ≡ accepted o → (length (set_of s h) ≤ room) × (ours_of (set_of s h) ≡ Some o)
+          go true q None r f = absurd (let g : ◌≡◌ {A = SetResult (List ℕ)} (refusing NO_ORDER) (accepted o) = (unfold proposed in f) in let z : ◌≡◌ {A = ℕ} 0 1 = cc in omega arith)
+          go true q (Some l) r f = let g : ◌≡◌ {A = SetResult (List ℕ)} (accepted l) (accepted o) = (unfold proposed in f) in let z : l ≡ o = cc in (leb-true (length (set_of s h)) room q, r ∙ ap Some z)
           go false q x r f = absurd (let z : ◌≡◌ {A = ℕ} 0 1 = cc in omega arith)
 
       pub ours_ordered : (o : List ℕ) → order_set s count room ≡ accepted o → InOrder (set_of s h) o
@@ -154,8 +154,8 @@ module _ (s : List ℕ) (count : ℕ) where
         apart h e = go (leb (length (set_of s h)) room) (ours_of (set_of s h)) (sym (orders h room) ∙ e)
           where
             go : (t : Bool) (x : Option (List ℕ)) → pick t (proposed x) (refusing NO_ROOM) ≡ refusing SAME_TX → ⊥
-            go true none f = let z : ◌≡◌ {A = ℕ} NO_ORDER SAME_TX = same-refusal NO_ORDER SAME_TX (unfold proposed in f) in omega arith
-            go true (some o) f = let g : ◌≡◌ {A = SetResult (List ℕ)} (accepted o) (refusing SAME_TX) = (unfold proposed in f) in let z : ◌≡◌ {A = ℕ} 0 1 = cc in omega arith
+            go true None f = let z : ◌≡◌ {A = ℕ} NO_ORDER SAME_TX = same-refusal NO_ORDER SAME_TX (unfold proposed in f) in omega arith
+            go true (Some o) f = let g : ◌≡◌ {A = SetResult (List ℕ)} (accepted o) (refusing SAME_TX) = (unfold proposed in f) in let z : ◌≡◌ {A = ℕ} 0 1 = cc in omega arith
             go false x f = let z : ◌≡◌ {A = ℕ} NO_ROOM SAME_TX = same-refusal NO_ROOM SAME_TX f in omega arith
 
     pub check_19 : (order : List ℕ) → (check_set s count order ≡ refusing SAME_TX) ↔ (Distinct ids → ⊥)

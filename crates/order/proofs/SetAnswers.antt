@@ -3,7 +3,7 @@ use Prim.Native.Nat.{ℕ, zero, suc, ◌+◌, ◌*◌, ◌/◌, ◌%◌, ◌<◌
 use mathlib.Core.Path.{◌≡◌, refl, sym, ap, ◌∙◌}
 use mathlib.Core.Bool.{Bool, true, false, ◌&&◌, ◌||◌, or-false}
 use mathlib.Core.List.{List, [], ◌∷◌, map}
-use mathlib.Core.Option.{Option, none, some}
+use Rattle.std.specs.Prelude.{Option, None, Some}
 use native.Mathlib.Omega.{arith}
 use lib.Dec.{leb, ltb}
 use lib.ListN.{length, get_or, replicate, length-replicate, get_or-replicate, length-map}
@@ -19,18 +19,19 @@ use Rattle.format.specs.Refusals.{SAME_TX, NO_ROOM, NO_ORDER, BAD_ORDER, MAX_INP
 use Rattle.spv.specs.declared.rejection.Rejection.{Rejection}
 use Rattle.spv.specs.Result.{carrying}
 use Rattle.spv.specs.Hashes.{among, hashes, Distinct}
-use Rattle.order.specs.declared.answer.Ordered.{Ordered}
-use Rattle.order.specs.declared.answer.Ordered.TheVariants.{Accepted, Refused}
+use Rattle.std.specs.Prelude.{Ok, Err}
+use Rattle.order.specs.declared.answer.SetRefusal.{SetRefusal}
 use Rattle.spv.proofs.TestLaws.{clash}
 use Rattle.order.specs.Bits.{bit}
 use Rattle.order.specs.Order.{check, ours}
 use Rattle.order.proofs.OrderSame.{check-same, ours_same}
-use Rattle.order.specs.Code.{depends_in, is_some}
+use Rattle.std.specs.Option.{is_some}
+use Rattle.order.specs.Code.{depends_in}
 use Rattle.order.proofs.IdsLaws.{new_different}
 use Rattle.order.specs.Parents.{parents_from, all_named, filled_from}
 use Rattle.order.proofs.ParentsLaws.{all-named-length, all-named-told}
-use Rattle.order.specs.Set.{SetResult, accepted, refused, refusing, follow, after, before, read_from, read_set, Handed, no_one, handed_in, id_of, new_from, new_ids, id_at, parents_at, parent_in, passes, ours_of, proposed, ordering, checking, order_set, check_set, ordered_of, row_after}
-use Rattle.order.specs.SetRead.{read_by, ids_of, differing, opened}
+use Rattle.order.specs.Set.{SetResult, accepted, refused, refusing, follow, after, before, read_from, read_set, Handed, no_one, handed_in, id_of, new_from, new_ids, id_at, parents_at, parent_in, passes, ours_of, proposed, ordering, checking, order_set, check_set, set_refusal, ordered_of, row_after}
+use Rattle.order.specs.SetRead.{ids_of, differing, opened}
 
 -- ---- reading, one transaction at a time
 
@@ -168,14 +169,11 @@ set_told s count l e = go (leb count MAX_TXS) refl (leb (length s) MAX_INPUT) e
     go true p false f = absurd (let z : ◌≡◌ {A = ℕ} 0 1 = cc in omega arith)
     go false p b f = absurd (let z : ◌≡◌ {A = ℕ} 0 1 = cc in omega arith)
 
-module _ (s ids : List ℕ) (count : ℕ) {r : Ordered} (e : read_by r count ids ≡ opened s count) where
-  pub opened-told : r ≡ Accepted → Opened s ids count
+module _ (s : List ℕ) (count : ℕ) where
+  pub opened-told : (ids : List ℕ) → accepted (hashes count ids) ≡ opened s count → Opened s ids count
   unfolding opened
-  opened-told h = go (read_set s count) refl (sym e ∙ accepts)
+  opened-told ids e = go (read_set s count) refl (sym e)
     where
-      accepts : read_by r count ids ≡ accepted (hashes count ids)
-      accepts = rw h (unfold read_by in refl)
-
       all : (l : List Transaction) → read_set s count ≡ accepted l → (t : Bool) → new_from [] (map (txid s) l) ≡ t
           → pick t (accepted (map (txid s) l)) (refusing SAME_TX) ≡ accepted (hashes count ids) → Opened s ids count
       all l m true f g =
@@ -189,13 +187,10 @@ module _ (s ids : List ℕ) (count : ℕ) {r : Ordered} (e : read_by r count ids
       go (refused why k) m f = absurd (let g : ◌≡◌ {A = SetResult (List (List ℕ))} (refused why k) (accepted (hashes count ids)) = (unfold differing ids_of in f) in let z : ◌≡◌ {A = ℕ} 0 1 = cc in omega arith)
 
   -- a set that is refused: both calls refuse it
-  module _ {why : Rejection} {k : ℕ} (h : r ≡ Refused why k) where
-    refuses : read_by r count ids ≡ refused why k
-    refuses = rw h (unfold read_by in refl)
-
+  module _ {why : Rejection} {k : ℕ} (e : refused why k ≡ opened s count) where
     stops : {B : Type 0} (f : List Transaction → SetResult B) → ((l : List Transaction) → new_from [] (map (txid s) l) ≡ false → f l ≡ refusing SAME_TX) → follow (read_set s count) f ≡ refused why k
     unfolding opened
-    stops {B = B} f again = go (read_set s count) (sym e ∙ refuses)
+    stops {B = B} f again = go (read_set s count) (sym e)
       where
         all : (l : List Transaction) (t : Bool) → new_from [] (map (txid s) l) ≡ t → pick t (accepted (map (txid s) l)) (refusing SAME_TX) ≡ refused why k → f l ≡ refused why k
         all l true m g = absurd (let z : ◌≡◌ {A = ℕ} 0 1 = cc in omega arith)
@@ -298,41 +293,38 @@ module _ (s ids : List ℕ) (count : ℕ) (o : Opened s ids count) where
 -- ---- answers
 
 -- a call that refuses
-pub answer_refused : {A : Type 0} {x : SetResult A} {r : Ordered} {why : Rejection} {k : ℕ} → x ≡ refused why k → r ≡ Refused why k → r ≡ ordered_of x
-unfolding ordered_of
-answer_refused e h = rw e h
+pub answer_refused : {A : Type 0} {x : SetResult A} {r : SetRefusal} {why : Rejection} {k : ℕ} → x ≡ refused why k → r ≡ set_refusal why k → Err r ≡ ordered_of x
+answer_refused e h = rw (e, h)
 
 pub row-refused : {x : SetResult (List ℕ)} {why : Rejection} {k : ℕ} {row : List ℕ} (old : List ℕ) → x ≡ refused why k → row ≡ replicate (length old) 0 → row ≡ row_after x old
 unfolding row_after
 row-refused old e h = rw e h
 
 -- a proposal
-module _ {x : SetResult (List ℕ)} (order : List ℕ) (t : Bool) {r : Ordered} (e : x ≡ pick t (accepted order) (refusing BAD_ORDER)) where
-  pub answer_fails : t ≡ false → r ≡ Refused (carrying BAD_ORDER 0) 0 → r ≡ ordered_of x
-  unfolding ordered_of
-  answer_fails f h = rw (e, f) h
+module _ {x : SetResult (List ℕ)} (order : List ℕ) (t : Bool) (e : x ≡ pick t (accepted order) (refusing BAD_ORDER)) where
+  pub answer_fails : t ≡ false → {r : SetRefusal} → r ≡ set_refusal (carrying BAD_ORDER 0) 0 → Err r ≡ ordered_of x
+  answer_fails f h = rw (e, f, h)
 
-  pub answer_passes : t ≡ true → r ≡ Accepted → r ≡ ordered_of x
-  unfolding ordered_of
-  answer_passes f h = rw (e, f) h
+  pub answer_passes : t ≡ true → Ok tt ≡ ordered_of x
+  answer_passes f = rw (e, f)
 
 -- ours
-module _ {x : SetResult (List ℕ)} (o : Option (List ℕ)) {t : Bool} {r : Ordered} (e : x ≡ proposed o) (is : t ≡ is_some o) where
-  pub answer_none : t ≡ false → r ≡ Refused (carrying NO_ORDER 0) 0 → r ≡ ordered_of x
-  unfolding ordered_of proposed is_some
-  answer_none f h = rw e (go o (sym is ∙ f))
+module _ {x : SetResult (List ℕ)} (o : Option (List ℕ)) {t : Bool} (e : x ≡ proposed o) (is : t ≡ is_some o) where
+  pub answer_none : t ≡ false → {r : SetRefusal} → r ≡ set_refusal (carrying NO_ORDER 0) 0 → Err r ≡ ordered_of x
+  unfolding proposed
+  answer_none f {r} h = rw e (go o (sym is ∙ f))
     where
-      go : (o : Option (List ℕ)) → is_some o ≡ false → r ≡ ordered_of (proposed o)
-      go none g = h
-      go (some l) g = clash true refl g
+      go : (o : Option (List ℕ)) → is_some o ≡ false → Err r ≡ ordered_of (proposed o)
+      go None g = rw h
+      go (Some l) g = clash true refl g
 
-  pub answer_some : t ≡ true → r ≡ Accepted → r ≡ ordered_of x
-  unfolding ordered_of proposed is_some
-  answer_some f h = rw e (go o (sym is ∙ f))
+  pub answer_some : t ≡ true → Ok tt ≡ ordered_of x
+  unfolding proposed
+  answer_some f = rw e (go o (sym is ∙ f))
     where
-      go : (o : Option (List ℕ)) → is_some o ≡ true → r ≡ ordered_of (proposed o)
-      go none g = clash false g refl
-      go (some l) g = h
+      go : (o : Option (List ℕ)) → is_some o ≡ true → Ok tt ≡ ordered_of (proposed o)
+      go None g = clash false g refl
+      go (Some l) g = refl
 
 pub row-ours : {x : SetResult (List ℕ)} (o : Option (List ℕ)) {row : List ℕ} (old : List ℕ) → x ≡ proposed o → row ≡ row_after (proposed o) old → row ≡ row_after x old
 row-ours o old e h = h ∙ ap (λ (y : SetResult (List ℕ)). row_after y old) (sym e)

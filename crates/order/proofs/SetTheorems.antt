@@ -4,7 +4,7 @@ use mathlib.Core.Path.{◌≡◌}
 use mathlib.Core.Bool.{true}
 use mathlib.Core.List.{List}
 use mathlib.Core.Logic.{◌↔◌}
-use mathlib.Core.Option.{none, some}
+use Rattle.std.specs.Prelude.{None, Some}
 use lib.ListN.{length, get_or}
 use Rattle.spv.specs.Hashes.{Among}
 use Rattle.spv.proofs.HashesLaws.{among-told, told-among}
@@ -36,17 +36,17 @@ module _ (set : List Handed) where
   unfolding passes
   passes-exactly order = (λ e. in_order order (check-passes (length set) (parent_in set) order e), λ p. passes-check (length set) (parent_in set) order (ordered order p))
 
-  pub ours_in_order : (l : List ℕ) → ours_of set ≡ some l → InOrder set l
+  pub ours_in_order : (l : List ℕ) → ours_of set ≡ Some l → InOrder set l
   unfolding ours_of
   ours_in_order l e = in_order l (ours-passes (length set) (parent_in set) l e)
 
   -- ours is the least in dictionary order of all that pass
-  pub ours-first : (l order : List ℕ) → ours_of set ≡ some l → InOrder set order → NotAfter l order
+  pub ours-first : (l order : List ℕ) → ours_of set ≡ Some l → InOrder set order → NotAfter l order
   unfolding ours_of
   ours-first l order e p = ours-least (length set) (parent_in set) l order e (ordered order p)
 
   -- "29 exactly when no such order exists"
-  pub none-exactly : (ours_of set ≡ none) ↔ ((order : List ℕ) → InOrder set order → ⊥)
+  pub none-exactly : (ours_of set ≡ None) ↔ ((order : List ℕ) → InOrder set order → ⊥)
   unfolding ours_of
   none-exactly = (
     λ e order p. none_passes (length set) (parent_in set) e order (ordered order p),

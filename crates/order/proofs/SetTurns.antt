@@ -131,9 +131,17 @@ module _ (s : List ℕ) (n : ℕ) where
             turn : read_from s (n - i) i at ≡ before t (read_from s (n - (i + 1)) (i + 1) q)
             turn = rw (one_less n i low) (unfold read_from in rw (m, add-one i))
 
-    pub reading_extra : n ≤ i → at < length s → ids_of s (read_from s n 0 0) ≡ refused (carrying EXTRA at) i
-    reading_extra past more = sym r.kept ∙ ap (λ (x : SetResult (List Transaction)). ahead (ids_between s places i) (ids_of s x)) here ∙ (unfold ahead ids_of in refl)
+    pub reading_extra : n ≤ i → at < length s → ids_of s (read_from s n 0 0) ≡ refused (carrying EXTRA at) n
+    reading_extra past more =
+        sym r.kept ∙ ap (λ (x : SetResult (List Transaction)). ahead (ids_between s places i) (ids_of s x)) here ∙ none_after
+        ∙ ap (λ (k : ℕ). refused (carrying EXTRA at) k) all
       where
+        none_after : ahead (ids_between s places i) (ids_of s (refused (carrying EXTRA at) i)) ≡ refused (carrying EXTRA at) i
+        none_after = unfold ahead ids_of in refl
+
+        all : i ≡ n
+        all = let d = r.done in omega arith
+
         here : read_from s (n - i) i at ≡ refused (carrying EXTRA at) i
         here = let none : n - i ≡ 0 = omega arith in rw none (unfold read_from in rw (lt-ltb at (length s) more))
 

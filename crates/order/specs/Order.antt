@@ -1,6 +1,6 @@
 -- The checker of an order and our own order, over numbers and their parents (02, Item 12).
 use Rattle.std.specs.Prelude.{ℕ, zero, suc, ◌<◌, ◌≡◌, Bool, true, not, ◌&&◌, ◌||◌, List, [], ◌∷◌, ◌++◌, ◌⊎◌, eqb, ltb, length}
-use Rattle.std.proofs.Math.Option.{Option, none, some}
+use Rattle.std.specs.Prelude.{Option, None, Some}
 use Rattle.format.specs.Parse.{pick}
 use Rattle.order.specs.Listed.{listed}
 
@@ -25,22 +25,22 @@ module _ (n : ℕ) (depends : ℕ → ℕ → Bool) where
 
   -- the first that is ready, of k from i on
   unfoldable pub first_from : List ℕ → ℕ → ℕ → Option ℕ
-  first_from placed zero i = none
-  first_from placed (suc k) i = pick (ready placed i) (some i) (first_from placed k (suc i))
+  first_from placed zero i = None
+  first_from placed (suc k) i = pick (ready placed i) (Some i) (first_from placed k (suc i))
 
   unfoldable pub first : List ℕ → Option ℕ
   first placed = first_from placed n 0
 
 -- a number in front
 unfoldable pub ahead : ℕ → Option (List ℕ) → Option (List ℕ)
-ahead i none = none
-ahead i (some l) = some (i ∷ l)
+ahead i None = None
+ahead i (Some l) = Some (i ∷ l)
 
 module _ (n : ℕ) (depends : ℕ → ℕ → Bool) where
   -- "Ours each time takes the first handed in, of those not yet placed, whose parents in the set are placed", k more times
   unfoldable pub placing : ℕ → List ℕ → Option (List ℕ)
-  placing zero placed = some []
-  placing (suc k) placed = elim (first n depends placed) [ none ↦ none | some i ↦ ahead i (placing k (placed ++ (i ∷ []))) ]
+  placing zero placed = Some []
+  placing (suc k) placed = elim (first n depends placed) [ None ↦ None | Some i ↦ ahead i (placing k (placed ++ (i ∷ []))) ]
 
   unfoldable pub ours : Option (List ℕ)
   ours = placing n []

@@ -1,6 +1,6 @@
 -- A set of raw transactions as it is handed in, and what its two calls come to (02, Item 12).
-use Rattle.std.specs.Prelude.{ℕ, zero, suc, ◌<◌, ◌≡◌, Bool, true, not, ◌&&◌, List, [], ◌∷◌, ◌++◌, map, ltb, leb, length, get_or, drop, replicate}
-use Rattle.std.proofs.Math.Option.{Option, none, some}
+use Rattle.std.specs.Prelude.{ℕ, zero, suc, ◌<◌, ◌≡◌, Bool, true, not, ◌&&◌, List, [], ◌∷◌, ◌++◌, map, ltb, leb, length, get_or, drop, replicate, Result as Answer, Ok, Err}
+use Rattle.std.specs.Prelude.{Option, None, Some}
 use Rattle.format.specs.declared.transaction.Input.{Input}
 use Rattle.format.specs.Parse.{Parse, ok, fault, pick}
 use Rattle.format.specs.Bytes.{hash_at}
@@ -11,8 +11,7 @@ use Rattle.spv.specs.declared.rejection.Rejection.{Rejection}
 use Rattle.spv.specs.Result.{Result, carrying}
 use Rattle.spv.specs.Result as R
 use Rattle.spv.specs.Hashes.{among, Among}
-use Rattle.order.specs.declared.answer.Ordered.{Ordered}
-use Rattle.order.specs.declared.answer.Ordered.TheVariants.{Accepted, Refused}
+use Rattle.order.specs.declared.answer.SetRefusal.{SetRefusal}
 use Rattle.order.specs.Order.{check, ours}
 
 -- ---- what a call on a set comes to: accepted with a value, or refused; a refusal is told with the number of a transaction
@@ -106,8 +105,8 @@ module _ (set : List Handed) where
 
 -- "29 exactly when no such order exists"
 unfoldable pub proposed : Option (List ℕ) → SetResult (List ℕ)
-proposed none = refusing NO_ORDER
-proposed (some l) = accepted l
+proposed None = refusing NO_ORDER
+proposed (Some l) = accepted l
 
 -- "19, then 22 for an order row shorter than the set, then 29"
 unfoldable pub ordering : ℕ → List Handed → SetResult (List ℕ)
@@ -126,9 +125,12 @@ unfoldable pub check_set : List ℕ → ℕ → List ℕ → SetResult (List ℕ
 check_set s count order = follow (read_set s count) (λ l. checking order (map (handed_in s) l))
 
 -- the answer
-unfoldable pub ordered_of : {A : Type 0} → SetResult A → Ordered
-ordered_of (accepted a) = Accepted
-ordered_of (refused why k) = Refused why k
+abbrev pub set_refusal : Rejection → ℕ → SetRefusal
+set_refusal why k = record { rejection = why; transaction = k }
+
+abbrev pub ordered_of : {A : Type 0} → SetResult A → Answer (Unit {0}) SetRefusal
+ordered_of (accepted a) = Ok tt
+ordered_of (refused why k) = Err (set_refusal why k)
 
 -- as other calls answer, and what becomes of memory for the transaction's number
 unfoldable pub result_of : {A : Type 0} → SetResult A → Result A

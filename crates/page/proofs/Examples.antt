@@ -1,5 +1,6 @@
 -- The edges of a page: no ids at all, a part of one, one too many, a row that is too short, a BUMP that is refused, and an id that is not listed.
 use mathlib.Core.Path.{◌≡◌, refl}
+use Rattle.std.specs.Prelude.{Result as Reply, Ok, Err}
 use mathlib.Core.List.{List, [], ◌∷◌, map}
 use Prim.Native.Nat.{ℕ}
 use lib.ListN.{replicate}
@@ -12,16 +13,14 @@ use Rattle.path.specs.Search.{least_offset}
 use Rattle.spv.specs.Result.{carrying}
 use Rattle.spv.specs.Prove.{prove_by}
 use Rattle.spv.specs.Readings.{starting, levels_reading, bump_reading_up_to}
-use Rattle.spv.specs.Shapes.{proved_of}
 use Rattle.spv.specs.Hashes.{hashes, hashes_of}
 use Rattle.page.specs.declared.Answer.{Answer}
-use Rattle.page.specs.declared.Paged.{Paged}
-use Rattle.page.specs.declared.Paged.TheVariants.{Answered, Refused}
-use Rattle.page.specs.Page.{blank_answer, answer_by, answer_of, single, answers, allowed, bump_for, page, paged_of, row_of}
+use Rattle.spv.specs.declared.rejection.Rejection.{Rejection}
+use Rattle.page.specs.Page.{blank_answer, answer_of, single, answers, allowed, bump_for, page, paged_of, row_of}
 
 -- what a page answers, and what its row gets
 pub record Answering : Type 0 where
-  pub paged : Paged
+  pub paged : Reply ℕ Rejection
   pub row : List Answer
 
 -- a BUMP, ids and a row of so many answers, and what they come to
@@ -36,10 +35,10 @@ answering c = record { paged = paged_of (page c.bump c.ids c.room); row = row_of
 
 abbrev pub refused_page : List ℕ → List ℕ → ℕ → ℕ → ℕ → Case
 refused_page s ids room number carried =
-    record { bump = s; ids = ids; room = room; comes = record { paged = Refused (carrying number carried); row = replicate room blank_answer } }
+    record { bump = s; ids = ids; room = room; comes = record { paged = Err (carrying number carried); row = replicate room blank_answer } }
 
 abbrev pub answered_page : List ℕ → List ℕ → ℕ → ℕ → List Answer → Case
-answered_page s ids room count row = record { bump = s; ids = ids; room = room; comes = record { paged = Answered count; row = row } }
+answered_page s ids room count row = record { bump = s; ids = ids; room = room; comes = record { paged = Ok count; row = row } }
 
 abbrev pub not_listed : Answer
 not_listed = record { refusal = 13; carried = 0; layer = 0; sibling = 0; position = 0; layers = 0; root = replicate 32 0 }
@@ -57,5 +56,5 @@ cases =
 
 -- every page comes to what the table says
 pub examples : map answering cases ≡ map (λ c. c.comes) cases
-unfolding answering cases answer_by answer_of single answers allowed bump_for page paged_of row_of padded hashes hashes_of proved_of varint byte bytes many each level_field block_field height_up_to bump_up_to whole least_offset prove_by starting levels_reading bump_reading_up_to
+unfolding answering cases answer_of single answers allowed bump_for page row_of padded hashes hashes_of varint byte bytes many each level_field block_field height_up_to bump_up_to whole least_offset prove_by starting levels_reading bump_reading_up_to
 examples = refl

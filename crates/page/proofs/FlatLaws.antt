@@ -6,6 +6,7 @@ use mathlib.Core.Bool.{Bool, true, false}
 use mathlib.Core.List.{List}
 use native.Mathlib.Omega.{arith}
 use lib.Dec.{eqb, ltb}
+use Rattle.std.specs.Prelude.{Result as Reply, Ok, Err, IfOk}
 use lib.ListN.{length, get_or, set, take, replicate}
 use lib.Seq.{get_or-set_same, get_or-set_other, take-length}
 use borrow.Author.Count.{below_more}
@@ -16,7 +17,6 @@ use Rattle.format.specs.Bump.{Bump}
 use Rattle.path.specs.Path.{bump_path_of, bump_path}
 use Rattle.format.specs.Bytes.{set_hash, hash_at}
 use Rattle.format.proofs.BytesLaws.{set-inside, hash-there, hash-at-length}
-use Rattle.spv.specs.Result.{refused}
 use Rattle.spv.specs.Prove.{prove}
 use Rattle.spv.specs.Readings.{path_reading}
 use Rattle.spv.specs.Shapes.{accepted_of, proved_of}
@@ -28,12 +28,10 @@ use Rattle.spv.proofs.RowsLaws.{rows_same}
 use Rattle.spv.specs.declared.rejection.Rejection.{Rejection}
 use Rattle.spv.specs.declared.prove.Proved.{Proved}
 use Rattle.page.specs.declared.Answer.{Answer}
-use Rattle.page.specs.declared.Opening.{Opening}
-use Rattle.page.specs.declared.Paged.{Paged}
 use Rattle.page.specs.Page.{MAX_PAGE, blank_answer, answer_of, bump_for, page, paged_of, row_of}
 use Rattle.page.proofs.PageLaws.{page-few, opening_row, opening_paged}
-use Rattle.page.specs.Opening.{unopened, opening_of, answer_under, answer_at, count_of}
-use Rattle.page.specs.Flat.{ROOTS_ROOM, NUMBERS_ROOM, flat_at, flat_answer, Copied, Noted, Levelled, asked, AllRight}
+use Rattle.page.specs.Opening.{opening_of, paged_under, answer_at, count_of}
+use Rattle.page.specs.Flat.{flat_at, flat_answer, Copied, Noted, Levelled, asked, AllRight}
 
 -- ---- rows that were proved
 
@@ -41,7 +39,7 @@ pub copied_none : (ids roots : List ℕ) → Copied ids 0 roots
 unfolding Copied
 copied_none ids roots r l = absurd (omega arith)
 
-pub copied_on : (ids roots : List ℕ) (row : ℕ) → row < MAX_PAGE → ROOTS_ROOM ≤ length roots → length (hash_at ids (32 * row)) ≡ 32 → Copied ids row roots → Copied ids (row + 1) (set_hash roots row (hash_at ids (32 * row)))
+pub copied_on : (ids roots : List ℕ) (row : ℕ) → row < MAX_PAGE → 8192 ≤ length roots → length (hash_at ids (32 * row)) ≡ 32 → Copied ids row roots → Copied ids (row + 1) (set_hash roots row (hash_at ids (32 * row)))
 unfolding Copied
 copied_on ids roots row low wide whole v =
     let e : set_hash roots row (hash_at ids (32 * row)) ≡ _ = set-inside roots row (hash_at ids (32 * row)) (omega arith) in
@@ -56,10 +54,7 @@ copied_all ids n row roots b v r l = v r (omega arith)
 -- ---- what is noted of them
 
 module _ (states : List ℕ) where
-  pub noted-none : (numbers : List ℕ) → Noted states (get_or numbers 512 0) 0 numbers numbers
-  noted-none numbers = record { state = λ r l. absurd (omega arith); start = λ r l. refl; top = refl }
-
-  pub noted_on : (numbers now : List ℕ) (layers row x : ℕ) → row < MAX_PAGE → NUMBERS_ROOM ≤ length now → x ≡ get_or states row 0 → x < 65536
+  pub noted_on : (numbers now : List ℕ) (layers row x : ℕ) → row < MAX_PAGE → 513 ≤ length now → x ≡ get_or states row 0 → x < 65536
       → Noted states layers row numbers now → Noted states layers (row + 1) numbers (set now (256 + row) x)
   noted_on numbers now layers row x low long e few v =
       record {
@@ -71,7 +66,7 @@ module _ (states : List ℕ) where
       }
 
   -- the layers were noted first
-  pub noted-end : (numbers now : List ℕ) (layers n row : ℕ) → NUMBERS_ROOM ≤ length numbers → n ≤ row
+  pub noted-end : (numbers now : List ℕ) (layers n row : ℕ) → 513 ≤ length numbers → n ≤ row
       → Noted states (get_or (set numbers 512 layers) 512 0) row (set numbers 512 layers) now → Noted states layers n numbers now
   noted-end numbers now layers n row long b v =
       record {
@@ -92,17 +87,12 @@ module _ (roots numbers : List ℕ) (count row : ℕ) where
     unfolding flat_answer
     flat_over b = rw (lt-ltb row count low, le-ltb row MAX_PAGE b)
 
-    module _ (few : row < MAX_PAGE) where
-      pub flat_short : length numbers < NUMBERS_ROOM → flat_answer roots numbers count row ≡ blank_answer
-      unfolding flat_answer
-      flat_short b = rw (lt-ltb row count low, lt-ltb row MAX_PAGE few, lt-ltb (length numbers) NUMBERS_ROOM b)
-
-      pub flat-here : NUMBERS_ROOM ≤ length numbers → flat_answer roots numbers count row ≡ flat_at roots numbers row
-      unfolding flat_answer
-      flat-here b = rw (lt-ltb row count low, lt-ltb row MAX_PAGE few, le-ltb (length numbers) NUMBERS_ROOM b)
+    pub flat-here : row < MAX_PAGE → flat_answer roots numbers count row ≡ flat_at roots numbers row
+    unfolding flat_answer
+    flat-here few = rw (lt-ltb row count low, lt-ltb row MAX_PAGE few)
 
 -- as the code comes to it
-pub flat-row : (roots numbers : List ℕ) (row : ℕ) (root : List ℕ) {p : Proved} {a : Answer} → root ≡ hash_at roots (32 * row)
+pub flat-row : (roots numbers : List ℕ) (row : ℕ) (root : List ℕ) {p : Reply Proved Rejection} {a : Answer} → root ≡ hash_at roots (32 * row)
     → p ≡ proved_at (get_or numbers 512 0) (replicate 32 0) (replicate 1 (get_or numbers row 0)) (replicate 1 (get_or numbers (256 + row) 0 % 65536)) root 0 → a ≡ answer_of p → a ≡ flat_at roots numbers row
 unfolding flat_at
 flat-row roots numbers row root e f g =
@@ -115,12 +105,12 @@ hash_own x e = hash-there x 0 (omega arith) ∙ ap (λ (n : ℕ). take n x) (sym
 -- what stands at a row is what the row says of any id
 flat-proved : (layers : ℕ) (id starts states roots numbers : List ℕ) (r : ℕ) → get_or numbers 512 0 ≡ layers → get_or numbers r 0 ≡ get_or starts r 0 → get_or numbers (256 + r) 0 % 65536 ≡ get_or states r 0
     → flat_at roots numbers r ≡ answer_of (proved_at layers id starts states roots r)
-unfolding flat_at proved_at answer_of accepted_of
+unfolding flat_at proved_at answer_of
 flat-proved layers id starts states roots numbers r e f g =
     rw (e, f, g, hash_own (hash_at roots (32 * r)) (hash-at-length roots (32 * r))) (go (eqb (get_or states r 0) 0))
   where
-    go : (t : Bool) → answer_of (pick t (accepted_of (get_or starts r 0) layers (replicate 32 0) (hash_at roots (32 * r))) (proved_of (refused (refusal_of (get_or starts r 0) (get_or states r 0)))))
-        ≡ answer_of (pick t (accepted_of (get_or starts r 0) layers id (hash_at roots (32 * r))) (proved_of (refused (refusal_of (get_or starts r 0) (get_or states r 0)))))
+    go : (t : Bool) → answer_of (pick t (Ok (accepted_of (get_or starts r 0) layers (replicate 32 0) (hash_at roots (32 * r)))) (Err (refusal_of (get_or starts r 0) (get_or states r 0))))
+        ≡ answer_of (pick t (Ok (accepted_of (get_or starts r 0) layers id (hash_at roots (32 * r)))) (Err (refusal_of (get_or starts r 0) (get_or states r 0))))
     go true = refl
     go false = refl
 
@@ -136,49 +126,42 @@ all-proved s ids path n starts states proved numbers numbers' few v at f r l b =
 
 -- ---- the page
 
--- a page is not both refused and answered
-pub not-both : (p : Paged) (why : Rejection) (k : ℕ) → p ≡ Paged.Refused why → p ≡ Paged.Answered k → ⊥
-not-both p why k e f = let z : ◌≡◌ {A = ℕ} 0 1 = cc in omega arith
-
 module _ (s ids : List ℕ) (room : ℕ) where
-  pub opening_few : (o : Opening) (k : ℕ) → o ≡ opening_of s (length ids / 32) (bump_for s ids room) → o.paged ≡ Paged.Answered k → length ids / 32 ≤ MAX_PAGE
-  unfolding opening_of unopened
-  opening_few o k e f = go (bump_for s ids room) refl (ap (λ (p : Opening). p.paged) (sym e) ∙ f)
+  pub opening_few : (path : Path) → Ok path ≡ opening_of s (bump_for s ids room) → length ids / 32 ≤ MAX_PAGE
+  opening_few path e = go (bump_for s ids room) refl e
     where
-      go : (p : Parse Bump) → bump_for s ids room ≡ p → (opening_of s (length ids / 32) p).paged ≡ Paged.Answered k → length ids / 32 ≤ MAX_PAGE
+      go : (p : Parse Bump) → bump_for s ids room ≡ p → Ok path ≡ opening_of s p → length ids / 32 ≤ MAX_PAGE
       go (ok b q) g h = page-few s ids room b q g
       go (fault number place) g h = let z : ◌≡◌ {A = ℕ} 0 1 = cc in absurd (omega arith)
 
-  pub opening_levelled : (o : Opening) (k : ℕ) → o ≡ opening_of s (length ids / 32) (bump_for s ids room) → o.paged ≡ Paged.Answered k → Levelled o.path
-  unfolding opening_of unopened bump_path_of
-  opening_levelled o k e f = go (bump_for s ids room) (sym e) (ap (λ (p : Opening). p.paged) (sym e) ∙ f)
+  pub opening_levelled : (path : Path) → Ok path ≡ opening_of s (bump_for s ids room) → Levelled path
+  unfolding bump_path_of
+  opening_levelled path e = go (bump_for s ids room) e
     where
-      go : (p : Parse Bump) → opening_of s (length ids / 32) p ≡ o → (opening_of s (length ids / 32) p).paged ≡ Paged.Answered k → Levelled o.path
-      go (ok b q) g h = rw (← g) (record { bump = refl; few = omega arith })
-      go (fault number place) g h = let z : ◌≡◌ {A = ℕ} 0 1 = cc in absurd (omega arith)
+      go : (p : Parse Bump) → Ok path ≡ opening_of s p → Levelled path
+      go (ok b q) h = let z : path ≡ bump_path s b = cc in rw z (record { bump = refl; few = omega arith })
+      go (fault number place) h = let z : ◌≡◌ {A = ℕ} 0 1 = cc in absurd (omega arith)
 
-  module _ (roots numbers : List ℕ) (long : NUMBERS_ROOM ≤ length numbers) where
-    row_is : (p : Parse Bump) → bump_for s ids room ≡ p
-        → ((k : ℕ) → (opening_of s (length ids / 32) p).paged ≡ Paged.Answered k → AllRight s ids (opening_of s (length ids / 32) p).path (length ids / 32) roots numbers)
-        → (i : ℕ) → flat_answer roots numbers (count_of (opening_of s (length ids / 32) p).paged) i ≡ answer_at s ids (opening_of s (length ids / 32) p) i
-    unfolding flat_answer answer_at answer_under opening_of unopened AllRight asked
+  module _ (roots numbers : List ℕ) where
+    row_is : (p : Parse Bump) → bump_for s ids room ≡ p → IfOk (opening_of s p) (λ path. AllRight s ids path (length ids / 32) roots numbers)
+        → (i : ℕ) → flat_answer roots numbers (count_of (paged_under ids (opening_of s p))) i ≡ answer_at s ids (opening_of s p) i
+    unfolding flat_answer answer_at AllRight asked
     row_is (ok b q) e all i = go (ltb i (length ids / 32)) refl
       where
-        go : (t : Bool) → ltb i (length ids / 32) ≡ t
-            → pick t (pick (ltb i MAX_PAGE) (pick (ltb (length numbers) NUMBERS_ROOM) blank_answer (flat_at roots numbers i)) blank_answer) blank_answer ≡ pick t (asked s ids (bump_path s b) i) blank_answer
+        go : (t : Bool) → ltb i (length ids / 32) ≡ t → pick t (pick (ltb i MAX_PAGE) (flat_at roots numbers i) blank_answer) blank_answer ≡ pick t (asked s ids (bump_path s b) i) blank_answer
         go true f =
             let l : i < length ids / 32 = ltb-true i (length ids / 32) f in
             let few = page-few s ids room b q e in
             let inside : i < MAX_PAGE = omega arith in
-            rw (lt-ltb i MAX_PAGE inside, le-ltb (length numbers) NUMBERS_ROOM long) (all (length ids / 32) refl i l l)
+            rw (lt-ltb i MAX_PAGE inside) (all i l l)
         go false f = refl
     row_is (fault number place) e all i = rw (le-ltb i 0 (omega arith))
 
     -- the answers of all ids, as a page has them
-    pub flat-page : (o : Opening) → o ≡ opening_of s (length ids / 32) (bump_for s ids room) → ((k : ℕ) → o.paged ≡ Paged.Answered k → AllRight s ids o.path (length ids / 32) roots numbers)
-        → (o.paged ≡ paged_of (page s ids room)) × (rows (flat_answer roots numbers (count_of o.paged)) room ≡ row_of (page s ids room) room)
+    pub flat-page : (o : Reply Path Rejection) → o ≡ opening_of s (bump_for s ids room) → IfOk o (λ path. AllRight s ids path (length ids / 32) roots numbers)
+        → (paged_under ids o ≡ paged_of (page s ids room)) × (rows (flat_answer roots numbers (count_of (paged_under ids o))) room ≡ row_of (page s ids room) room)
     flat-page o e all =
         let w = rw e at all in (
-          ap (λ (p : Opening). p.paged) e ∙ opening_paged s ids room,
-          ap (λ (p : Opening). rows (flat_answer roots numbers (count_of p.paged)) room) e ∙ rows_same _ _ room (row_is (bump_for s ids room) refl w) ∙ opening_row s ids room,
+          ap (paged_under ids) e ∙ opening_paged s ids room,
+          ap (λ (p : Reply Path Rejection). rows (flat_answer roots numbers (count_of (paged_under ids p))) room) e ∙ rows_same _ _ room (row_is (bump_for s ids room) refl w) ∙ opening_row s ids room,
         )

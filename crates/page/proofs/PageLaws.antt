@@ -6,6 +6,7 @@ use mathlib.Core.List.{List, []}
 use native.Mathlib.Nat.{sub-zero}
 use native.Mathlib.Omega.{arith}
 use lib.Dec.{ltb, leb, eqb}
+use Rattle.std.specs.Prelude.{Ok}
 use lib.ListN.{length, get_or, replicate, length-map, get_or-eq_default}
 use borrow.Author.Tests.{le-leb, lt-leb, leb-true, eq-eqb, ne_eqb, ltb-true, ltb-false}
 use Rattle.format.proofs.Basics.{and-true}
@@ -25,9 +26,8 @@ use Rattle.spv.proofs.HashesLaws.{hashes-length, hashes-at}
 use Rattle.spv.proofs.RowsLaws.{map_at}
 use Rattle.spv.specs.Rows.{rows}
 use Rattle.spv.proofs.RowsLaws.{rows-list}
-use Rattle.page.specs.declared.Paged.{Paged}
 use Rattle.page.specs.Page.{MAX_PAGE, blank_answer, answer_of, single, answers, allowed, bump_for, page, paged_of, row_of}
-use Rattle.page.specs.Opening.{unopened, opening_of, answer_under, answer_at}
+use Rattle.page.specs.Opening.{opening_of, paged_under, answer_at}
 
 -- ---- refusals, in their order
 
@@ -91,8 +91,8 @@ module _ (s ids : List ℕ) where
 module _ (s ids : List ℕ) (room : ℕ) where
   -- row by row, by a BUMP that was read
   module _ (b : Bump) (q : ℕ) (read : bump_whole s ≡ ok b q) where
-    row_at : (i : ℕ) → answer_at s ids (opening_of s (length ids / 32) (ok b q)) i ≡ get_or (answers s ids) i blank_answer
-    unfolding answer_at answer_under opening_of single
+    row_at : (i : ℕ) → answer_at s ids (opening_of s (ok b q)) i ≡ get_or (answers s ids) i blank_answer
+    unfolding answer_at single
     row_at i = go (ltb i (length ids / 32)) refl
       where
         go : (t : Bool) → ltb i (length ids / 32) ≡ t → pick t (answer_of (proved_of (prove (path_reading s (bump_path s b) (hash_at ids (i * 32)))))) blank_answer ≡ get_or (answers s ids) i blank_answer
@@ -101,21 +101,21 @@ module _ (s ids : List ℕ) (room : ℕ) where
             let past : length (answers s ids) ≤ i = omega (arith, ltb-false i (length ids / 32) h, answers-length s ids) in
             sym (get_or-eq_default (answers s ids) blank_answer past)
 
-  pub opening_row : rows (answer_at s ids (opening_of s (length ids / 32) (bump_for s ids room))) room ≡ row_of (page s ids room) room
-  unfolding page row_of answer_at answer_under opening_of unopened padded
+  pub opening_row : rows (answer_at s ids (opening_of s (bump_for s ids room))) room ≡ row_of (page s ids room) room
+  unfolding page row_of answer_at padded
   opening_row = go (bump_for s ids room) refl
     where
-      go : (p : Parse Bump) → bump_for s ids room ≡ p → rows (answer_at s ids (opening_of s (length ids / 32) p)) room ≡ row_of (after_reading p (λ _. accepted (answers s ids))) room
+      go : (p : Parse Bump) → bump_for s ids room ≡ p → rows (answer_at s ids (opening_of s p)) room ≡ row_of (after_reading p (λ _. accepted (answers s ids))) room
       go (ok b q) e =
           let told = page-told s ids room b q e in
-          rows-list (answer_at s ids (opening_of s (length ids / 32) (ok b q))) blank_answer (answers s ids) room (row_at b q told.2) (omega (arith, told.1, answers-length s ids))
+          rows-list (answer_at s ids (opening_of s (ok b q))) blank_answer (answers s ids) room (row_at b q told.2) (omega (arith, told.1, answers-length s ids))
       go (fault number place) e =
-          rows-list (answer_at s ids (opening_of s (length ids / 32) (fault number place))) blank_answer [] room (λ i. refl) zero-le ∙ ap (λ (k : ℕ). replicate k blank_answer) (sub-zero room)
+          rows-list (answer_at s ids (opening_of s (fault number place))) blank_answer [] room (λ i. refl) zero-le ∙ ap (λ (k : ℕ). replicate k blank_answer) (sub-zero room)
 
-  pub opening_paged : (opening_of s (length ids / 32) (bump_for s ids room)).paged ≡ paged_of (page s ids room)
-  unfolding page paged_of opening_of unopened
+  pub opening_paged : paged_under ids (opening_of s (bump_for s ids room)) ≡ paged_of (page s ids room)
+  unfolding page
   opening_paged = go (bump_for s ids room)
     where
-      go : (p : Parse Bump) → (opening_of s (length ids / 32) p).paged ≡ paged_of (after_reading p (λ _. accepted (answers s ids)))
-      go (ok b q) = ap Paged.Answered (sym (answers-length s ids))
+      go : (p : Parse Bump) → paged_under ids (opening_of s p) ≡ paged_of (after_reading p (λ _. accepted (answers s ids)))
+      go (ok b q) = ap Ok (sym (answers-length s ids))
       go (fault number place) = refl

@@ -13,13 +13,6 @@ use Rattle.climbs.specs.Proofs.{proved_at}
 use Rattle.page.specs.declared.Answer.{Answer}
 use Rattle.page.specs.Page.{MAX_PAGE, blank_answer, answer_of}
 
--- the room of a flat form
-abbrev pub ROOTS_ROOM : ℕ
-ROOTS_ROOM = 8192
-
-abbrev pub NUMBERS_ROOM : ℕ
-NUMBERS_ROOM = 513
-
 -- the answer that stands at a row: what the row's start, state and root say of any id
 unfoldable pub flat_at : List ℕ → List ℕ → ℕ → Answer
 flat_at roots numbers row =
@@ -27,7 +20,7 @@ flat_at roots numbers row =
 
 -- the answer for a row, of so many that a flat form holds: blank past them
 unfoldable pub flat_answer : List ℕ → List ℕ → ℕ → ℕ → Answer
-flat_answer roots numbers count row = pick (ltb row count) (pick (ltb row MAX_PAGE) (pick (ltb (length numbers) NUMBERS_ROOM) blank_answer (flat_at roots numbers row)) blank_answer) blank_answer
+flat_answer roots numbers count row = pick (ltb row count) (pick (ltb row MAX_PAGE) (flat_at roots numbers row) blank_answer) blank_answer
 
 -- the ids stand where their roots are going to be
 unfoldable pub Copied : List ℕ → ℕ → List ℕ → Type 0

@@ -1,19 +1,17 @@
 -- A page of ids against one BUMP (02, Item 2).
-use Rattle.std.specs.Prelude.{ℕ, ◌/◌, ◌%◌, Bool, ◌&&◌, List, map, eqb, leb, length, replicate}
+use Rattle.std.specs.Prelude.{Result as Reply, Ok, Err, ℕ, ◌/◌, ◌%◌, Bool, ◌&&◌, List, map, eqb, leb, length, replicate}
 use Rattle.format.specs.Parse.{Parse, fault, pick}
 use Rattle.format.specs.Bump.{Bump, bump_whole}
 use Rattle.format.specs.Padded.{padded}
 use Rattle.format.specs.Refusals.{OVER_LIMIT, NO_ROOM}
-use Rattle.spv.specs.declared.prove.Outcome.{Outcome}
-use Rattle.spv.specs.declared.prove.Outcome.TheVariants.{Accepted, Refused}
 use Rattle.spv.specs.declared.prove.Proved.{Proved}
-use Rattle.spv.specs.Result.{Result, accepted, refused, after_reading}
+use Rattle.spv.specs.declared.rejection.Rejection.{Rejection}
+use Rattle.spv.specs.Result.{Result, accepted, refused, after_reading, answer_of as answered_by}
 use Rattle.spv.specs.Prove.{prove}
 use Rattle.spv.specs.Readings.{bump_reading}
 use Rattle.spv.specs.Shapes.{proved_of}
 use Rattle.spv.specs.Hashes.{hashes_of}
 use Rattle.page.specs.declared.Answer.{Answer}
-use Rattle.page.specs.declared.Paged.{Paged}
 
 -- "up to 256 ids"
 abbrev pub MAX_PAGE : ℕ
@@ -24,13 +22,10 @@ abbrev pub blank_answer : Answer
 blank_answer = record { refusal = 0; carried = 0; layer = 0; sibling = 0; position = 0; layers = 0; root = replicate 32 0 }
 
 -- what proving an id found, as a row has it
-unfoldable pub answer_by : List ℕ → Outcome → Answer
-answer_by root (Accepted i h) = record { refusal = 0; carried = 0; layer = 0; sibling = 0; position = i; layers = h; root = root }
-answer_by root (Refused why) =
+unfoldable pub answer_of : Reply Proved Rejection → Answer
+answer_of (Ok p) = record { refusal = 0; carried = 0; layer = 0; sibling = 0; position = p.position; layers = p.layers; root = p.root }
+answer_of (Err why) =
     record { refusal = why.number; carried = why.carried; layer = why.layer; sibling = why.sibling; position = 0; layers = 0; root = replicate 32 0 }
-
-unfoldable pub answer_of : Proved → Answer
-answer_of p = answer_by p.root p.outcome
 
 -- asking for one id: what `prove_bump` answers
 unfoldable pub single : List ℕ → List ℕ → Answer
@@ -55,10 +50,9 @@ bump_for s ids room =
 unfoldable pub page : List ℕ → List ℕ → ℕ → Result (List Answer)
 page s ids room = after_reading (bump_for s ids room) (λ _. accepted (answers s ids))
 
--- the answer
-unfoldable pub paged_of : Result (List Answer) → Paged
-paged_of (accepted l) = Paged.Answered (length l)
-paged_of (refused why) = Paged.Refused why
+-- the answer: for how many ids, or why for none
+abbrev pub paged_of : Result (List Answer) → Reply ℕ Rejection
+paged_of = answered_by length
 
 -- the row of n answers: "rows past the ids are zeroed", and a refusal gives "a zero row"
 unfoldable pub row_of : Result (List Answer) → ℕ → List Answer

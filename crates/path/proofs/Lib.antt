@@ -1,4 +1,3 @@
-pub mod OneLeaf
 pub mod StepLaws
 pub mod UncheckedLaws
 pub mod SearchLaws

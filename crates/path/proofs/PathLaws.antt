@@ -10,10 +10,10 @@ use native.Mathlib.Omega.{arith}
 use native.Mathlib.Numerals.{add-one}
 use native.Mathlib.Nat.{add-zero, zero-add}
 use borrow.Author.Tests.{lt-ltb, le-ltb, ltb-true, ltb-false}
+use Rattle.std.specs.Prelude.{None}
 use Rattle.format.specs.declared.level.Layout.{Layout}
 use Rattle.format.specs.declared.leaf.Leaf.{Leaf}
 use Rattle.path.specs.declared.path.Path.{Path}
-use Rattle.path.specs.declared.path.Found.TheVariants.{Missing}
 use Rattle.format.specs.Parse.{Parse, many, otherwise, ok, fault}
 use Rattle.format.proofs.ParseLaws.{many-told, many-length}
 use Rattle.format.specs.Level.{level_of_turn, level_in_turn, next_turn, level_fields}
@@ -106,7 +106,7 @@ get_d_reverse {A = A} (x ∷ l) k d h = ap (λ (m : List A). get_or m k d) (reve
         get_or_at (reverse l) x [] d k (length-reverse l ∙ last) ∙ ap (λ (m : ℕ). get_or (x ∷ l) m d) (sym n)
 
 -- past its layers a path has nothing
-pub past-layers : (s : List ℕ) (path : Path) (k j : ℕ) → path.layers ≤ k → leaf_in s path k j ≡ Missing
+pub past-layers : (s : List ℕ) (path : Path) (k j : ℕ) → path.layers ≤ k → leaf_in s path k j ≡ None
 unfolding leaf_in
 past-layers s path k j h = rw (le-ltb k path.layers h)
 

@@ -6,11 +6,9 @@ use lib.ListN.{length}
 use native.Mathlib.Omega.{arith}
 use native.Mathlib.Numerals.{add-one}
 use borrow.Author.Tests.{eq-eqb, ne_eqb}
+use Rattle.std.specs.Prelude.{Option, Some, None}
 use Rattle.format.specs.declared.level.Layout.{Layout}
 use Rattle.format.specs.declared.leaf.Leaf.{Leaf}
-use Rattle.path.specs.declared.path.Found.TheVariants.{Here, Missing}
-use Rattle.path.specs.declared.path.Start.{Start}
-use Rattle.path.specs.declared.path.Start.TheVariants.{At, Nowhere}
 use Rattle.format.specs.Parse.{many, times, ok, fault}
 use Rattle.format.proofs.ParseLaws.{onward-told, many-told, many-length}
 use Rattle.format.specs.Field.{varint}
@@ -19,16 +17,16 @@ use Rattle.path.specs.Unchecked.{unchecked_leaf, unchecked_level}
 
 -- a search for the offset j among r leaves
 module _ (layout : Layout) (j : ℕ) (s : List ℕ) where
-  pub seek-end : (r at : ℕ) → r ≡ 0 → seek layout j r s at ≡ Missing
+  pub seek-end : (r at : ℕ) → r ≡ 0 → seek layout j r s at ≡ None
   unfolding seek
   seek-end r at e = rw e
 
-  pub seek_stop : (r at : ℕ) {n q : ℕ} → 0 < r → unchecked_leaf layout s at ≡ fault n q → seek layout j r s at ≡ Missing
+  pub seek_stop : (r at : ℕ) {n q : ℕ} → 0 < r → unchecked_leaf layout s at ≡ fault n q → seek layout j r s at ≡ None
   unfolding seek
   seek_stop zero at h e = refl
   seek_stop (suc r) at h e = rw e
 
-  pub seek-here : (r at : ℕ) {leaf : Leaf} {q : ℕ} → 0 < r → unchecked_leaf layout s at ≡ ok leaf q → leaf.offset ≡ j → seek layout j r s at ≡ Here leaf.kind
+  pub seek-here : (r at : ℕ) {leaf : Leaf} {q : ℕ} → 0 < r → unchecked_leaf layout s at ≡ ok leaf q → leaf.offset ≡ j → seek layout j r s at ≡ Some leaf.kind
   unfolding seek
   seek-here zero at h e f = absurd (omega arith)
   seek-here (suc r) at h e f = rw (e, eq-eqb _ _ f)
@@ -47,40 +45,40 @@ module _ (layout : Layout) (j : ℕ) (s : List ℕ) where
       found : (leaf : Leaf) (r : ℕ) (rest : List Leaf) → unchecked_leaf layout s at ≡ ok leaf r → seek layout j n s r ≡ lookup j rest → leaf ∷ rest ≡ l → seek layout j (suc n) s at ≡ lookup j l
       found leaf r rest e f g = rw (e, f, ← g)
 
-nowhere_lesser : (a : Start) → lesser Nowhere a ≡ a
+nowhere_lesser : (a : Option ℕ) → lesser None a ≡ a
 unfolding lesser
 nowhere_lesser a = refl
 
-pub lesser_nowhere : (a : Start) → lesser a Nowhere ≡ a
+pub lesser_nowhere : (a : Option ℕ) → lesser a None ≡ a
 unfolding lesser
-lesser_nowhere Nowhere = refl
-lesser_nowhere (At x) = refl
+lesser_nowhere None = refl
+lesser_nowhere (Some x) = refl
 
 -- a search for the least offset that carries an id
 module _ (layout : Layout) (id : List ℕ) (s : List ℕ) where
-  pub least-end : (r at : ℕ) (best : Start) → r ≡ 0 → seek_id layout id r s at best ≡ best
+  pub least-end : (r at : ℕ) (best : Option ℕ) → r ≡ 0 → seek_id layout id r s at best ≡ best
   unfolding seek_id
   least-end r at best e = rw e
 
-  pub least-stop : (r at : ℕ) (best : Start) {n q : ℕ} → 0 < r → unchecked_leaf layout s at ≡ fault n q → seek_id layout id r s at best ≡ Nowhere
+  pub least-stop : (r at : ℕ) (best : Option ℕ) {n q : ℕ} → 0 < r → unchecked_leaf layout s at ≡ fault n q → seek_id layout id r s at best ≡ None
   unfolding seek_id
   least-stop zero at best h e = absurd (omega arith)
   least-stop (suc r) at best h e = rw e
 
-  pub least_on : (r r' at : ℕ) (best best' : Start) {leaf : Leaf} {q : ℕ} → r ≡ r' + 1 → unchecked_leaf layout s at ≡ ok leaf q → best' ≡ lesser best (leaf_start s id leaf)
+  pub least_on : (r r' at : ℕ) (best best' : Option ℕ) {leaf : Leaf} {q : ℕ} → r ≡ r' + 1 → unchecked_leaf layout s at ≡ ok leaf q → best' ≡ lesser best (leaf_start s id leaf)
       → seek_id layout id r s at best ≡ seek_id layout id r' s q best'
   unfolding seek_id
   least_on r r' at best best' h e f = rw (h, add-one, e, f)
 
   -- the lesser of three, in either order
-  lesser_assoc : (a b c : Start) → lesser (lesser a b) c ≡ lesser a (lesser b c)
+  lesser_assoc : (a b c : Option ℕ) → lesser (lesser a b) c ≡ lesser a (lesser b c)
   unfolding lesser
-  lesser_assoc Nowhere b c = refl
-  lesser_assoc (At x) Nowhere c = refl
-  lesser_assoc (At x) (At y) Nowhere = refl
-  lesser_assoc (At x) (At y) (At z) = ap At (omega arith)
+  lesser_assoc None b c = refl
+  lesser_assoc (Some x) None c = refl
+  lesser_assoc (Some x) (Some y) None = refl
+  lesser_assoc (Some x) (Some y) (Some z) = ap Some (omega arith)
 
-  pub least-found : (n : ℕ) (at : ℕ) (best : Start) {l : List Leaf} {q : ℕ} → times (unchecked_leaf layout) n s at ≡ ok l q → seek_id layout id n s at best ≡ lesser best (least_offset s id l)
+  pub least-found : (n : ℕ) (at : ℕ) (best : Option ℕ) {l : List Leaf} {q : ℕ} → times (unchecked_leaf layout) n s at ≡ ok l q → seek_id layout id n s at best ≡ lesser best (least_offset s id l)
   unfolding seek_id least_offset many
   least-found zero at best {l} e = let z : [] ≡ l = cc in sym (ap (λ (m : List Leaf). lesser best (least_offset s id m)) (sym z) ∙ lesser_nowhere best)
   least-found (suc n) at best {l} e =
@@ -104,7 +102,7 @@ module _ (layout : Layout) (s : List ℕ) (at : ℕ) {l : List Leaf} {q : ℕ} (
   unfolding unchecked_level start_of_level
   start_of_level_lem id =
       let x = onward-told (varint s at) _ e in
-      rw x.2 (least-found layout id s x.0 x.1 Nowhere x.3 ∙ nowhere_lesser (least_offset s id l))
+      rw x.2 (least-found layout id s x.0 x.1 None x.3 ∙ nowhere_lesser (least_offset s id l))
 
 -- the level as a walk meets it: its count, then its leaves one after the other
 pub level-walk : (layout : Layout) (s : List ℕ) (at : ℕ) {l : List Leaf} {q : ℕ} → unchecked_level layout s at ≡ ok l q

@@ -5,8 +5,8 @@ use Prim.Native.Nat.{ℕ, zero, suc, ◌<◌}
 use lib.ListN.{length, get_or, replicate}
 use native.Mathlib.Omega.{arith}
 use borrow.Author.Tests.{lt-ltb}
+use Rattle.std.specs.Prelude.{Some}
 use Rattle.format.specs.declared.leaf.Kind.{Kind}
-use Rattle.path.specs.declared.path.Found.TheVariants.{Here}
 use Rattle.format.specs.Parse.{each, many, times, ok, fault}
 use Rattle.format.proofs.ParseLaws.{many-told}
 use Rattle.format.specs.Padded.{padded}
@@ -32,7 +32,7 @@ record Placed (n : ℕ) (s : List ℕ) (at q : ℕ) (l : List Kind) : Type 0 whe
   places : List ℕ
   all : length places ≡ length l
   read : times node_place_field n s at ≡ ok places q
-  node : (k : ℕ) → k < length l → node_at s (get_or places k 0) ≡ Here (get_or l k Kind.Copy)
+  node : (k : ℕ) → k < length l → node_at s (get_or places k 0) ≡ Some (get_or l k Kind.Copy)
 
 placed : (s : List ℕ) (n at : ℕ) {l : List Kind} {q : ℕ} → times node_field n s at ≡ ok l q → Placed n s at q l
 unfolding many each node_place_field node_at
@@ -47,18 +47,18 @@ placed s (suc n) at {l} {q} e =
     more : (a : Kind) (r : ℕ) (rest : List Kind) → node_field s at ≡ ok a r → Placed n s r q rest → Placed (suc n) s at q (a ∷ rest)
     more a r rest e p = record { places = at ∷ p.places; all = ap suc p.all; read = rw (e, p.read); node = node }
       where
-        node : (k : ℕ) → k < suc (length rest) → node_at s (get_or (at ∷ p.places) k 0) ≡ Here (get_or (a ∷ rest) k Kind.Copy)
+        node : (k : ℕ) → k < suc (length rest) → node_at s (get_or (at ∷ p.places) k 0) ≡ Some (get_or (a ∷ rest) k Kind.Copy)
         node zero h = rw e
         node (suc k) h = p.node k (omega arith)
 
 -- the node of a layer, whatever the position
-pub tsc-leaf_in : (s : List ℕ) (t : Tsc) {q : ℕ} → TscRead s q t → (k j : ℕ) → k < length t.nodes → leaf_in s (tsc_path s t) k j ≡ Here (get_or t.nodes k Kind.Copy)
+pub tsc-leaf_in : (s : List ℕ) (t : Tsc) {q : ℕ} → TscRead s q t → (k j : ℕ) → k < length t.nodes → leaf_in s (tsc_path s t) k j ≡ Some (get_or t.nodes k Kind.Copy)
 unfolding leaf_in leaf_at_place tsc_path_of node_places
 tsc-leaf_in s t {q} r k j h =
     let low = r.low in
     found (placed s (length t.nodes) t.nodes_at r.nodes) (omega arith) (omega arith)
   where
-    found : Placed (length t.nodes) s t.nodes_at q t.nodes → layers_of (length t.nodes) ≡ length t.nodes → k < 64 → leaf_in s (tsc_path s t) k j ≡ Here (get_or t.nodes k Kind.Copy)
+    found : Placed (length t.nodes) s t.nodes_at q t.nodes → layers_of (length t.nodes) ≡ length t.nodes → k < 64 → leaf_in s (tsc_path s t) k j ≡ Some (get_or t.nodes k Kind.Copy)
     found p all low =
         let there : k < length p.places = let e = p.all in omega arith in
         let inside : k < layers_of (length t.nodes) = omega arith in

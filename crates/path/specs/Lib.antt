@@ -1,7 +1,6 @@
 -- What public contracts cite, in reading order.
 pub mod Search
 pub mod Unchecked
-pub mod LeafAnswer
 pub mod Path
 pub mod TscPath
 pub mod Subject

@@ -1,14 +1,12 @@
 -- A path as the crates above search it: its form, its layers, and for each layer the place of its level, or of its node in a TSC proof.
+use Rattle.std.specs.Prelude.{Option, Some, None}
+use Rattle.format.specs.declared.leaf.Kind.{Kind}
 use Rattle.std.specs.Prelude.{List, ℕ, zero, suc, ◌+◌, min, get_or, set, replicate, ltb}
 use Rattle.format.specs.declared.level.Layout.{Layout}
 use Rattle.format.specs.declared.bump.BumpHead.{BumpHead}
 use Rattle.format.specs.declared.cmp.CmpHead.{CmpHead}
 use Rattle.path.specs.declared.path.Form.{Form}
 use Rattle.path.specs.declared.path.Path.{Path}
-use Rattle.path.specs.declared.path.Found.{Found}
-use Rattle.path.specs.declared.path.Found.TheVariants.{Here, Missing}
-use Rattle.path.specs.declared.path.Start.{Start}
-use Rattle.path.specs.declared.path.Start.TheVariants.{Nowhere}
 use Rattle.format.specs.Parse.{pick, otherwise}
 use Rattle.format.specs.Refusals.{MAX_HEIGHT}
 use Rattle.format.specs.Level.{level_of_turn}
@@ -23,26 +21,26 @@ abbrev pub LAYERS : ℕ
 LAYERS = MAX_HEIGHT
 
 -- the node at a place
-unfoldable pub node_at : List ℕ → ℕ → Found
-node_at s at = otherwise (node_field s at) Missing (λ kind _. Here kind)
+unfoldable pub node_at : List ℕ → ℕ → Option Kind
+node_at s at = otherwise (node_field s at) None (λ kind _. Some kind)
 
 -- what a form has at a place and position; a TSC node stands at whatever position is asked for
-unfoldable pub leaf_at_place : List ℕ → Form → ℕ → ℕ → Found
+unfoldable pub leaf_at_place : List ℕ → Form → ℕ → ℕ → Option Kind
 leaf_at_place s Form.Bump at j = leaf_of_level Layout.Bump s at j
 leaf_at_place s Form.Cmp at j = leaf_of_level Layout.Cmp s at j
 leaf_at_place s Form.Tsc at j = node_at s at
 
 -- what a path has at a layer and position: nothing past its layers
-unfoldable pub leaf_in : List ℕ → Path → ℕ → ℕ → Found
-leaf_in s path k j = pick (ltb k path.layers) (pick (ltb k LAYERS) (leaf_at_place s path.form (get_or path.at k 0) j) Missing) Missing
+unfoldable pub leaf_in : List ℕ → Path → ℕ → ℕ → Option Kind
+leaf_in s path k j = pick (ltb k path.layers) (pick (ltb k LAYERS) (leaf_at_place s path.form (get_or path.at k 0) j) None) None
 
-unfoldable pub start_at_place : List ℕ → Form → ℕ → List ℕ → Start
+unfoldable pub start_at_place : List ℕ → Form → ℕ → List ℕ → Option ℕ
 start_at_place s Form.Bump at id = start_of_level Layout.Bump s at id
 start_at_place s Form.Cmp at id = start_of_level Layout.Cmp s at id
-start_at_place s Form.Tsc at id = Nowhere
+start_at_place s Form.Tsc at id = None
 
 -- the least level-0 offset that carries the id
-unfoldable pub start_in : List ℕ → Path → List ℕ → Start
+unfoldable pub start_in : List ℕ → Path → List ℕ → Option ℕ
 start_in s path id = start_at_place s path.form (get_or path.at 0 0) id
 
 -- the places of n levels more of a tree, from turn i on, beside those that are known; where a level can't be read the rest stay as they are

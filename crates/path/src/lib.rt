@@ -5,8 +5,6 @@ mod path;
 mod subject;
 mod walk;
 
-pub use path::{
-    Form, Found, LAYERS, Path, Start, bump_path, cmp_path, find, find_id, find_in_level, tsc_path,
-};
+pub use path::{Form, LAYERS, Path, bump_path, cmp_path, find, find_id, find_in_level, tsc_path};
 pub use subject::{subject_id, target_root};
-pub use walk::{LeafAnswer, leaf_at};
+pub use walk::leaf_at;

@@ -2,15 +2,15 @@
 ghost use Rattle.std.specs.Prelude.{◌≡◌, ◌≤◌};
 ghost use Rattle.path.specs.Search.{lesser, seek, leaf_of_level, seek_id, start_of_level};
 ghost use Rattle.path.specs.Steps.{kind_there};
-ghost use Rattle.format.specs.FieldAnswer.{run_of};
+ghost use Rattle.format.specs.Answer.{parse_of};
 ghost use Rattle.path.specs.Path.{node_at, leaf_in, start_in, LAYERS, places, layers_of, bump_path_of, cmp_path_of};
 ghost use Rattle.path.specs.TscPath.{node_place_field, node_places, tsc_path_of};
 ghost use Rattle.path.specs.Unchecked.{unchecked_leaf};
 
-use super::walk::{LeafAnswer, Step, leaf_at, pass_leaf, skip_level};
+use super::walk::{leaf_at, pass_leaf, skip_level};
 use format::{
-    Bump, BumpHead, CmpHead, Cursor, Kind, KindAnswer, Layout, Number, Run, TscHead, hash_at,
-    level_in_turn, read_node, read_varint, same_bytes,
+    Bump, BumpHead, CmpHead, Cursor, Kind, Layout, Read, TscHead, hash_at, level_in_turn,
+    read_node, read_varint, same_bytes,
 };
 
 // Layers that a path has room for.
@@ -31,155 +31,118 @@ pub struct Path {
     pub at: [usize; LAYERS],
 }
 
-// The leaf looked for.
-#[derive(Clone, Copy)]
-pub enum Found {
-    Here(Kind),
-    Missing,
-}
-
-// The least offset that carries an id.
-#[derive(Clone, Copy)]
-pub enum Start {
-    At(u64),
-    Nowhere,
-}
-
-fn kind_at(s: &[u8], c: Cursor, layout: Layout) -> Found
+fn kind_at(s: &[u8], c: Cursor, layout: Layout) -> Option<Kind>
     ensures { result ≡ kind_there (unchecked_leaf layout s.now c.at) }
 {
-    let field = leaf_at(s, c, layout);
-    let LeafAnswer::Value(leaf, _) = field else {
-        return Found::Missing;
+    let Ok((leaf, _)) = leaf_at(s, c, layout) else {
+        return None;
     };
-    let kind = leaf.kind;
-    Found::Here(kind)
+    Some(leaf.kind)
 }
 
-fn seek_leaf(s: &[u8], c: Cursor, layout: Layout, count: u64, position: u64) -> Found
+fn seek_leaf(s: &[u8], c: Cursor, layout: Layout, count: u64, position: u64) -> Option<Kind>
     ensures { result ≡ seek layout position count s.now c.at }
 {
     let mut next = c;
-    let mut i: u64 = 0;
-    while i < count {
-        let step = pass_leaf(s, next, layout);
-        i += 1;
-        match step {
-            Step::Hash(offset, _, after) => {
-                if offset == position {
-                    return kind_at(s, next, layout);
-                }
-                next = after;
-            }
-            Step::Copy(offset, after) => {
-                if offset == position {
-                    return Found::Here(Kind::Copy);
-                }
-                next = after;
-            }
-            Step::Stuck => return Found::Missing,
+    for _ in 0..count {
+        let Ok((leaf, after)) = pass_leaf(s, next, layout) else {
+            return None;
+        };
+        if leaf.offset == position {
+            return kind_at(s, next, layout);
         }
+        next = after;
     }
-    Found::Missing
+    None
 }
 
 // The leaf at a position of the level at c.
-pub fn find_in_level(s: &[u8], c: Cursor, layout: Layout, position: u64) -> Found
+pub fn find_in_level(s: &[u8], c: Cursor, layout: Layout, position: u64) -> Option<Kind>
     ensures { result ≡ leaf_of_level layout s.now c.at position }
 {
-    let field = read_varint(s, c);
-    let Number::Value(count, next) = field else {
-        return Found::Missing;
+    let Ok((count, next)) = read_varint(s, c) else {
+        return None;
     };
     seek_leaf(s, next, layout, count, position)
 }
 
-fn find_node(s: &[u8], c: Cursor) -> Found
+fn find_node(s: &[u8], c: Cursor) -> Option<Kind>
     ensures { result ≡ node_at s.now c.at }
 {
-    let field = read_node(s, c);
-    let KindAnswer::Value(kind, _) = field else {
-        return Found::Missing;
+    let Ok((kind, _)) = read_node(s, c) else {
+        return None;
     };
-    Found::Here(kind)
+    Some(kind)
 }
 
 // What a path has at a layer and position: nothing past its layers.
-pub fn find(s: &[u8], path: Path, layer: usize, position: u64) -> Found
+pub fn find(s: &[u8], path: Path, layer: usize, position: u64) -> Option<Kind>
     ensures { result ≡ leaf_in s.now path layer position }
 {
     if path.layers <= layer {
-        return Found::Missing;
+        return None;
     }
     if LAYERS <= layer {
-        return Found::Missing;
+        return None;
     }
-    let places = path.at;
-    let place = places[layer];
-    let form = path.form;
-    match form {
-        Form::Bump => find_in_level(s, Cursor { at: place }, Layout::Bump, position),
-        Form::Cmp => find_in_level(s, Cursor { at: place }, Layout::Cmp, position),
-        Form::Tsc => find_node(s, Cursor { at: place }),
+    let at = path.at[layer];
+    match path.form {
+        Form::Bump => find_in_level(s, Cursor { at }, Layout::Bump, position),
+        Form::Cmp => find_in_level(s, Cursor { at }, Layout::Cmp, position),
+        Form::Tsc => find_node(s, Cursor { at }),
     }
 }
 
-fn lesser_of(a: Start, b: Start) -> Start
+fn lesser_of(a: Option<u64>, b: Option<u64>) -> Option<u64>
     ensures { result ≡ lesser a b }
 {
-    let Start::At(x) = a else {
+    let Some(x) = a else {
         return b;
     };
-    let Start::At(y) = b else {
+    let Some(y) = b else {
         return a;
     };
     if x < y { a } else { b }
 }
 
-fn seek_id(s: &[u8], c: Cursor, layout: Layout, count: u64, id: [u8; 32]) -> Start
-    ensures { result ≡ seek_id layout id count s.now c.at Start.Nowhere }
+fn seek_id(s: &[u8], c: Cursor, layout: Layout, count: u64, id: [u8; 32]) -> Option<u64>
+    ensures { result ≡ seek_id layout id count s.now c.at None }
 {
-    let mut best = Start::Nowhere;
+    let mut best = None;
     let mut next = c;
-    let mut i: u64 = 0;
-    while i < count {
-        let step = pass_leaf(s, next, layout);
-        i += 1;
-        match step {
-            Step::Hash(offset, place, after) => {
-                next = after;
-                if same_bytes(hash_at(s, place), id) {
-                    best = lesser_of(best, Start::At(offset));
-                }
-            }
-            Step::Copy(_, after) => next = after,
-            Step::Stuck => return Start::Nowhere,
+    for _ in 0..count {
+        let Ok((leaf, after)) = pass_leaf(s, next, layout) else {
+            return None;
+        };
+        next = after;
+        let Some(place) = leaf.place else {
+            continue;
+        };
+        if same_bytes(hash_at(s, place), id) {
+            best = lesser_of(best, Some(leaf.offset));
         }
     }
     best
 }
 
-fn find_id_in_level(s: &[u8], c: Cursor, layout: Layout, id: [u8; 32]) -> Start
+fn find_id_in_level(s: &[u8], c: Cursor, layout: Layout, id: [u8; 32]) -> Option<u64>
     ensures { result ≡ start_of_level layout s.now c.at id }
 {
-    let field = read_varint(s, c);
-    let Number::Value(count, next) = field else {
-        return Start::Nowhere;
+    let Ok((count, next)) = read_varint(s, c) else {
+        return None;
     };
     seek_id(s, next, layout, count, id)
 }
 
 // The least level-0 offset that carries the id in its 32 bytes.
-pub fn find_id(s: &[u8], path: Path, id: [u8; 32]) -> Start
+pub fn find_id(s: &[u8], path: Path, id: [u8; 32]) -> Option<u64>
     ensures { result ≡ start_in s.now path id }
 {
-    let places = path.at;
-    let place = places[0];
-    let form = path.form;
-    match form {
-        Form::Bump => find_id_in_level(s, Cursor { at: place }, Layout::Bump, id),
-        Form::Cmp => find_id_in_level(s, Cursor { at: place }, Layout::Cmp, id),
-        Form::Tsc => Start::Nowhere,
+    let at = path.at[0];
+    match path.form {
+        Form::Bump => find_id_in_level(s, Cursor { at }, Layout::Bump, id),
+        Form::Cmp => find_id_in_level(s, Cursor { at }, Layout::Cmp, id),
+        Form::Tsc => None,
     }
 }
 
@@ -190,16 +153,13 @@ fn level_places(s: &[u8], c: Cursor, layout: Layout, height: u64) -> [usize; LAY
 {
     let mut known = [0usize; LAYERS];
     let mut next = c;
-    let mut i: u64 = 0;
-    while i < height {
+    for i in 0..height {
         let level = level_in_turn(layout, height, i);
         known[level as usize] = next.at;
-        let field = skip_level(s, next, layout);
-        let Number::Value(_, after) = field else {
+        let Ok((_, after)) = skip_level(s, next, layout) else {
             return known;
         };
         next = after;
-        i += 1;
     }
     known
 }
@@ -241,15 +201,11 @@ pub fn cmp_path(s: &[u8], head: CmpHead) -> Path
 }
 
 // A node of a TSC proof, by its place.
-fn node_place(s: &[u8], c: Cursor) -> Run
-    ensures { run_of result ≡ node_place_field s.now c.at }
+fn node_place(s: &[u8], c: Cursor) -> Read<usize>
+    ensures { parse_of result ≡ node_place_field s.now c.at }
 {
-    let at = c.at;
-    let field = read_node(s, c);
-    let KindAnswer::Value(_, next) = field else {
-        return Run::Refused(field.refusal());
-    };
-    Run::Value(at, next)
+    let (_, next) = read_node(s, c)?;
+    Ok((c.at, next))
 }
 
 // The places of the nodes, in one pass.
@@ -259,15 +215,12 @@ fn node_places(s: &[u8], c: Cursor, count: usize) -> [usize; LAYERS]
 {
     let mut known = [0usize; LAYERS];
     let mut next = c;
-    let mut i: usize = 0;
-    while i < count {
-        let field = node_place(s, next);
-        let Run::Value(place, after) = field else {
+    for i in 0..count {
+        let Ok((place, after)) = node_place(s, next) else {
             return [0usize; LAYERS];
         };
         known[i] = place;
         next = after;
-        i += 1;
     }
     known
 }

@@ -1,50 +1,22 @@
 // Leaves and levels that were read before, without their tests (specs/Unchecked.antt).
 ghost use Rattle.std.specs.Prelude.{◌≡◌, length};
 ghost use Rattle.format.specs.Parse.{each, times};
-ghost use Rattle.format.specs.FieldAnswer.{number_of};
+ghost use Rattle.format.specs.Answer.{parse_of};
 ghost use Rattle.format.specs.Level.{kind_field};
-ghost use Rattle.path.specs.Steps.{leaf_with, Tells, refusal_at};
-ghost use Rattle.format.specs.LevelAnswer.{kind_of};
+ghost use Rattle.path.specs.Steps.{leaf_with, Tells};
 ghost use Rattle.path.specs.Unchecked.{unchecked_carried, unchecked_leaf, unchecked_level};
-ghost use Rattle.path.specs.LeafAnswer.{leaf_of, refusal_of_leaf};
 
-use format::refusal::ReadRefusal;
-use format::{
-    Cursor, KindAnswer, Layout, Leaf, Number, Run, one_byte, read_kind, read_run, read_varint,
-};
+use format::{Cursor, Kind, Layout, Leaf, Read, one_byte, read_kind, read_run, read_varint};
 
-#[derive(Clone, Copy)]
-pub enum LeafAnswer {
-    Value(Leaf, Cursor),
-    Refused(ReadRefusal),
-}
-
-impl LeafAnswer {
-    pub fn refusal(self) -> ReadRefusal
-        ensures { result ≡ refusal_of_leaf self }
-    {
-        match self {
-            LeafAnswer::Refused(x) => x,
-            LeafAnswer::Value(_, _) => ReadRefusal {
-                number: 0,
-                place: 0,
-            },
-        }
-    }
-}
-
-fn unchecked_flagged(s: &[u8], c: Cursor) -> KindAnswer
-    ensures { kind_of result ≡ unchecked_carried Layout.Bump s.now c.at }
+fn unchecked_flagged(s: &[u8], c: Cursor) -> Read<Kind>
+    ensures { parse_of result ≡ unchecked_carried Layout.Bump s.now c.at }
 {
-    let first = one_byte(s, c);
-    let Number::Value(flag, next) = first else {
-        return KindAnswer::Refused(first.refusal());
-    };
+    let (flag, next) = one_byte(s, c)?;
     read_kind(s, next, flag)
 }
 
-fn unchecked_carried(s: &[u8], c: Cursor, layout: Layout) -> KindAnswer
-    ensures { kind_of result ≡ unchecked_carried layout s.now c.at }
+fn unchecked_carried(s: &[u8], c: Cursor, layout: Layout) -> Read<Kind>
+    ensures { parse_of result ≡ unchecked_carried layout s.now c.at }
 {
     match layout {
         Layout::Bump => unchecked_flagged(s, c),
@@ -53,52 +25,51 @@ fn unchecked_carried(s: &[u8], c: Cursor, layout: Layout) -> KindAnswer
 }
 
 // A leaf of a level that was read before: no test of its offset or flags.
-pub fn leaf_at(s: &[u8], c: Cursor, layout: Layout) -> LeafAnswer
-    ensures { leaf_of result ≡ unchecked_leaf layout s.now c.at }
+pub fn leaf_at(s: &[u8], c: Cursor, layout: Layout) -> Read<Leaf>
+    ensures { parse_of result ≡ unchecked_leaf layout s.now c.at }
 {
-    let first = read_varint(s, c);
-    let Number::Value(offset, second_at) = first else {
-        return LeafAnswer::Refused(first.refusal());
-    };
-    let second = unchecked_carried(s, second_at, layout);
-    let KindAnswer::Value(kind, next) = second else {
-        return LeafAnswer::Refused(second.refusal());
-    };
-    LeafAnswer::Value(Leaf { offset, kind }, next)
+    let (offset, second_at) = read_varint(s, c)?;
+    let (kind, next) = unchecked_carried(s, second_at, layout)?;
+    Ok((Leaf { offset, kind }, next))
 }
 
-// What a search looks at in a leaf: its offset, the place of its 32 bytes if it isn't a copy, and the cursor after it.
+// What a search looks at in a leaf: its offset, and the place of its 32 bytes if it isn't a copy.
 #[derive(Clone, Copy)]
-pub(crate) enum Step {
-    Hash(u64, usize, Cursor),
-    Copy(u64, Cursor),
-    Stuck,
+pub(crate) struct Passed {
+    pub offset: u64,
+    pub place: Option<usize>,
 }
 
-fn step_kind(s: &[u8], c: Cursor, flags: u64, offset: u64) -> Step
+fn step_kind(s: &[u8], c: Cursor, flags: u64, offset: u64) -> Read<Passed>
     ensures { Tells result (leaf_with offset (kind_field flags s.now c.at)) }
 {
     if flags == 1 {
-        return Step::Copy(offset, c);
+        return Ok((
+            Passed {
+                offset,
+                place: None,
+            },
+            c,
+        ));
     }
-    let field = read_run(s, c, 32);
-    let Run::Value(place, next) = field else {
-        return Step::Stuck;
-    };
-    Step::Hash(offset, place, next)
+    let (place, next) = read_run(s, c, 32)?;
+    Ok((
+        Passed {
+            offset,
+            place: Some(place),
+        },
+        next,
+    ))
 }
 
-fn step_flagged(s: &[u8], c: Cursor, offset: u64) -> Step
+fn step_flagged(s: &[u8], c: Cursor, offset: u64) -> Read<Passed>
     ensures { Tells result (leaf_with offset (unchecked_carried Layout.Bump s.now c.at)) }
 {
-    let first = one_byte(s, c);
-    let Number::Value(flags, next) = first else {
-        return Step::Stuck;
-    };
+    let (flags, next) = one_byte(s, c)?;
     step_kind(s, next, flags, offset)
 }
 
-fn step_carried(s: &[u8], c: Cursor, layout: Layout, offset: u64) -> Step
+fn step_carried(s: &[u8], c: Cursor, layout: Layout, offset: u64) -> Read<Passed>
     ensures { Tells result (leaf_with offset (unchecked_carried layout s.now c.at)) }
 {
     match layout {
@@ -108,48 +79,28 @@ fn step_carried(s: &[u8], c: Cursor, layout: Layout, offset: u64) -> Step
 }
 
 // A leaf of a level that was read before, as a search passes it.
-pub(crate) fn pass_leaf(s: &[u8], c: Cursor, layout: Layout) -> Step
+pub(crate) fn pass_leaf(s: &[u8], c: Cursor, layout: Layout) -> Read<Passed>
     ensures { Tells result (unchecked_leaf layout s.now c.at) }
 {
-    let first = read_varint(s, c);
-    let Number::Value(offset, next) = first else {
-        return Step::Stuck;
-    };
+    let (offset, next) = read_varint(s, c)?;
     step_carried(s, next, layout, offset)
 }
 
-// The refusal of a leaf that can't be read.
-fn unread_leaf(s: &[u8], c: Cursor, layout: Layout) -> Number
-    ensures { result ≡ Number.Refused (refusal_at (unchecked_leaf layout s.now c.at)) }
-{
-    let field = leaf_at(s, c, layout);
-    Number::Refused(field.refusal())
-}
-
-fn skip_leaves(s: &[u8], c: Cursor, layout: Layout, count: u64) -> Number
-    ensures { number_of result ≡ each length (times (unchecked_leaf layout) count s.now c.at) }
+fn skip_leaves(s: &[u8], c: Cursor, layout: Layout, count: u64) -> Read<u64>
+    ensures { parse_of result ≡ each length (times (unchecked_leaf layout) count s.now c.at) }
 {
     let mut next = c;
-    let mut i: u64 = 0;
-    while i < count {
-        let step = pass_leaf(s, next, layout);
-        i += 1;
-        match step {
-            Step::Hash(_, _, after) => next = after,
-            Step::Copy(_, after) => next = after,
-            Step::Stuck => return unread_leaf(s, next, layout),
-        }
+    for _ in 0..count {
+        let (_, after) = pass_leaf(s, next, layout)?;
+        next = after;
     }
-    Number::Value(i, next)
+    Ok((count, next))
 }
 
 // A level that was read before: how many leaves it has, and the cursor after it.
-pub fn skip_level(s: &[u8], c: Cursor, layout: Layout) -> Number
-    ensures { number_of result ≡ each length (unchecked_level layout s.now c.at) }
+pub fn skip_level(s: &[u8], c: Cursor, layout: Layout) -> Read<u64>
+    ensures { parse_of result ≡ each length (unchecked_level layout s.now c.at) }
 {
-    let field = read_varint(s, c);
-    let Number::Value(count, next) = field else {
-        return field;
-    };
+    let (count, next) = read_varint(s, c)?;
     skip_leaves(s, next, layout, count)
 }

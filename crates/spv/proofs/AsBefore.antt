@@ -10,8 +10,7 @@ use native.Mathlib.Omega.{arith}
 use borrow.Author.Tests.{ne_eqb}
 use Rattle.hash.specs.Sha256.{sha256d}
 use Rattle.format.specs.declared.leaf.Leaf.{Leaf}
-use Rattle.path.specs.declared.path.Start.{Start}
-use Rattle.path.specs.declared.path.Start.TheVariants.{At, Nowhere}
+use Rattle.std.specs.Prelude.{Option, Some, None}
 use Rattle.format.specs.Refusals.{MISSING}
 use Rattle.path.specs.Search.{least_offset}
 use Rattle.spv.specs.Result.{Result, accepted, refused}
@@ -85,8 +84,8 @@ pub answered_as_before : (s id : List ℕ) (h : ℕ) (levels : List (List Leaf))
 unfolding written_reading levels_reading level_siblings prove_by starting
 answered_as_before s id h levels o = go (least_offset s id (get_or levels 0 [])) o
   where
-    go : (x : Start) → NotMissing (prove (starting (written_by s (find_in levels)) h id x)) → prove (starting (level_siblings s levels) h id x) ≡ prove (starting (written_by s (find_in levels)) h id x)
-    go (At i) p =
+    go : (x : Option ℕ) → NotMissing (prove (starting (written_by s (find_in levels)) h id x)) → prove (starting (level_siblings s levels) h id x) ≡ prove (starting (written_by s (find_in levels)) h id x)
+    go (Some i) p =
         prove_climb (level_siblings s levels) (written_by s (find_in levels)) h i id any
         (ascend-keeps (written_by s (find_in levels)) 0 h i id (not-missing id (ascend (written_by s (find_in levels)) 0 h i id) (proof_of (written_by s (find_in levels)) h i id) p))
-    go Nowhere p = refl
+    go None p = refl

@@ -13,8 +13,7 @@ use Rattle.hash.specs.Sha256.{sha256d}
 use Rattle.format.specs.Bytes.{same}
 use Rattle.format.proofs.BytesLaws.{eq_same, ne_same}
 use Rattle.format.specs.declared.leaf.Leaf.{Leaf}
-use Rattle.path.specs.declared.path.Start.{Start}
-use Rattle.path.specs.declared.path.Start.TheVariants.{At, Nowhere}
+use Rattle.std.specs.Prelude.{Option, Some, None}
 use Rattle.format.specs.Parse.{ok, pick}
 use Rattle.format.specs.Refusals.{NOT_LISTED, MISSING, TWIN}
 use Rattle.format.specs.Bump.{Bump, bump_whole}
@@ -164,9 +163,9 @@ pub data Climbs (w : Siblings) (i : ℕ) (id : List ℕ) : ℕ → ℕ → List 
 
 -- a climb over h layers ends for want of a sibling, the one that the refusal tells: the lowest layer without one, "at that layer the sibling the climb
 -- needs, even if the gap is further down" (02, Item 5). It is no copy, and no value of it can be had
-pub record Missing (w : Siblings) (h : ℕ) (id : List ℕ) (start : Start) (why : Rejection) : Type 0 where
+pub record Missing (w : Siblings) (h : ℕ) (id : List ℕ) (start : Option ℕ) (why : Rejection) : Type 0 where
   pub offset : ℕ
-  pub starts : start ≡ At offset
+  pub starts : start ≡ Some offset
   pub layer : ℕ
   pub below : layer < h
   pub position : ℕ
@@ -245,7 +244,7 @@ module _ (w : Siblings) (odds : OddCopies w) where
             let u = eqb-false (j % 2) 1 t in
             rw (← r.0, ← r.1) (on_even x (omega arith) (rw (sibling-even j u) at s))
 
-    climb_missing : (n k j : ℕ) (c : List ℕ) → k + n ≡ h → Climbs w i id k j c → (why : Rejection) → end_of c (ascend (worked_out w) k n j c) ≡ refused why → why.number ≡ MISSING → Missing w h id (At i) why
+    climb_missing : (n k j : ℕ) (c : List ℕ) → k + n ≡ h → Climbs w i id k j c → (why : Rejection) → end_of c (ascend (worked_out w) k n j c) ≡ refused why → why.number ≡ MISSING → Missing w h id (Some i) why
     unfolding ascend_by end_by
     climb_missing zero k j c m x why e num = absurd (let z : ◌≡◌ {A = ℕ} 0 1 = cc in omega arith)
     climb_missing (suc n) k j c m x why e num =
@@ -254,7 +253,7 @@ module _ (w : Siblings) (odds : OddCopies w) where
         q : ℕ
         q = sibling_position j
 
-        ends : (number : ℕ) → step (worked_out w k q) (odd j) c ≡ fails number → at_sibling number k q ≡ why → Missing w h id (At i) why
+        ends : (number : ℕ) → step (worked_out w k q) (odd j) c ≡ fails number → at_sibling number k q ≡ why → Missing w h id (Some i) why
         ends number s f =
             let is : number ≡ MISSING = ap (λ (r : Rejection). r.number) f ∙ num in
             let none = (none-exactly w odds k q).0 (missing-absent (worked_out w k q) (odd j) c (s ∙ ap fails is)) in
@@ -272,8 +271,8 @@ module _ (w : Siblings) (odds : OddCopies w) where
             }
 
         go : (s : Step) → step (worked_out w k q) (odd j) c ≡ s → end_of c (ascended (worked_out w) k n j (worked_out w k q) s) ≡ refused why
-            → ((d : List ℕ) → Climbs w i id (suc k) (j / 2) d → end_of d (ascend (worked_out w) (suc k) n (j / 2) d) ≡ refused why → Missing w h id (At i) why)
-            → Missing w h id (At i) why
+            → ((d : List ℕ) → Climbs w i id (suc k) (j / 2) d → end_of d (ascend (worked_out w) (suc k) n (j / 2) d) ≡ refused why → Missing w h id (Some i) why)
+            → Missing w h id (Some i) why
         go (joins a b) s f ih = ih (sha256d (a ++ b)) (rw add-one at (climbs-up k j c a b x s)) f
         go (fails number) s f ih = ends number s cc
 
@@ -290,7 +289,7 @@ module _ (w : Siblings) (odds : OddCopies w) where
         let e : step (worked_out w k (sibling_position j)) (odd j) c ≡ joins p c = rw (sibling-odd j u, eq-eqb (j % 2) 1 u) (beside_steps true s ∙ joined-odd c p (ne_same p c d)) in
         climbing_up (worked_out w) h i id k j c (climbs-kept x (omega arith)) (omega arith) p c e (sha256d (p ++ c)) refl
 
-    missing_ends : (why : Rejection) (m : Missing w h id (At i) why) → m.offset ≡ i → end_of id (ascend (worked_out w) 0 h i id) ≡ refused why
+    missing_ends : (why : Rejection) (m : Missing w h id (Some i) why) → m.offset ≡ i → end_of id (ascend (worked_out w) 0 h i id) ≡ refused why
     unfolding step end_by
     missing_ends why m same =
         let x = subst (λ (o : ℕ). Climbs w o id m.layer m.position m.working) same m.climbs in
@@ -321,13 +320,13 @@ module _ (s id : List ℕ) (h : ℕ) (levels : List (List Leaf)) (odds : OddCopi
       w : Siblings
       w = written_by s (find_in levels)
 
-      go : (x : Start) → ((prove (starting (level_siblings s levels) h id x) ≡ refused why) × (why.number ≡ MISSING)) ↔ Missing w h id x why
-      go (At i) = (
+      go : (x : Option ℕ) → ((prove (starting (level_siblings s levels) h id x) ≡ refused why) × (why.number ≡ MISSING)) ↔ Missing w h id x why
+      go (Some i) = (
         (λ e. climb_missing w odds h i id h 0 i id (omega arith) begins why (any-refused _ _ why e.0) e.1),
         (λ m. let same : m.offset ≡ i = (let z = m.starts in cc) in
             (prove-stop (worked_out w) h i id any why (missing_ends w odds h i id why m same), ap (λ (r : Rejection). r.number) m.told)),
       )
-      go Nowhere = ((λ e. absurd (not_listed why e.0 e.1)), (λ m. absurd (let z = m.starts in let y : ◌≡◌ {A = ℕ} 0 1 = cc in omega arith)))
+      go None = ((λ e. absurd (not_listed why e.0 e.1)), (λ m. absurd (let z = m.starts in let y : ◌≡◌ {A = ℕ} 0 1 = cc in omega arith)))
 
 -- a BUMP that was read: its proof of an id is refused with 14 exactly when the climb lacks a sibling so, and then with that layer and sibling
 pub bump-missing : (s id : List ℕ) (b : Bump) (q : ℕ) → bump_whole s ≡ ok b q → (why : Rejection)

@@ -99,6 +99,10 @@ module _ (x y : Proof) where
   unfolding against_by
   against-meet e f = rw (e, f)
 
+pub compare-first : (v w : Result Proof) (why : Rejection) → v ≡ refused why → compare v w ≡ refused why
+unfolding compare_by
+compare-first v w why e = rw e
+
 pub compare-second : (v w : Result Proof) (x : Proof) (why : Rejection) → v ≡ accepted x → w ≡ refused why → compare v w ≡ refused why
 unfolding compare_by
 compare-second v w x why e f = rw (e, f)

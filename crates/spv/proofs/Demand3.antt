@@ -1,16 +1,13 @@
 -- Demand 3: two accepted proofs, forms mixed, that agree in root, position and layers and prove different ids give two different strings of one hash.
 use Prim.Native.Nat.{ℕ}
-use mathlib.Core.Path.{◌≡◌, refl, sym, ap, ap₂, ◌∙◌}
+use mathlib.Core.Path.{◌≡◌, refl, sym, ap, ◌∙◌}
 use mathlib.Core.List.{List, []}
 use lib.ListN.{length, get_or}
-use native.Mathlib.Omega.{arith}
 use Rattle.hash.specs.Sha256.{sha256d}
 use Rattle.hash.proofs.Sha256Laws.{sha256d-length}
 use Rattle.format.specs.declared.leaf.Leaf.{Leaf}
 use Rattle.format.specs.declared.tsc.Subject.{Subject}
 use Rattle.path.specs.declared.path.Form.{Form}
-use Rattle.path.specs.declared.path.Start.{Start}
-use Rattle.path.specs.declared.path.Start.TheVariants.{At, Nowhere}
 use Rattle.format.specs.Parse.{Parse, ok, fault}
 use Rattle.path.specs.Search.{least_offset}
 use Rattle.format.proofs.BytesLaws.{hash-at-length}
@@ -26,20 +23,21 @@ use Rattle.format.specs.Id.{subject_id}
 use Rattle.spv.specs.Readings.{read_as, starting, levels_reading, bump_reading_up_to, cmp_reading_up_to, tsc_reading_up_to, reading, reading_up_to}
 use Rattle.spv.proofs.Surplus.{Least, least-is}
 use Rattle.spv.proofs.Position.{carrier}
-use Rattle.spv.specs.Shapes.{accepted_of, proved_of, refused_pair, compared_of}
+use Rattle.std.specs.Prelude.{Option, Some, None, Result as Answer, Ok}
+use Rattle.spv.specs.Shapes.{proved_of, compared_of}
+use Rattle.spv.proofs.ResultLaws.{answered-ok}
 use Rattle.spv.proofs.ShapesLaws.{told-accepted}
-use Rattle.spv.specs.declared.prove.Outcome.TheVariants.{Accepted}
+use Rattle.spv.specs.declared.rejection.Rejection.{Rejection}
 use Rattle.spv.specs.declared.prove.Proved.{Proved}
-use Rattle.spv.specs.declared.compare.Comparison.{Comparison}
-use Rattle.spv.specs.declared.compare.Compared.{Compared}
+use Rattle.spv.specs.declared.compare.Pair.{Pair}
 use Rattle.spv.specs.Prove.{Reading, Proof, prove_by, prove}
 
 -- ---- whatever a form reads has ids and siblings of 32 bytes
 
-starting-whole : (s id : List ℕ) (h : ℕ) (levels : List (List Leaf)) (x : Start) → Least s id (get_or levels 0 []) x → WholeReading (starting (level_siblings s levels) h id x)
+starting-whole : (s id : List ℕ) (h : ℕ) (levels : List (List Leaf)) (x : Option ℕ) → Least s id (get_or levels 0 []) x → WholeReading (starting (level_siblings s levels) h id x)
 unfolding starting WholeReading Least
-starting-whole s id h levels (At i) l = ((carrier s id i (get_or levels 0 []) l.0).long, level_siblings-whole s levels)
-starting-whole s id h levels Nowhere l = tt
+starting-whole s id h levels (Some i) l = ((carrier s id i (get_or levels 0 []) l.0).long, level_siblings-whole s levels)
+starting-whole s id h levels None l = tt
 
 levels-whole : (s id : List ℕ) (h : ℕ) (levels : List (List Leaf)) → WholeReading (levels_reading s h levels id)
 unfolding levels_reading
@@ -88,57 +86,53 @@ unfoldable pub preimages_by : Result Proof → List (List ℕ)
 preimages_by (refused why) = []
 preimages_by (accepted x) = x.preimages
 
-pub record Answered (v w : Result Proof) (a : Compared) : Type 0 where
-  pub pair : a.comparison ≡ Comparison.Pair
-  pub long : (length a.first ≡ 64) × (length a.second ≡ 64)
-  pub collision : Collision (preimages_by v) (preimages_by w) a.first a.second
+pub record Answered (v w : Result Proof) (a : Answer Pair Rejection) : Type 0 where
+  pub pair : Pair
+  pub is : a ≡ Ok pair
+  pub long : (length pair.first ≡ 64) × (length pair.second ≡ 64)
+  pub collision : Collision (preimages_by v) (preimages_by w) pair.first pair.second
 
 -- two accepted answers of proving that agree and tell different ids
-pub record Alike (x y : Proved) : Type 0 where
-  pub position : ℕ
-  pub layers : ℕ
-  pub first : x.outcome ≡ Accepted position layers
-  pub second : y.outcome ≡ Accepted position layers
-  pub root : x.root ≡ y.root
-  pub differ : x.id ≡ y.id → ⊥
+pub record Alike (x y : Answer Proved Rejection) : Type 0 where
+  pub one : Proved
+  pub other : Proved
+  pub first : x ≡ Ok one
+  pub second : y ≡ Ok other
+  pub position : one.position ≡ other.position
+  pub layers : one.layers ≡ other.layers
+  pub root : one.root ≡ other.root
+  pub differ : one.id ≡ other.id → ⊥
 
-answer_built : (v w : Result Proof) (p q : Proof) (t u : List ℕ) (a : Compared) → v ≡ accepted p → w ≡ accepted q → a ≡ compared_of (pair t u) → (length t ≡ 64) × (length u ≡ 64) → Collision p.preimages q.preimages t u
-    → Answered v w a
-unfolding compared_of preimages_by
-answer_built v w p q t u a ev ew ea l c = rw (ev, ew, ea) (record { pair = refl; long = l; collision = c })
+answer_built : (v w : Result Proof) (p q : Proof) (t u : List ℕ) (a : Answer Pair Rejection) → v ≡ accepted p → w ≡ accepted q → a ≡ compared_of (pair t u) → (length t ≡ 64) × (length u ≡ 64)
+    → Collision p.preimages q.preimages t u → Answered v w a
+unfolding preimages_by
+answer_built v w p q t u a ev ew ea l c = rw (ev, ew, ea) (record { pair = record { first = t; second = u }; is = refl; long = l; collision = c })
 
--- only a pair is answered as one
-answer_pair : (r : Result Strings) → (compared_of r).comparison ≡ Comparison.Pair → (t : List ℕ) × (u : List ℕ) × (r ≡ pair t u)
-unfolding compared_of refused_pair
-answer_pair (accepted x) e = (x.first, x.second, refl)
-answer_pair (refused why) e = let z : ◌≡◌ {A = ℕ} 0 1 = cc in absurd (omega arith)
-
-alike_built : (v w : Result Proof) (t u : List ℕ) (x y : Proved) → x ≡ proved_of v → y ≡ proved_of w → Colliding v w t u → Alike x y
-unfolding proved_of accepted_of
+alike_built : (v w : Result Proof) (t u : List ℕ) (x y : Answer Proved Rejection) → x ≡ proved_of v → y ≡ proved_of w → Colliding v w t u → Alike x y
 alike_built v w t u x y ex ey c =
-    let fx = ex ∙ ap proved_of c.first in
-    let fy = ey ∙ ap proved_of c.second in
     record {
-      position = c.x.position;
-      layers = c.x.layers;
-      first = ap (λ (r : Proved). r.outcome) fx;
-      second = ap (λ (r : Proved). r.outcome) fy ∙ ap₂ Accepted (sym c.position) (sym c.layers);
-      root = ap (λ (r : Proved). r.root) fx ∙ c.root ∙ sym (ap (λ (r : Proved). r.root) fy);
-      differ = λ e. c.differ (sym (ap (λ (r : Proved). r.id) fx) ∙ e ∙ ap (λ (r : Proved). r.id) fy);
+      one = _;
+      other = _;
+      first = ex ∙ ap proved_of c.first;
+      second = ey ∙ ap proved_of c.second;
+      position = c.position;
+      layers = c.layers;
+      root = c.root;
+      differ = c.differ;
     }
 
 -- x and y are what proving answers, a is what comparing answers
-module _ (f g : Form) (s t id jd : List ℕ) (x y : Proved) (a : Compared)
+module _ (f g : Form) (s t id jd : List ℕ) (x y : Answer Proved Rejection) (a : Answer Pair Rejection)
     (ex : x ≡ proved_of (prove (reading f s id))) (ey : y ≡ proved_of (prove (reading g t jd))) (ea : a ≡ compared_of (compare (prove (reading f s id)) (prove (reading g t jd)))) where
   pub answered : Alike x y → Answered (prove (reading f s id)) (prove (reading g t jd)) a
   answered l =
-      let p = told-accepted x (prove (reading f s id)) l.position l.layers ex l.first in
-      let q = told-accepted y (prove (reading g t jd)) l.position l.layers ey l.second in
-      let c = demand3 f g s t id jd p.0 q.0 p.1 q.1 (p.2 ∙ l.root ∙ sym q.2) (p.3 ∙ sym q.3) (p.4 ∙ sym q.4) (λ e. l.differ (sym p.5 ∙ e ∙ q.5)) in
+      let p = told-accepted (prove (reading f s id)) l.one (sym l.first ∙ ex) in
+      let q = told-accepted (prove (reading g t jd)) l.other (sym l.second ∙ ey) in
+      let c = demand3 f g s t id jd p.0 q.0 p.1 q.1 (p.2 ∙ l.root ∙ sym q.2) (p.3 ∙ l.position ∙ sym q.3) (p.4 ∙ l.layers ∙ sym q.4) (λ e. l.differ (sym p.5 ∙ e ∙ q.5)) in
       answer_built (prove (reading f s id)) (prove (reading g t jd)) p.0 q.0 c.t c.u a p.1 q.1 (ea ∙ ap compared_of c.answer) c.long c.collision
 
-  -- the other way
-  pub answered_back : a.comparison ≡ Comparison.Pair → Alike x y
-  answered_back e =
-      let r = answer_pair (compare (prove (reading f s id)) (prove (reading g t jd))) (sym (ap (λ (b : Compared). b.comparison) ea) ∙ e) in
-      alike_built (prove (reading f s id)) (prove (reading g t jd)) r.0 r.1 x y ex ey (demand3_back f g s t id jd r.0 r.1 r.2)
+  -- the other way: only a pair is answered as one
+  pub answered_back : (p : Pair) → a ≡ Ok p → Alike x y
+  answered_back p e =
+      let r = answered-ok (λ (z : Strings). record { first = z.first; second = z.second }) (compare (prove (reading f s id)) (prove (reading g t jd))) p (sym e ∙ ea) in
+      alike_built (prove (reading f s id)) (prove (reading g t jd)) r.0.first r.0.second x y ex ey (demand3_back f g s t id jd r.0.first r.0.second r.1)

@@ -24,13 +24,14 @@ use Rattle.spv.specs.Compare.{CollisionBy}
 use Rattle.spv.proofs.Collide.{Linked, WholeReading, collide, linked_long, prove_sound}
 use Rattle.spv.specs.Readings.{reading}
 use Rattle.spv.proofs.Demand3.{reading-whole}
-use Rattle.spv.specs.Shapes.{accepted_of, proved_of}
+use Rattle.std.specs.Prelude.{Result as Answer, Ok}
+use Rattle.spv.specs.Shapes.{paired, proved_of}
+use Rattle.spv.proofs.ResultLaws.{answered-ok}
 use Rattle.spv.proofs.ShapesLaws.{told-accepted}
-use Rattle.spv.specs.Depth.{halved, deeper, Pair, transaction, strings, pair_of, lowest_by, matched, against_deeper_by, uneven_by, depth_by, depth, first_of, second_of, depth_of}
-use Rattle.spv.specs.declared.prove.Outcome.TheVariants.{Accepted}
+use Rattle.spv.specs.Depth.{halved, deeper, Pair, transaction, strings, pair_of, lowest_by, matched, against_deeper_by, uneven_by, depth_by, depth, first_of, second_of, depth_pair, depth_of}
+use Rattle.spv.specs.declared.rejection.Rejection.{Rejection}
 use Rattle.spv.specs.declared.prove.Proved.{Proved}
-use Rattle.spv.specs.declared.depth.DepthComparison.{DepthComparison}
-use Rattle.spv.specs.declared.depth.DepthCompared.{DepthCompared}
+use Rattle.spv.specs.declared.depth.DepthPair.{DepthPair}
 use Rattle.spv.specs.Prove.{Reading, Proof, prove_by, prove}
 
 -- x a shorter proof, y a longer one to its root, m the raw transaction of x
@@ -219,89 +220,75 @@ module _ (f g : Form) (s t id jd m : List ℕ) where
 -- ---- the same of the code's answers
 
 -- what two answers of proving say, x of the proof with fewer layers
-pub record Deeper (m : List ℕ) (x y : Proved) : Type 0 where
-  pub i : ℕ
-  pub h : ℕ
-  pub j : ℕ
-  pub g : ℕ
-  pub first : x.outcome ≡ Accepted i h
-  pub second : y.outcome ≡ Accepted j g
-  pub root : x.root ≡ y.root
-  pub fewer : h < g
-  pub position : i ≡ halved (g - h) j
-  pub id : sha256d m ≡ x.id
+pub record Deeper (m : List ℕ) (x y : Answer Proved Rejection) : Type 0 where
+  pub one : Proved
+  pub other : Proved
+  pub first : x ≡ Ok one
+  pub second : y ≡ Ok other
+  pub root : one.root ≡ other.root
+  pub fewer : one.layers < other.layers
+  pub position : one.position ≡ halved (other.layers - one.layers) other.position
+  pub id : sha256d m ≡ one.id
   pub tx : Transaction
   pub end : ℕ
   pub read : tx_whole m ≡ ok tx end
 
 -- the shorter proof's string: the transaction, which is not handed back, or the one that is
-unfoldable pub first_by : DepthComparison → List ℕ → List ℕ → List ℕ
-first_by DepthComparison.Transaction m t = m
-first_by DepthComparison.Strings m t = t
-first_by (DepthComparison.Refused why) m t = t
+unfoldable pub first_by : DepthPair → List ℕ → List ℕ
+first_by (DepthPair.Transaction u) m = m
+first_by (DepthPair.Strings p) m = p.first
 
-unfoldable pub found : DepthComparison → Bool
-found DepthComparison.Transaction = true
-found DepthComparison.Strings = true
-found (DepthComparison.Refused why) = false
+unfoldable pub second_by : DepthPair → List ℕ
+second_by (DepthPair.Transaction u) = u
+second_by (DepthPair.Strings p) = p.second
 
-pub record DepthAnswered (v w : Result Proof) (m : List ℕ) (a : DepthCompared) : Type 0 where
+pub record DepthAnswered (v w : Result Proof) (m : List ℕ) (a : Answer DepthPair Rejection) : Type 0 where
   pub x : Proof
   pub y : Proof
   pub shorter : v ≡ accepted x
   pub longer : w ≡ accepted y
-  pub pair : found a.comparison ≡ true
-  pub long : length a.second ≡ 64
-  pub collision : CollisionBy sha256d (m ∷ x.preimages) (matched x y) (first_by a.comparison m a.first) a.second
+  pub pair : DepthPair
+  pub is : a ≡ Ok pair
+  pub long : length (second_by pair) ≡ 64
+  pub collision : CollisionBy sha256d (m ∷ x.preimages) (matched x y) (first_by pair m) (second_by pair)
 
-answer_built : (v w : Result Proof) (m : List ℕ) (x y : Proof) (p : Pair) (a : DepthCompared) → v ≡ accepted x → w ≡ accepted y → a ≡ depth_of (accepted p) → DepthCollisionBy sha256d m x y p → DepthAnswered v w m a
-unfolding depth_of first_by found first_of second_of
-answer_built v w m x y (transaction u) a ev ew ea k = rw ea (record { x = x; y = y; shorter = ev; longer = ew; pair = refl; long = k.long.0; collision = k.collision })
-answer_built v w m x y (strings t u) a ev ew ea k = rw ea (record { x = x; y = y; shorter = ev; longer = ew; pair = refl; long = k.long.0; collision = k.collision })
+answer_built : (v w : Result Proof) (m : List ℕ) (x y : Proof) (p : Pair) (a : Answer DepthPair Rejection) → v ≡ accepted x → w ≡ accepted y → a ≡ depth_of (accepted p) → DepthCollisionBy sha256d m x y p → DepthAnswered v w m a
+unfolding first_by second_by first_of second_of
+answer_built v w m x y (transaction u) a ev ew ea k = record { x = x; y = y; shorter = ev; longer = ew; pair = DepthPair.Transaction u; is = ea; long = k.long.0; collision = k.collision }
+answer_built v w m x y (strings t u) a ev ew ea k = record { x = x; y = y; shorter = ev; longer = ew; pair = DepthPair.Strings (paired t u); is = ea; long = k.long.0; collision = k.collision }
 
--- only a pair is answered as one
-answer_pair : (r : Result Pair) → found (depth_of r).comparison ≡ true → (p : Pair) × (r ≡ accepted p)
-unfolding depth_of found
-answer_pair (accepted p) e = (p, refl)
-answer_pair (refused why) e = let z : ◌≡◌ {A = ℕ} 0 1 = cc in absurd (omega arith)
-
-deeper_built : (m : List ℕ) (v w : Result Proof) (x y : Proved) (p q : Proof) (tx : Transaction) (end : ℕ) → x ≡ proved_of v → y ≡ proved_of w → v ≡ accepted p → w ≡ accepted q → tx_whole m ≡ ok tx end
+deeper_built : (m : List ℕ) (v w : Result Proof) (x y : Answer Proved Rejection) (p q : Proof) (tx : Transaction) (end : ℕ) → x ≡ proved_of v → y ≡ proved_of w → v ≡ accepted p → w ≡ accepted q → tx_whole m ≡ ok tx end
     → DeeperBy sha256d m p q → Deeper m x y
-unfolding proved_of accepted_of
 deeper_built m v w x y p q tx end ex ey ev ew et r =
-    let fx = ex ∙ ap proved_of ev in
-    let fy = ey ∙ ap proved_of ew in
     record {
-      i = p.position;
-      h = p.layers;
-      j = q.position;
-      g = q.layers;
-      first = ap (λ (z : Proved). z.outcome) fx;
-      second = ap (λ (z : Proved). z.outcome) fy;
-      root = ap (λ (z : Proved). z.root) fx ∙ r.root ∙ sym (ap (λ (z : Proved). z.root) fy);
+      one = _;
+      other = _;
+      first = ex ∙ ap proved_of ev;
+      second = ey ∙ ap proved_of ew;
+      root = r.root;
       fewer = r.fewer;
       position = r.position;
-      id = r.id ∙ sym (ap (λ (z : Proved). z.id) fx);
+      id = r.id;
       tx = tx;
       end = end;
       read = et;
     }
 
 -- which of the two has fewer layers
-pub data DeeperEither (m : List ℕ) (x y : Proved) : Type 0 where
+pub data DeeperEither (m : List ℕ) (x y : Answer Proved Rejection) : Type 0 where
   as_given : Deeper m x y → DeeperEither m x y
   turned : Deeper m y x → DeeperEither m x y
 
 -- x and y are what proving answers
-module _ (f g : Form) (s t id jd m : List ℕ) (x y : Proved) (ex : x ≡ proved_of (prove (reading f s id))) (ey : y ≡ proved_of (prove (reading g t jd))) where
+module _ (f g : Form) (s t id jd m : List ℕ) (x y : Answer Proved Rejection) (ex : x ≡ proved_of (prove (reading f s id))) (ey : y ≡ proved_of (prove (reading g t jd))) where
   module _ (l : Deeper m x y) where
     abbrev Given : Type 0
     Given = (p : Proof) × (q : Proof) × (prove (reading f s id) ≡ accepted p) × (prove (reading g t jd) ≡ accepted q) × DepthCollided sha256d sha256d-length (prove (reading f s id)) (prove (reading g t jd)) m p q
 
     given_pair : Given
     given_pair =
-        let p = told-accepted x (prove (reading f s id)) l.i l.h ex l.first in
-        let q = told-accepted y (prove (reading g t jd)) l.j l.g ey l.second in
+        let p = told-accepted (prove (reading f s id)) l.one (sym l.first ∙ ex) in
+        let q = told-accepted (prove (reading g t jd)) l.other (sym l.second ∙ ey) in
         let half : p.0.position ≡ halved (q.0.layers - p.0.layers) q.0.position = rw (p.3, q.3, p.4, q.4) l.position in
         let less : p.0.layers < q.0.layers = rw (p.4, q.4) l.fewer in (
           p.0,
@@ -313,16 +300,16 @@ module _ (f g : Form) (s t id jd m : List ℕ) (x y : Proved) (ex : x ≡ proved
         )
 
     -- a is what comparing answers, in either order
-    pub depth_answered : (a : DepthCompared) → a ≡ depth_of (depth (prove (reading f s id)) (prove (reading g t jd)) m) → DepthAnswered (prove (reading f s id)) (prove (reading g t jd)) m a
+    pub depth_answered : (a : Answer DepthPair Rejection) → a ≡ depth_of (depth (prove (reading f s id)) (prove (reading g t jd)) m) → DepthAnswered (prove (reading f s id)) (prove (reading g t jd)) m a
     depth_answered a ea = let k = given_pair in answer_built _ _ m k.0 k.1 k.4.0 a k.2 k.3 (ea ∙ ap depth_of k.4.1.0) k.4.2
 
-    pub depth_answered_turned : (a : DepthCompared) → a ≡ depth_of (depth (prove (reading g t jd)) (prove (reading f s id)) m) → DepthAnswered (prove (reading f s id)) (prove (reading g t jd)) m a
+    pub depth_answered_turned : (a : Answer DepthPair Rejection) → a ≡ depth_of (depth (prove (reading g t jd)) (prove (reading f s id)) m) → DepthAnswered (prove (reading f s id)) (prove (reading g t jd)) m a
     depth_answered_turned a ea = let k = given_pair in answer_built _ _ m k.0 k.1 k.4.0 a k.2 k.3 (ea ∙ ap depth_of k.4.1.1) k.4.2
 
-  -- the other way
-  pub depth_answered_back : (a : DepthCompared) → a ≡ depth_of (depth (prove (reading f s id)) (prove (reading g t jd)) m) → found a.comparison ≡ true → DeeperEither m x y
-  depth_answered_back a ea e =
-      let r = answer_pair (depth (prove (reading f s id)) (prove (reading g t jd)) m) (ap (λ (b : DepthCompared). found b.comparison) (sym ea) ∙ e) in
+  -- the other way: only a pair is answered as one
+  pub depth_answered_back : (a : Answer DepthPair Rejection) → a ≡ depth_of (depth (prove (reading f s id)) (prove (reading g t jd)) m) → (p : DepthPair) → a ≡ Ok p → DeeperEither m x y
+  depth_answered_back a ea p e =
+      let r = answered-ok depth_pair (depth (prove (reading f s id)) (prove (reading g t jd)) m) p (sym e ∙ ea) in
       let k = demand3_depth_back f g s t id jd m r.0 r.1 in
       go k.x k.y k.ordered k.tx k.end k.read k.relation
     where

@@ -3,10 +3,10 @@ use Prim.Native.Nat.{ℕ, zero, suc, ◌+◌, ◌-◌, ◌/◌, ◌^◌, ◌<◌
 use native.Mathlib.Nat.{add-zero}
 use native.Mathlib.Numerals.{add-one}
 use native.Mathlib.Omega.{arith}
-use mathlib.Core.Path.{◌≡◌, refl, sym, ap, ap₂, ◌∙◌, subst}
+use mathlib.Core.Path.{◌≡◌, refl, sym, ap, ◌∙◌, subst}
 use mathlib.Core.Bool.{Bool, true, false, ◌&&◌}
 use mathlib.Core.List.{List, [], ◌∷◌, ◌++◌}
-use lib.ListN.{drop, replicate}
+use lib.ListN.{drop}
 use lib.Dec.{eqb, ltb}
 use borrow.Author.Tests.{ltb-true, eqb-true, lt-ltb, le-ltb}
 use Rattle.hash.specs.Sha256.{sha256d}
@@ -23,18 +23,16 @@ use Rattle.spv.specs.Compare.{Met, meet}
 use Rattle.spv.specs.PositionFits.{PositionFits}
 use Rattle.spv.proofs.PositionFitsLaws.{low-start, low_half}
 use Rattle.spv.specs.Siblings.{path_siblings}
-use Rattle.spv.specs.Shapes.{proved_of, joined_of, is_joins, meeting_of, claimed, claim_proof}
-use Rattle.spv.proofs.ShapesLaws.{is-joins, told-joins, told-met, told-never, told-accepted, claimed-proved}
+use Rattle.spv.specs.Shapes.{meeting_of, claim_proof}
+use Rattle.spv.proofs.ShapesLaws.{told-met, told-never}
+use Rattle.std.specs.Prelude.{Some, None, Result as Answer, Ok}
 use Rattle.spv.specs.Depth.{halved, deeper, Pair, pair_of, lowest_by, lowest, matched, against_deeper_by, against_deeper, uneven_by, uneven, depth_by, depth, depth_of}
 use Rattle.spv.proofs.Demand3Depth.{halved_last}
 use Rattle.spv.specs.declared.prove.Claim.{Claim}
-use Rattle.spv.specs.declared.prove.Outcome.TheVariants.{Accepted}
-use Rattle.spv.specs.declared.prove.Proved.{Proved}
-use Rattle.spv.specs.declared.climb.Joined.{Joined}
-use Rattle.spv.specs.declared.compare.Meeting.{Meeting}
-use Rattle.spv.specs.declared.depth.DepthComparison.{DepthComparison}
-use Rattle.spv.specs.declared.depth.DepthCompared.{DepthCompared}
-use Rattle.spv.specs.Prove.{Proof, prove}
+use Rattle.spv.specs.declared.climb.Halves.{Halves}
+use Rattle.spv.specs.declared.compare.Pair.{Pair as Strings}
+use Rattle.spv.specs.declared.depth.DepthPair.{DepthPair}
+use Rattle.spv.specs.Prove.{Proof}
 
 -- ---- halving
 
@@ -58,27 +56,23 @@ low-layer n j i b e = let z : 0 + n ≡ n = omega arith in subst (λ (m : ℕ). 
 
 -- ---- one layer of the longer proof beside the transaction
 
-abbrev both : Joined → List ℕ
-both r = r.left ++ r.right
+abbrev both : Halves → List ℕ
+both t = t.left ++ t.right
 
-module _ (ts : List (List ℕ)) (τ : Siblings) (e n i : ℕ) (c id : List ℕ) (r : Joined) (er : r ≡ joined_of (step (τ e (sibling_position i)) (odd i) c)) where
-  pub beside_none : is_joins r.kind ≡ false → depth_of (refused (carrying UNLIKE 0)) ≡ depth_of (lowest id ts (preimages_of (ascend τ e (suc n) i c)))
-  unfolding joined_of lowest_by preimages_of
-  beside_none f = go (step (τ e (sibling_position i)) (odd i) c) refl (ap (λ (x : Joined). is_joins x.kind) (sym er) ∙ f)
-    where
-      go : (x : Step) → step (τ e (sibling_position i)) (odd i) c ≡ x → is_joins (joined_of x).kind ≡ false → depth_of (refused (carrying UNLIKE 0)) ≡ depth_of (lowest id ts (preimages_of (ascend τ e (suc n) i c)))
-      go (joins l t) q g = let z : ◌≡◌ {A = ℕ} 0 1 = cc in absurd (omega arith)
-      go (fails number) q g = ap (λ (a : Ascent). depth_of (lowest id ts (preimages_of a))) (sym (ascend-fails τ e n i c number q))
+module _ (ts : List (List ℕ)) (τ : Siblings) (e n i : ℕ) (c id : List ℕ) where
+  pub beside_none : (number : ℕ) → fails number ≡ step (τ e (sibling_position i)) (odd i) c → depth_of (refused (carrying UNLIKE 0)) ≡ depth_of (lowest id ts (preimages_of (ascend τ e (suc n) i c)))
+  unfolding lowest_by preimages_of
+  beside_none number g = ap (λ (a : Ascent). depth_of (lowest id ts (preimages_of a))) (sym (ascend-fails τ e n i c number (sym g)))
 
-  module _ (f : is_joins r.kind ≡ true) where
-    beside-up : preimages_of (ascend τ e (suc n) i c) ≡ both r ∷ preimages_of (ascend τ (suc e) n (i / 2) (sha256d (both r)))
+  module _ (t : Halves) (g : joins t.left t.right ≡ step (τ e (sibling_position i)) (odd i) c) where
+    beside-up : preimages_of (ascend τ e (suc n) i c) ≡ both t ∷ preimages_of (ascend τ (suc e) n (i / 2) (sha256d (both t)))
     unfolding preimages_of
-    beside-up = ap preimages_of (ascend-joins τ e n i c r.left r.right (told-joins r (step (τ e (sibling_position i)) (odd i) c) er (is-joins r.kind f)))
+    beside-up = ap preimages_of (ascend-joins τ e n i c t.left t.right (sym g))
 
-    module _ (d : List ℕ) (ed : d ≡ sha256d (both r)) where
-      pub beside-here : same id d ≡ true → (u : List ℕ) → u ≡ both r
-          → ◌≡◌ {A = DepthCompared} (record { comparison = DepthComparison.Transaction; first = replicate 64 0; second = u }) (depth_of (lowest id ts (preimages_of (ascend τ e (suc n) i c))))
-      unfolding lowest_by depth_of
+    module _ (d : List ℕ) (ed : d ≡ sha256d (both t)) where
+      pub beside-here : same id d ≡ true → (u : List ℕ) → u ≡ both t
+          → ◌≡◌ {A = Answer DepthPair Rejection} (Ok (DepthPair.Transaction u)) (depth_of (lowest id ts (preimages_of (ascend τ e (suc n) i c))))
+      unfolding lowest_by
       beside-here s u eu = rw (eu, beside-up, ← ed, s)
 
       pub beside-above : same id d ≡ false → depth_of (pair_of (meet ts (preimages_of (ascend τ (e + 1) n (i / 2) d)))) ≡ depth_of (lowest id ts (preimages_of (ascend τ e (suc n) i c)))
@@ -178,9 +172,6 @@ module _ (s t : List ℕ) (x y : Claim) (rx ry id : List ℕ) where
         let k = and-true (ltb x.path.layers y.path.layers) _ (and-true (same rx ry) _ e).1 in
         (ltb-true _ _ k.0, eqb-true _ _ k.1)
 
-    pub claims_fewer : x.path.layers < y.path.layers
-    claims_fewer = fewer_and_half.0
-
     pub claims_lowest : same id x.id ≡ true
         → depth_of (lowest id (preimages_of (ascend (path_siblings s x.path) 0 x.path.layers (halved (y.path.layers - x.path.layers) y.position) x.id))
         (drop (y.path.layers - x.path.layers - 1) (preimages_of (ascend (path_siblings t y.path) 0 y.path.layers y.position y.id))))
@@ -201,14 +192,13 @@ module _ (s t : List ℕ) (x y : Claim) (rx ry id : List ℕ) where
 
 -- ---- what a meeting says
 
-module _ (r : Meeting) (m : Met) (e : r ≡ meeting_of m) where
-  pub pair_found : r.found ≡ true → ◌≡◌ {A = DepthCompared} (record { comparison = DepthComparison.Strings; first = r.first; second = r.second }) (depth_of (pair_of m))
-  unfolding pair_of depth_of
-  pair_found f = sym (ap (λ (x : Met). depth_of (pair_of x)) (told-met r m e f))
+pub pair_found : (m : Met) (p : Strings) → Some p ≡ meeting_of m → ◌≡◌ {A = Answer DepthPair Rejection} (Ok (DepthPair.Strings p)) (depth_of (pair_of m))
+unfolding pair_of
+pair_found m p e = sym (ap (λ (x : Met). depth_of (pair_of x)) (told-met m p e))
 
-  pub pair-none : r.found ≡ false → depth_of (refused (carrying UNLIKE 0)) ≡ depth_of (pair_of m)
-  unfolding pair_of
-  pair-none f = sym (ap (λ (x : Met). depth_of (pair_of x)) (told-never r m e f))
+pub pair-none : (m : Met) → None ≡ meeting_of m → depth_of (refused (carrying UNLIKE 0)) ≡ depth_of (pair_of m)
+unfolding pair_of
+pair-none m e = sym (ap (λ (x : Met). depth_of (pair_of x)) (told-never m e))
 
 -- ---- the transaction, then both proofs
 
@@ -230,14 +220,3 @@ module _ (m : List ℕ) (v w : Result Proof) where
   pub depth-both : (x y : Proof) → v ≡ accepted x → w ≡ accepted y → depth v w m ≡ after_reading (tx_whole m) (λ _. uneven (sha256d m) x y)
   unfolding depth_by
   depth-both x y e g = rw (e, g)
-
--- two claims that are proved
-pub depth_claims : (s t m : List ℕ) (x y : Claim) (p q : Proved) (i h j g : ℕ)
-    → p ≡ proved_of (prove (claimed s x)) → p.outcome ≡ Accepted i h → q ≡ proved_of (prove (claimed t y)) → q.outcome ≡ Accepted j g
-    → depth (prove (claimed s x)) (prove (claimed t y)) m ≡ after_reading (tx_whole m) (λ _. uneven (sha256d m) (claim_proof s x p.root) (claim_proof t y q.root))
-depth_claims s t m x y p q i h j g ep ap' eq aq' =
-    let u = told-accepted p (prove (claimed s x)) i h ep ap' in
-    let v = told-accepted q (prove (claimed t y)) j g eq aq' in
-    depth-both m (prove (claimed s x)) (prove (claimed t y)) u.0 v.0 u.1 v.1
-    ∙ ap₂ (λ (a b : Proof). after_reading (tx_whole m) (λ _. uneven (sha256d m) a b))
-    (claimed-proved s x u.0 u.1 ∙ ap (claim_proof s x) u.2) (claimed-proved t y v.0 v.1 ∙ ap (claim_proof t y) v.2)

@@ -9,7 +9,7 @@ use lib.Dec.{eqb}
 use native.Mathlib.Omega.{arith}
 use borrow.Author.Tests.{eqb-true, eqb-false, eq-eqb}
 use Rattle.format.specs.declared.leaf.Leaf.{Leaf}
-use Rattle.path.specs.declared.path.Found.TheVariants.{Here, Missing}
+use Rattle.std.specs.Prelude.{Some, None}
 use Rattle.format.specs.Parse.{pick}
 use Rattle.path.specs.Search.{lookup}
 use Rattle.spv.specs.Climb.{Sibling, value, copied, absent, Siblings, sibling_position}
@@ -90,12 +90,12 @@ below_all levels k q zero = omega arith
 below_all levels k q (suc n) = omega (arith, below_all levels k q n, count-all k q n (get_or levels n []))
 
 -- a leaf lies under its own node
-pub count-here : (k q : ℕ) (leaves : List Leaf) → (lookup q leaves ≡ Missing → ⊥) → 1 ≤ count_under k q k leaves
+pub count-here : (k q : ℕ) (leaves : List Leaf) → (lookup q leaves ≡ None → ⊥) → 1 ≤ count_under k q k leaves
 unfolding lookup count_under one lies_under
 count-here k q [] ne = absurd (ne refl)
 count-here k q (leaf ∷ leaves) ne = go (eqb leaf.offset q) refl ne (count-here k q leaves)
   where
-    go : (t : Bool) → eqb leaf.offset q ≡ t → (pick t (Here leaf.kind) (lookup q leaves) ≡ Missing → ⊥) → ((lookup q leaves ≡ Missing → ⊥) → 1 ≤ count_under k q k leaves)
+    go : (t : Bool) → eqb leaf.offset q ≡ t → (pick t (Some leaf.kind) (lookup q leaves) ≡ None → ⊥) → ((lookup q leaves ≡ None → ⊥) → 1 ≤ count_under k q k leaves)
         → 1 ≤ one (lies_under k q k leaf) + count_under k q k leaves
     go true e m ih =
         let z : k - k ≡ 0 = omega arith in

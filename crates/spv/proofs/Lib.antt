@@ -1,6 +1,6 @@
+pub mod ResultLaws
 pub mod Turns
 pub mod Traces
-pub mod Pairs
 pub mod Filled
 pub mod OddCopies
 pub mod CanBeHad

@@ -3,15 +3,14 @@ use Prim.Native.Nat.{ℕ, zero, suc, ◌+◌, ◌-◌, ◌*◌, ◌/◌, ◌%◌
 use mathlib.Core.Path.{◌≡◌, refl, sym, ap, ◌∙◌, subst}
 use mathlib.Core.Bool.{Bool, true, false}
 use mathlib.Core.List.{List}
-use lib.ListN.{length, get_or, set, replicate, length-set}
-use lib.Seq.{get_or-set_same, get_or-set_other}
+use lib.ListN.{length, get_or, replicate}
 use lib.Dec.{leb, ltb, eqb}
 use native.Mathlib.Omega.{arith}
 use native.Mathlib.Nat.{sub-zero}
 use borrow.Author.Tests.{leb-true, le-leb, eqb-true, eqb-false}
 use Rattle.format.specs.declared.level.Layout.{Layout}
 use Rattle.format.specs.declared.leaf.Leaf.{Leaf}
-use Rattle.path.specs.declared.path.Found.TheVariants.{Missing}
+use Rattle.std.specs.Prelude.{None}
 use Rattle.format.specs.Parse.{Parse, ok, fault, pick, otherwise}
 use Rattle.format.specs.Field.{varint}
 use Rattle.path.specs.Search.{seek, leaf_of_level}
@@ -63,19 +62,19 @@ module _ (layout : Layout) (s : List ℕ) where
   rises-end r at lo e = rw e
 
   -- what is lower than all of them is not there
-  pub rises-below : (n at lo q : ℕ) → rises layout s n at lo ≡ true → q < lo → seek layout q n s at ≡ Missing
+  pub rises-below : (n at lo q : ℕ) → rises layout s n at lo ≡ true → q < lo → seek layout q n s at ≡ None
   unfolding seek
   rises-below zero at lo q h b = refl
   rises-below (suc n) at lo q h b = go (unchecked_leaf layout s at) refl (λ next l g c. rises-below n next l q g c)
     where
-      go : (p : Parse Leaf) → unchecked_leaf layout s at ≡ p → ((next l : ℕ) → rises layout s n next l ≡ true → q < l → seek layout q n s next ≡ Missing) → seek layout q (suc n) s at ≡ Missing
+      go : (p : Parse Leaf) → unchecked_leaf layout s at ≡ p → ((next l : ℕ) → rises layout s n next l ≡ true → q < l → seek layout q n s next ≡ None) → seek layout q (suc n) s at ≡ None
       go (fault m x) e ih = seek_stop layout q s (suc n) at (omega arith) e
       go (ok leaf next) e ih =
           let r = rises-parts n at lo e h in
           seek_on layout q s (suc n) n at (omega arith) e (λ z. omega (arith, r.0)) ∙ ih next (leaf.offset + 1) r.1 (omega (arith, r.0))
 
   -- nor is what is lower than the next of them
-  pub past-rising : (r at q : ℕ) {leaf : Leaf} {next : ℕ} → 0 < r → unchecked_leaf layout s at ≡ ok leaf next → q < leaf.offset → rises layout s r at 0 ≡ true → seek layout q r s at ≡ Missing
+  pub past-rising : (r at q : ℕ) {leaf : Leaf} {next : ℕ} → 0 < r → unchecked_leaf layout s at ≡ ok leaf next → q < leaf.offset → rises layout s r at 0 ≡ true → seek layout q r s at ≡ None
   past-rising zero at q b e l h = absurd (omega arith)
   past-rising (suc r) at q {leaf} {next} b e l h =
       seek_on layout q s (suc r) r at (omega arith) e (λ z. omega arith) ∙ rises-below r next (leaf.offset + 1) q (rises-parts r at 0 e h).1 (omega arith)
@@ -187,7 +186,7 @@ module _ (layout : Layout) (s : List ℕ) (at i p : ℕ) (m : Mark layout s at i
   pub mark_finds : (q : ℕ) → MayStart layout s q i p → leaf_of_level layout s at q ≡ seek layout q (n - 64 * i) s p
   unfolding leaf_of_level MayStart
   mark_finds q h =
-      ap (λ (r : Parse ℕ). otherwise r Missing (λ n next. seek layout q n s next)) m.read
+      ap (λ (r : Parse ℕ). otherwise r None (λ n next. seek layout q n s next)) m.read
       ∙ go (eqb i 0) refl
       ∙ ap (λ (x : ℕ). seek layout q (m.count - 64 * i) s x) (sym m.place)
       ∙ ap (λ (c : ℕ). seek layout q (c - 64 * i) s p) mark-count
@@ -269,22 +268,6 @@ module _ (layout : Layout) (s places : List ℕ) where
 
   pub filling-start : (marks : List ℕ) → length marks ≡ 1024 → ((z : ℕ) → get_or marks z 0 ≡ 0) → Filling marks 0 0
   filling-start marks l h = record { long = l; each = λ z. mark-zero layout s places z (get_or marks z 0) (h z); last = λ n. absurd (n refl) }
-
-  pub filling-more : (marks : List ℕ) (before y r : ℕ) → y < 1024 → Filling marks before y → IsMark layout s places y r → Filling (set marks y r) r (y + 1)
-  filling-more marks before y r b v g =
-      record {
-        long = length-set marks y r ∙ v.long;
-        each = λ z. go z (eqb z y) refl;
-        last = λ n. let e : y ≡ y + 1 - 1 = omega arith in subst (λ (x : ℕ). IsMark layout s places x r) e g;
-      }
-    where
-      go : (z : ℕ) (t : Bool) → eqb z y ≡ t → IsMark layout s places z (get_or (set marks y r) z 0)
-      go z true e =
-          let q = eqb-true z y e in
-          subst (λ (x : ℕ). IsMark layout s places x (get_or (set marks y r) x 0)) (sym q) (subst (IsMark layout s places y) (sym (get_or-set_same marks y r 0 (let l = v.long in omega arith))) g)
-      go z false e =
-          let q = eqb-false z y e in
-          subst (IsMark layout s places z) (sym (get_or-set_other marks y z r 0 q)) (v.each z)
 
   pub filling-end : (marks : List ℕ) (before y : ℕ) → Filling marks before y → Marked layout s places marks
   filling-end marks before y v = record { long = v.long; each = v.each }

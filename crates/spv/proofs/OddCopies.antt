@@ -11,7 +11,7 @@ use Rattle.format.specs.declared.level.Layout.{Layout}
 use Rattle.format.specs.declared.leaf.Leaf.{Leaf}
 use Rattle.format.specs.declared.leaf.Kind.{Kind}
 use Rattle.format.specs.declared.leaf.Kind.TheVariants.{Plain, Copy, Client}
-use Rattle.path.specs.declared.path.Found.TheVariants.{Here}
+use Rattle.std.specs.Prelude.{Some}
 use Rattle.format.specs.Parse.{Parse, ok, pick, given, many, ◌passing◌else◌}
 use Rattle.format.proofs.ParseLaws.{each-ok, onward-told, passing_told, many-told}
 use Rattle.format.specs.Field.{bytes, byte, varint}
@@ -134,7 +134,7 @@ found-odd s q (leaf ∷ l) h e = go (eqb leaf.offset q) refl e (λ f. found-odd 
     here Copy i t f = rw (← (eqb-true leaf.offset q t)) (h.0 i)
     here (Client p) i t f = absurd (let z : ◌≡◌ {A = ℕ} 0 1 = cc in omega arith)
 
-    go : (t : Bool) → eqb leaf.offset q ≡ t → sibling s (pick t (Here leaf.kind) (lookup q l)) ≡ copied → (sibling s (lookup q l) ≡ copied → q % 2 ≡ 1) → q % 2 ≡ 1
+    go : (t : Bool) → eqb leaf.offset q ≡ t → sibling s (pick t (Some leaf.kind) (lookup q l)) ≡ copied → (sibling s (lookup q l) ≡ copied → q % 2 ≡ 1) → q % 2 ≡ 1
     go true t f r = here leaf.kind refl t f
     go false t f r = r f
 

@@ -13,8 +13,7 @@ use Rattle.format.specs.declared.leaf.Leaf.{Leaf}
 use Rattle.format.specs.declared.leaf.Kind.{Kind}
 use Rattle.format.specs.declared.leaf.Kind.TheVariants.{Plain, Copy, Client}
 use Rattle.path.specs.declared.path.Form.{Form}
-use Rattle.path.specs.declared.path.Start.{Start}
-use Rattle.path.specs.declared.path.Start.TheVariants.{At, Nowhere}
+use Rattle.std.specs.Prelude.{Option, Some, None}
 use Rattle.format.specs.Parse.{Parse, ok, many, ◌passing◌else◌}
 use Rattle.format.proofs.ParseLaws.{onward-told, passing_told, many-told, many-length}
 use Rattle.format.specs.Field.{varint}
@@ -142,13 +141,13 @@ carrier s id o (leaf ∷ l) e = go (eqb leaf.offset o) refl (carries s id leaf.k
     go true ex false ey f c = later (c f)
     go false ex y ey f c = later (c f)
 
-starting-told : (s id : List ℕ) (h n : ℕ) (levels : List (List Leaf)) (x : Start) → Below n (get_or levels 0 []) → Least s id (get_or levels 0 []) x → (p : Proof)
+starting-told : (s id : List ℕ) (h n : ℕ) (levels : List (List Leaf)) (x : Option ℕ) → Below n (get_or levels 0 []) → Least s id (get_or levels 0 []) x → (p : Proof)
     → prove (starting (level_siblings s levels) h id x) ≡ accepted p → (p.position < n) × (p.layers ≡ h)
 unfolding starting Least prove_by
-starting-told s id h n levels (At i) b l p e =
+starting-told s id h n levels (Some i) b l p e =
     let y = (prove-accepted (level_siblings s levels) h i id any p e).0 in
     (rw (ap (λ (q : Proof). q.position) y) ((carrier s id i (get_or levels 0 []) l.0).below n b), ap (λ (q : Proof). q.layers) y)
-starting-told s id h n levels Nowhere b l p e = let z : ◌≡◌ {A = ℕ} 0 1 = cc in absurd (omega arith)
+starting-told s id h n levels None b l p e = let z : ◌≡◌ {A = ℕ} 0 1 = cc in absurd (omega arith)
 
 -- an id that the levels prove
 pub levels-position : (s id : List ℕ) (h : ℕ) (levels : List (List Leaf)) → Below (2 ^ h) (get_or levels 0 []) → (p : Proof) → prove (levels_reading s h levels id) ≡ accepted p → p.position < 2 ^ p.layers

@@ -5,8 +5,7 @@ use mathlib.Core.List.{List, []}
 use lib.ListN.{length, get_or}
 use native.Mathlib.Omega.{arith}
 use Rattle.format.specs.declared.leaf.Leaf.{Leaf}
-use Rattle.path.specs.declared.path.Start.{Start}
-use Rattle.path.specs.declared.path.Start.TheVariants.{At, Nowhere}
+use Rattle.std.specs.Prelude.{Option, Some, None}
 use Rattle.path.specs.declared.path.Path.{Path}
 use Rattle.format.specs.Parse.{Parse, ok, fault}
 use Rattle.path.specs.Search.{least_offset}
@@ -41,10 +40,10 @@ read-proved (fault number place) f p e = let z : ◌≡◌ {A = ℕ} 0 1 = cc in
 pub prove-same : (σ τ : Siblings) (h i : ℕ) (c : List ℕ) (w : Target) → ((k q : ℕ) → k < h → σ k q ≡ τ k q) → prove (read σ h i c w) ≡ prove (read τ h i c w)
 prove-same σ τ h i c w f = prove_climb σ τ h i c w (ascend-same σ τ h f i c)
 
-starting-same : (σ τ : Siblings) (h : ℕ) (id : List ℕ) (x : Start) → ((k q : ℕ) → k < h → σ k q ≡ τ k q) → prove (starting σ h id x) ≡ prove (starting τ h id x)
+starting-same : (σ τ : Siblings) (h : ℕ) (id : List ℕ) (x : Option ℕ) → ((k q : ℕ) → k < h → σ k q ≡ τ k q) → prove (starting σ h id x) ≡ prove (starting τ h id x)
 unfolding starting
-starting-same σ τ h id (At i) f = prove-same σ τ h i id any f
-starting-same σ τ h id Nowhere f = refl
+starting-same σ τ h id (Some i) f = prove-same σ τ h i id any f
+starting-same σ τ h id None f = refl
 
 -- a path whose places lead to the levels proves what the levels prove
 pub path_proves : (s : List ℕ) (path : Path) (h : ℕ) (levels : List (List Leaf)) (id : List ℕ) → LeadsTo s path h levels
@@ -53,7 +52,7 @@ pub path_proves : (s : List ℕ) (path : Path) (h : ℕ) (levels : List (List Le
 unfolding path_reading levels_reading
 path_proves s path h levels id l e =
     ap (λ (n : ℕ). prove (starting (path_siblings s path) n id (start_in s path id))) l.layers
-    ∙ ap (λ (x : Start). prove (starting (path_siblings s path) h id x)) e
+    ∙ ap (λ (x : Option ℕ). prove (starting (path_siblings s path) h id x)) e
     ∙ starting-same (path_siblings s path) (level_siblings s levels) h id (least_offset s id (get_or levels 0 [])) (path_levels s path h levels l)
 
 pub bump-refused : (s id : List ℕ) (number place : ℕ) → bump_whole s ≡ fault number place → bump_reading s id ≡ unread (carrying number place)

@@ -9,8 +9,7 @@ use Rattle.format.specs.declared.leaf.Kind.{Kind}
 use Rattle.format.specs.declared.leaf.Kind.TheVariants.{Plain, Copy, Client}
 use Rattle.format.specs.declared.level.Layout.{Layout}
 use Rattle.format.specs.declared.leaf.Leaf.{Leaf}
-use Rattle.path.specs.declared.path.Found.{Found}
-use Rattle.path.specs.declared.path.Found.TheVariants.{Here, Missing}
+use Rattle.std.specs.Prelude.{Option, Some, None}
 use Rattle.path.specs.declared.path.Form.{Form}
 use Rattle.path.specs.declared.path.Path.{Path}
 use Rattle.path.specs.Search.{leaf_of_level}
@@ -29,10 +28,10 @@ written-whole s (Plain p) q e = let y : hash_at s p ≡ q = cc in ap length (sym
 written-whole s Copy q e = let z : ◌≡◌ {A = ℕ} 0 1 = cc in absurd (omega arith)
 written-whole s (Client p) q e = let y : hash_at s p ≡ q = cc in ap length (sym y) ∙ hash-at-length s p
 
-pub sibling-whole : (s : List ℕ) (found : Found) → Whole (sibling s found)
+pub sibling-whole : (s : List ℕ) (found : Option Kind) → Whole (sibling s found)
 unfolding Whole sibling
-sibling-whole s (Here kind) q e = written-whole s kind q e
-sibling-whole s Missing q e = let z : ◌≡◌ {A = ℕ} 0 1 = cc in absurd (omega arith)
+sibling-whole s (Some kind) q e = written-whole s kind q e
+sibling-whole s None q e = let z : ◌≡◌ {A = ℕ} 0 1 = cc in absurd (omega arith)
 
 pub level_siblings-whole : (s : List ℕ) (levels : List (List Leaf)) (k q : ℕ) → Whole (level_siblings s levels k q)
 unfolding level_siblings
@@ -45,12 +44,12 @@ value-here s (Plain p) copy join other = refl
 value-here s Copy copy join other = refl
 value-here s (Client p) copy join other = refl
 
-module _ (s : List ℕ) (find : ℕ → ℕ → Found) (copy : Sibling) (k q : ℕ) where
-  pub value_found : (kind : Kind) → find k q ≡ Here kind → value_of (written_by s find) copy k q ≡ value_by (written s kind) copy absent
+module _ (s : List ℕ) (find : ℕ → ℕ → Option Kind) (copy : Sibling) (k q : ℕ) where
+  pub value_found : (kind : Kind) → find k q ≡ Some kind → value_of (written_by s find) copy k q ≡ value_by (written s kind) copy absent
   unfolding value_of sibling
   value_found kind e = rw (value_of, e) (value-here s kind copy (join_of (written_by s find) k q) absent)
 
-  pub value-missing : find k q ≡ Missing → value_of (written_by s find) copy k q ≡ join_of (written_by s find) k q
+  pub value-missing : find k q ≡ None → value_of (written_by s find) copy k q ≡ join_of (written_by s find) k q
   unfolding value_of value_by sibling
   value-missing e = rw e
 
@@ -62,16 +61,16 @@ value_stays s Copy join = refl
 value_stays s (Client p) join = refl
 
 module _ (s : List ℕ) (path : Path) (k q : ℕ) where
-  pub path_here : (kind : Kind) → leaf_in s path k q ≡ Here kind → path_siblings s path k q ≡ written s kind
+  pub path_here : (kind : Kind) → leaf_in s path k q ≡ Some kind → path_siblings s path k q ≡ written s kind
   unfolding path_siblings sibling
   path_here kind e = rw (path_siblings, e) (value_stays s kind (path_join s path k q))
 
-  pub path_missing : leaf_in s path k q ≡ Missing → path_siblings s path k q ≡ path_join s path k q
+  pub path_missing : leaf_in s path k q ≡ None → path_siblings s path k q ≡ path_join s path k q
   unfolding path_siblings sibling value_by
   path_missing e = rw e
 
   -- a path that has a node for each layer
-  pub path_nodes : (nodes : List Kind) → leaf_in s path k q ≡ Here (get_or nodes k Copy) → path_siblings s path k q ≡ node_siblings s nodes k q
+  pub path_nodes : (nodes : List Kind) → leaf_in s path k q ≡ Some (get_or nodes k Copy) → path_siblings s path k q ≡ node_siblings s nodes k q
   unfolding node_siblings
   path_nodes nodes e = path_here (get_or nodes k Copy) e
 

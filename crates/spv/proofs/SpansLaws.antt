@@ -9,7 +9,7 @@ use lib.ListN.{length, take, drop}
 use lib.Seq.{paste, length-paste}
 use borrow.Author.Count.{below_more}
 use borrow.Author.Tests.{ltb-true, ltb-false}
-use Rattle.hash.specs.Sha256.{hashed}
+use Rattle.hash.specs.Sha256.{digest_or_zeros}
 use Rattle.format.specs.Bytes.{set_hash, hash_at}
 use Rattle.format.proofs.BytesLaws.{set-inside, set_outside}
 use Rattle.format.specs.Id.{span_hash}
@@ -35,7 +35,7 @@ module _ (s : List ℕ) (a b c d : Span) where
   part x = take (x.end - x.start) (drop x.start s)
 
   pub made_four : (four : Nodes) → Inside s a → Inside s b → Inside s c → Inside s d
-      → ((l : ℕ) → L.node l four ≡ (hashed (L.in_lane l (part a) (part b) (part c) (part d))).digest) → (l : ℕ) → L.node l four ≡ span_id s (L.in_lane l a b c d)
+      → ((l : ℕ) → L.node l four ≡ digest_or_zeros (L.in_lane l (part a) (part b) (part c) (part d))) → (l : ℕ) → L.node l four ≡ span_id s (L.in_lane l a b c d)
   unfolding L.in_lane span_id
   made_four four ia ib ic id e zero = e 0 ∙ sym (span-inside s a.start a.end ia.0 ia.1)
   made_four four ia ib ic id e (suc zero) = e 1 ∙ sym (span-inside s b.start b.end ib.0 ib.1)

@@ -7,8 +7,8 @@ use Rattle.hash.specs.Sha256.{sha256d}
 use Rattle.encoding.specs.Buffer.{Buffer, write_on}
 use Rattle.encoding.proofs.BufferLaws.{write-none, write_then}
 use Rattle.encoding.specs.BumpBytes.{carried_bytes}
-use Rattle.spv.specs.Climb.{Siblings, Ascent, joins, fails, step, odd, sibling_position, ascend, siblings_of}
-use Rattle.spv.proofs.ClimbLaws.{turn-joins, turn-fails, turn-none}
+use Rattle.spv.specs.Climb.{Siblings, Ascent, joins, step, odd, sibling_position, ascend, siblings_of}
+use Rattle.spv.proofs.ClimbLaws.{turn-joins, turn-none}
 use Rattle.spv.specs.Trace.{as_carried, nodes_text}
 use Rattle.spv.proofs.TraceLaws.{text-none, text-more}
 
@@ -29,10 +29,6 @@ module _ (σ : Siblings) (h i : ℕ) (id : List ℕ) (start : Buffer) where
     trailing_end b = sym (ap (λ (a : Ascent). write_on p (trail a)) (turn-none σ k k h j c b) ∙ ap (write_on p) text-none ∙ write-none p) ∙ v
 
     module _ (b : k < h) where
-      pub trailing_stop : (number : ℕ) → step (σ k (sibling_position j)) (odd j) c ≡ fails number → p ≡ write_on start (trail (ascend σ 0 h i id))
-      unfolding siblings_of
-      trailing_stop number e = sym (ap (λ (a : Ascent). write_on p (trail a)) (turn-fails σ k k h j c b number e) ∙ ap (write_on p) text-none ∙ write-none p) ∙ v
-
       pub trailing_up : (l r : List ℕ) → step (σ k (sibling_position j)) (odd j) c ≡ joins l r → (c' : List ℕ) → c' ≡ sha256d (l ++ r)
           → (q : Buffer) → q ≡ write_on p (carried_bytes (as_carried (σ k (sibling_position j)))) → Trailing (k + 1) (j / 2) c' q
       unfolding siblings_of

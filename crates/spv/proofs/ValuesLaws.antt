@@ -17,14 +17,6 @@ both_left (value p) r e = let z : ◌≡◌ {A = ℕ} 0 1 = cc in absurd (omega 
 both_left copied r e = refl
 both_left absent r e = refl
 
-pub both_right : (l r : Sibling) → has_value r ≡ false → join_both l r ≡ absent
-unfolding join_both has_value
-both_right (value l) (value p) e = let z : ◌≡◌ {A = ℕ} 0 1 = cc in absurd (omega arith)
-both_right (value l) copied e = refl
-both_right (value l) absent e = refl
-both_right copied r e = refl
-both_right absent r e = refl
-
 module _ (w : Siblings) where
   pub join-zero : (k q : ℕ) → k ≡ 0 → join_of w k q ≡ absent
   unfolding join_of

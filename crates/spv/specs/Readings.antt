@@ -1,9 +1,7 @@
 -- The proofs that each form gives, as its reading has them (01, "The climb", "Two climbs").
-use Rattle.std.specs.Prelude.{ℕ, List, [], length, get_or}
+use Rattle.std.specs.Prelude.{ℕ, List, [], length, get_or, Option, Some, None}
 use Rattle.format.specs.declared.leaf.Leaf.{Leaf}
 use Rattle.path.specs.declared.path.Form.{Form}
-use Rattle.path.specs.declared.path.Start.{Start}
-use Rattle.path.specs.declared.path.Start.TheVariants.{At, Nowhere}
 use Rattle.path.specs.declared.path.Path.{Path}
 use Rattle.format.specs.Parse.{Parse, ok, fault, whole}
 use Rattle.format.specs.Refusals.{NOT_LISTED, MAX_HEIGHT}
@@ -24,9 +22,9 @@ read_as (ok a next) f = f a
 read_as (fault number place) f = unread (carrying number place)
 
 -- an id starts at the level-0 leaf that carries it; if none does it is not listed
-unfoldable pub starting : Siblings → ℕ → List ℕ → Start → Reading
-starting σ h id (At i) = read σ h i id any
-starting σ h id Nowhere = unread (carrying NOT_LISTED 0)
+unfoldable pub starting : Siblings → ℕ → List ℕ → Option ℕ → Reading
+starting σ h id (Some i) = read σ h i id any
+starting σ h id None = unread (carrying NOT_LISTED 0)
 
 -- an id by the levels of a BUMP or CMP
 unfoldable pub levels_reading : List ℕ → ℕ → List (List Leaf) → List ℕ → Reading

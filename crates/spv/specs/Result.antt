@@ -1,6 +1,7 @@
 -- What a call comes to: accepted with a value, or refused.
-use Rattle.std.specs.Prelude.{ℕ}
+use Rattle.std.specs.Prelude.{ℕ, Result as Answer, Ok, Err}
 use Rattle.format.specs.Parse.{Parse, ok, fault}
+use Rattle.format.specs.Refusals.{refusal_number}
 use Rattle.format.specs.declared.refusal.ReadRefusal.{ReadRefusal}
 use Rattle.spv.specs.declared.rejection.Rejection.{Rejection}
 
@@ -18,7 +19,7 @@ at_sibling number k q = record { number = number; carried = 0; layer = k; siblin
 
 -- a refusal of reading carries its place
 abbrev pub refused_reading : ReadRefusal → Rejection
-refused_reading f = carrying f.number f.place
+refused_reading f = carrying (refusal_number f.refusal) f.place
 
 -- what was read, and what it comes to
 abbrev pub after_reading : {A B : Type 0} → Parse A → (A → Result B) → Result B
@@ -29,6 +30,11 @@ after_reading (fault number place) f = refused (carrying number place)
 abbrev pub follow : {A B : Type 0} → Result A → (A → Result B) → Result B
 follow (accepted a) f = f a
 follow (refused x) f = refused x
+
+-- the code's answer, with its own form of the value
+abbrev pub answer_of : {A B : Type 0} → (A → B) → Result A → Answer B Rejection
+answer_of f (accepted a) = Ok (f a)
+answer_of f (refused why) = Err why
 
 -- the same refusal of the n-th transaction of a bundle
 abbrev pub blaming : ℕ → Rejection → Rejection

@@ -1,87 +1,67 @@
--- What the code's answers say: each shape fixes every field, the arrays of refusals too (zeros).
-use Rattle.std.specs.Prelude.{ℕ, List, Bool, true, false, replicate}
-use Rattle.spv.specs.Result.{Result, accepted, refused}
+-- What the code's answers say.
+use Rattle.std.specs.Prelude.{ℕ, List, Option, Some, None, Result as Answer, Ok, Err}
+use Rattle.format.specs.declared.refusal.Refusal.{Refusal}
+use Rattle.format.specs.Refusals.{refusal_number}
+use Rattle.spv.specs.Result.{Result, answer_of}
 use Rattle.spv.specs.Climb.{Sibling, value, copied, absent, Step, joins, fails}
 use Rattle.spv.specs.Compare.{Met, meets, never, Strings}
 use Rattle.spv.specs.Siblings.{path_siblings}
 use Rattle.spv.specs.declared.rejection.Rejection.{Rejection}
-use Rattle.spv.specs.declared.prove.Status.{Status}
-use Rattle.spv.specs.declared.prove.Status.TheVariants.{Read, Unread}
 use Rattle.spv.specs.declared.prove.Claim.{Claim}
-use Rattle.spv.specs.declared.prove.Outcome.TheVariants.{Accepted, Refused}
 use Rattle.spv.specs.declared.prove.Proved.{Proved}
-use Rattle.spv.specs.declared.compare.Comparison.{Comparison}
-use Rattle.spv.specs.declared.compare.Compared.{Compared}
-use Rattle.spv.specs.declared.node.NodeKind.{NodeKind}
-use Rattle.spv.specs.declared.node.NodeKind.TheVariants.{Value, Copied, Absent}
+use Rattle.spv.specs.declared.compare.Pair.{Pair}
 use Rattle.spv.specs.declared.node.Node.{Node}
-use Rattle.spv.specs.declared.climb.StepKind.{StepKind}
-use Rattle.spv.specs.declared.climb.StepKind.TheVariants.{Joins, Fails}
-use Rattle.spv.specs.declared.climb.Joined.{Joined}
-use Rattle.spv.specs.declared.climb.End.TheVariants.{Root, Stop}
-use Rattle.spv.specs.declared.climb.Climbed.{Climbed}
-use Rattle.spv.specs.declared.compare.Meeting.{Meeting}
-use Rattle.spv.specs.Prove.{target_of, Reading, Proof, proof_of, unread, read}
+use Rattle.spv.specs.declared.node.Node.TheVariants.{Value, Copied, Absent}
+use Rattle.spv.specs.declared.climb.Halves.{Halves}
+use Rattle.spv.specs.Prove.{Target, any, bound, Reading, Proof, proof_of, unread, read}
 
 -- ---- the answers
 
-unfoldable pub accepted_of : ℕ → ℕ → List ℕ → List ℕ → Proved
-accepted_of position layers id root = record { outcome = Accepted position layers; id = id; root = root }
+abbrev pub accepted_of : ℕ → ℕ → List ℕ → List ℕ → Proved
+accepted_of position layers id root = record { position = position; layers = layers; id = id; root = root }
 
 -- the answer of proving: position and layers, id and root, or a refusal
-unfoldable pub proved_of : Result Proof → Proved
-proved_of (refused why) = record { outcome = Refused why; id = replicate 32 0; root = replicate 32 0 }
-proved_of (accepted p) = accepted_of p.position p.layers p.id p.root
+abbrev pub proved_of : Result Proof → Answer Proved Rejection
+proved_of = answer_of (λ p. accepted_of p.position p.layers p.id p.root)
 
-unfoldable pub refused_pair : Rejection → Compared
-refused_pair why = record { comparison = Comparison.Refused why; first = replicate 64 0; second = replicate 64 0 }
+abbrev pub paired : List ℕ → List ℕ → Pair
+paired t u = record { first = t; second = u }
 
 -- the answer of comparing: two strings, or a refusal
-unfoldable pub compared_of : Result Strings → Compared
-compared_of (refused why) = refused_pair why
-compared_of (accepted x) = record { comparison = Comparison.Pair; first = x.first; second = x.second }
+abbrev pub compared_of : Result Strings → Answer Pair Rejection
+compared_of = answer_of (λ x. paired x.first x.second)
+
+-- the answer of a climb: its root, or a refusal
+abbrev pub climbed_of : Result (List ℕ) → Answer (List ℕ) Rejection
+climbed_of = answer_of (λ root. root)
 
 -- ---- what the code holds on the way
 
-unfoldable pub node_of : Sibling → Node
-node_of (value p) = record { kind = Value; hash = p }
-node_of copied = record { kind = Copied; hash = replicate 32 0 }
-node_of absent = record { kind = Absent; hash = replicate 32 0 }
+abbrev pub sibling_of : Node → Sibling
+sibling_of (Value p) = value p
+sibling_of Copied = copied
+sibling_of Absent = absent
 
-unfoldable pub sibling_by : NodeKind → List ℕ → Sibling
-sibling_by Value p = value p
-sibling_by Copied p = copied
-sibling_by Absent p = absent
+abbrev pub step_of : Answer Halves Refusal → Step
+step_of (Ok h) = joins h.left h.right
+step_of (Err refusal) = fails (refusal_number refusal)
 
-unfoldable pub sibling_of : Node → Sibling
-sibling_of f = sibling_by f.kind f.hash
+abbrev pub meeting_of : Met → Option Pair
+meeting_of (meets t u) = Some (paired t u)
+meeting_of never = None
 
-unfoldable pub joined_of : Step → Joined
-joined_of (joins a b) = record { kind = Joins; left = a; right = b }
-joined_of (fails number) = record { kind = Fails number; left = replicate 32 0; right = replicate 32 0 }
+-- the root that a proof is bound to, if any
+abbrev pub bound_to : Option (List ℕ) → Target
+bound_to (Some root) = bound root
+bound_to None = any
 
-abbrev pub is_joins : StepKind → Bool
-is_joins Joins = true
-is_joins (Fails number) = false
-
-unfoldable pub climbed_of : Result (List ℕ) → Climbed
-climbed_of (accepted r) = record { end = Root; root = r }
-climbed_of (refused why) = record { end = Stop why; root = replicate 32 0 }
-
-unfoldable pub meeting_of : Met → Meeting
-meeting_of (meets t u) = record { found = true; first = t; second = u }
-meeting_of never = record { found = false; first = replicate 64 0; second = replicate 64 0 }
-
--- what a claim says if it was read
+-- what a claim says
 unfoldable pub opened : List ℕ → Claim → Reading
-opened s x = read (path_siblings s x.path) x.path.layers x.position x.id (target_of x.bound x.target)
+opened s x = read (path_siblings s x.path) x.path.layers x.position x.id (bound_to x.target)
 
-unfoldable pub claimed_by : Reading → Status → Reading
-claimed_by r Read = r
-claimed_by r (Unread why) = unread why
-
-unfoldable pub claimed : List ℕ → Claim → Reading
-claimed s x = claimed_by (opened s x) x.status
+abbrev pub claimed : List ℕ → Answer Claim Rejection → Reading
+claimed s (Ok x) = opened s x
+claimed s (Err why) = unread why
 
 -- a claim with its root
 unfoldable pub claim_proof : List ℕ → Claim → List ℕ → Proof

@@ -1,11 +1,9 @@
 -- What the forms give a climb: the leaf or node found, with its 32 bytes.
-use Rattle.std.specs.Prelude.{ℕ, List, [], get_or, ltb}
+use Rattle.std.specs.Prelude.{ℕ, List, [], get_or, ltb, Option, Some, None}
 use Rattle.format.specs.declared.leaf.Kind.{Kind}
 use Rattle.format.specs.declared.leaf.Kind.TheVariants.{Plain, Copy, Client}
 use Rattle.format.specs.declared.level.Layout.{Layout}
 use Rattle.format.specs.declared.leaf.Leaf.{Leaf}
-use Rattle.path.specs.declared.path.Found.{Found}
-use Rattle.path.specs.declared.path.Found.TheVariants.{Here, Missing}
 use Rattle.path.specs.declared.path.Form.{Form}
 use Rattle.path.specs.declared.path.Path.{Path}
 use Rattle.path.specs.Search.{lookup, leaf_of_level}
@@ -21,20 +19,20 @@ written s (Plain p) = value (hash_at s p)
 written s Copy = copied
 written s (Client p) = value (hash_at s p)
 
-unfoldable pub sibling : List ℕ → Found → Sibling
-sibling s (Here kind) = written s kind
-sibling s Missing = absent
+unfoldable pub sibling : List ℕ → Option Kind → Sibling
+sibling s (Some kind) = written s kind
+sibling s None = absent
 
 -- what a search by layer and position finds written
-abbrev pub written_by : List ℕ → (ℕ → ℕ → Found) → Siblings
+abbrev pub written_by : List ℕ → (ℕ → ℕ → Option Kind) → Siblings
 written_by s find k q = sibling s (find k q)
 
 -- the search among levels that were read
-abbrev pub find_in : List (List Leaf) → ℕ → ℕ → Found
+abbrev pub find_in : List (List Leaf) → ℕ → ℕ → Option Kind
 find_in levels k q = lookup q (get_or levels k [])
 
 -- the search in levels by their places
-abbrev pub find_at : Layout → List ℕ → List ℕ → ℕ → ℕ → Found
+abbrev pub find_at : Layout → List ℕ → List ℕ → ℕ → ℕ → Option Kind
 find_at layout s places k q = leaf_of_level layout s (get_or places k 0) q
 
 -- of the levels of a BUMP or CMP: the leaf at the layer and position, or what is worked out

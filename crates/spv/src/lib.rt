@@ -12,14 +12,11 @@ mod spans;
 mod trace;
 mod values;
 
-pub use climb::{Climbed, End, Joined, StepKind, climb_from, failed, fold, sibling_position};
-pub use compare::{Compared, Comparison, compare_proofs};
-pub use depth::{DepthCompared, DepthComparison, compare_depths};
-pub use node::{Node, NodeKind, absent_node, written_node};
-pub use prove::{
-    Outcome, Proved, Status, accepted, hits_target, prove_bump, prove_cmp, prove_in, prove_tsc,
-    refused_proof,
-};
+pub use climb::{Halves, climb_from, fold, parent_of, sibling_position};
+pub use compare::{Pair, compare_proofs};
+pub use depth::{DepthPair, compare_depths};
+pub use node::{Node, written_node};
+pub use prove::{Proved, hits_target, prove_bump, prove_cmp, prove_in, prove_tsc};
 pub use rejection::{Rejection, reject, reject_reading};
 pub use spans::{Span, set_four, span_hashes};
 pub use trace::{Traced, trace_bump};

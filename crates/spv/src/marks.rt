@@ -4,22 +4,22 @@ ghost use Rattle.path.specs.Search.{seek};
 ghost use Rattle.spv.specs.Siblings.{find_at};
 ghost use Rattle.spv.specs.Marks.{rises, after, narrowed, IsMark, Marked, MayStart};
 
-use format::{Cursor, Layout, Number};
-use path::{Found, LeafAnswer};
+use format::{Cursor, Kind, Layout};
+use path::LAYERS;
+
+// Sixteen marks for each level of a path.
+pub(crate) const MARKS: usize = 16 * LAYERS;
 
 // The place after so many leaves.
 fn place_after(s: &[u8], c: Cursor, layout: Layout, count: u64) -> Cursor
     ensures { result.at ≡ after layout s.now count c.at }
 {
     let mut next = c;
-    let mut i: u64 = 0;
-    while i < count {
-        let field = path::leaf_at(s, next, layout);
-        let LeafAnswer::Value(_, then) = field else {
+    for _ in 0..count {
+        let Ok((_, then)) = path::leaf_at(s, next, layout) else {
             return next;
         };
         next = then;
-        i += 1;
     }
     next
 }
@@ -30,69 +30,61 @@ fn rises_from(s: &[u8], c: Cursor, layout: Layout, count: u64) -> bool
 {
     let mut next = c;
     let mut low: u64 = 0;
-    let mut i: u64 = 0;
-    while i < count {
-        let field = path::leaf_at(s, next, layout);
-        let LeafAnswer::Value(leaf, then) = field else {
+    for _ in 0..count {
+        let Ok((leaf, then)) = path::leaf_at(s, next, layout) else {
             return true;
         };
-        let offset = leaf.offset;
-        if offset < low {
+        if leaf.offset < low || leaf.offset == u64::MAX {
             return false;
         }
-        if offset == 18446744073709551615 {
-            return false;
-        }
-        low = offset + 1;
+        low = leaf.offset + 1;
         next = then;
-        i += 1;
     }
     true
 }
 
 // The leaf at a position among so many whose offsets rise.
-fn seek_rising(s: &[u8], c: Cursor, layout: Layout, count: u64, position: u64) -> Found
+fn seek_rising(s: &[u8], c: Cursor, layout: Layout, count: u64, position: u64) -> Option<Kind>
     requires { rises layout s.now count c.at 0 ≡ true }
     ensures { result ≡ seek layout position count s.now c.at }
 {
     let mut next = c;
-    let mut i: u64 = 0;
-    while i < count {
-        let field = path::leaf_at(s, next, layout);
-        let LeafAnswer::Value(leaf, then) = field else {
-            return Found::Missing;
+    for _ in 0..count {
+        let Ok((leaf, then)) = path::leaf_at(s, next, layout) else {
+            return None;
         };
-        let offset = leaf.offset;
-        if offset == position {
-            let kind = leaf.kind;
-            return Found::Here(kind);
+        if leaf.offset == position {
+            return Some(leaf.kind);
         }
-        if position < offset {
-            return Found::Missing;
+        if position < leaf.offset {
+            return None;
         }
         next = then;
-        i += 1;
     }
-    Found::Missing
+    None
 }
 
 fn narrow(c: Cursor) -> u32
     ensures { result ≡ narrowed c.at }
 {
-    let at = c.at;
-    if at < 4294967296 { at as u32 } else { 0 }
+    u32::try_from(c.at).unwrap_or(0)
 }
 
 // Entry y of the marks, by the entry before it.
-pub(crate) fn mark_at(s: &[u8], places: &[usize], layout: Layout, before: u32, y: usize) -> u32
-    requires { (length places.now ≡ 64) × (y < 1024) × ((y % 16 ≡ 0 → ⊥) → IsMark layout s.now places.now (y - 1) before) }
+#[tactic(auto, unfolding(crate::specs::Marks::IsMark))]
+pub(crate) fn mark_at(
+    s: &[u8],
+    places: &[usize; LAYERS],
+    layout: Layout,
+    before: u32,
+    y: usize,
+) -> u32
+    requires { (y < 1024) × ((y % 16 ≡ 0 → ⊥) → IsMark layout s.now places.now (y - 1) before) }
     ensures { IsMark layout s.now places.now y result }
 {
-    let k = y / 16;
     let i = (y % 16) as u64;
-    let at = places[k];
-    let field = format::read_varint(s, Cursor { at });
-    let Number::Value(count, first) = field else {
+    let at = places[y / 16];
+    let Ok((count, first)) = format::read_varint(s, Cursor { at }) else {
         return 0;
     };
     if i == 0 {
@@ -112,39 +104,35 @@ pub(crate) fn mark_at(s: &[u8], places: &[usize], layout: Layout, before: u32, y
 }
 
 // The last mark of a level from which a position may be searched.
-fn last_mark(s: &[u8], marks: &[u32], layout: Layout, base: usize, position: u64) -> usize
-    requires { (length marks.now ≡ 1024) × (base + 16 ≤ 1024) × (get_or marks.now base 0 ≡ 0 → ⊥) }
+fn last_mark(s: &[u8], marks: &[u32; MARKS], layout: Layout, base: usize, position: u64) -> usize
+    requires { (base + 16 ≤ 1024) × (get_or marks.now base 0 ≡ 0 → ⊥) }
     ensures { (result < 16) × (get_or marks.now (base + result) 0 ≡ 0 → ⊥) × MayStart layout s.now position result (get_or marks.now (base + result) 0) }
 {
-    let mut i: usize = 0;
-    while i < 15 {
+    for i in 0..15 {
         let at = marks[base + i + 1] as usize;
         if at == 0 {
             return i;
         }
-        let field = path::leaf_at(s, Cursor { at }, layout);
-        let LeafAnswer::Value(leaf, _) = field else {
+        let Ok((leaf, _)) = path::leaf_at(s, Cursor { at }, layout) else {
             return i;
         };
-        let offset = leaf.offset;
-        if position < offset {
+        if position < leaf.offset {
             return i;
         }
-        i += 1;
     }
-    i
+    15
 }
 
 // What is written at a layer and position, by the marks if the level has any.
 pub(crate) fn find_marked(
     s: &[u8],
-    places: &[usize],
-    marks: &[u32],
+    places: &[usize; LAYERS],
+    marks: &[u32; MARKS],
     layout: Layout,
     layer: usize,
     position: u64,
-) -> Found
-    requires { (Marked layout s.now places.now marks.now) × (length places.now ≡ 64) × (layer < 64) }
+) -> Option<Kind>
+    requires { (Marked layout s.now places.now marks.now) × (layer < 64) }
     ensures { result ≡ find_at layout s.now places.now layer position }
 {
     let at = places[layer];
@@ -152,8 +140,7 @@ pub(crate) fn find_marked(
     if marks[base] == 0 {
         return path::find_in_level(s, Cursor { at }, layout, position);
     }
-    let field = format::read_varint(s, Cursor { at });
-    let Number::Value(count, _) = field else {
+    let Ok((count, _)) = format::read_varint(s, Cursor { at }) else {
         return path::find_in_level(s, Cursor { at }, layout, position);
     };
     let i = last_mark(s, marks, layout, base, position);

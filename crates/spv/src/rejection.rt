@@ -1,8 +1,9 @@
 // Refusals as calls answer them (specs/Result.antt).
 ghost use Rattle.std.specs.Prelude.{◌≡◌};
+ghost use Rattle.format.specs.Refusals.{refusal_number};
 ghost use Rattle.spv.specs.Result.{carrying, refused_reading};
 
-use format::ReadRefusal;
+use format::{ReadRefusal, Refusal};
 
 // A call's refusal: the number; what it carries, a place, a transaction's number or 0; for 14 and 15 the layer and the position there of the sibling that is
 // missing or a twin, 0 in both for all others.
@@ -15,11 +16,11 @@ pub struct Rejection {
 }
 
 // A refusal that blames no byte and no sibling.
-pub fn reject(number: u8) -> Rejection
-    ensures { result ≡ carrying number 0 }
+pub fn reject(refusal: Refusal) -> Rejection
+    ensures { result ≡ carrying (refusal_number refusal) 0 }
 {
     Rejection {
-        number,
+        number: refusal.number(),
         carried: 0,
         layer: 0,
         sibling: 0,
@@ -27,13 +28,21 @@ pub fn reject(number: u8) -> Rejection
 }
 
 // A refusal of reading.
-pub fn reject_reading(refusal: ReadRefusal) -> Rejection
-    ensures { result ≡ refused_reading refusal }
+pub fn reject_reading(read: ReadRefusal) -> Rejection
+    ensures { result ≡ refused_reading read }
 {
     Rejection {
-        number: refusal.number,
-        carried: refusal.place,
+        number: read.refusal.number(),
+        carried: read.place,
         layer: 0,
         sibling: 0,
+    }
+}
+
+impl From<ReadRefusal> for Rejection {
+    ghost from_gives = { λ read rejection. rejection ≡ refused_reading read };
+
+    fn from(read: ReadRefusal) -> Rejection {
+        reject_reading(read)
     }
 }

@@ -16,10 +16,7 @@ pub struct Span {
 fn fits(s: &[u8], x: Span) -> bool
     ensures { result ≡ true → Inside s.now x }
 {
-    if x.end < x.start {
-        return false;
-    }
-    x.end <= s.len()
+    x.start <= x.end && x.end <= s.len()
 }
 
 fn one_by_one(s: &[u8], a: Span, b: Span, c: Span, d: Span) -> Nodes
@@ -39,19 +36,11 @@ fn four_at_once(s: &[u8], a: Span, b: Span, c: Span, d: Span) -> Nodes
     requires inside_4 { Inside s.now d }
     ensures { (l : ℕ) → L.node l result ≡ span_id s.now (L.in_lane l a b c d) }
 {
-    let a_start = a.start;
-    let b_start = b.start;
-    let c_start = c.start;
-    let d_start = d.start;
-    let a_end = a.end;
-    let b_end = b.end;
-    let c_end = c.end;
-    let d_end = d.end;
     lanes::sha256d4(
-        &s[a_start..a_end],
-        &s[b_start..b_end],
-        &s[c_start..c_end],
-        &s[d_start..d_end],
+        &s[a.start..a.end],
+        &s[b.start..b.end],
+        &s[c.start..c.end],
+        &s[d.start..d.end],
     )
 }
 
@@ -59,14 +48,8 @@ fn four_at_once(s: &[u8], a: Span, b: Span, c: Span, d: Span) -> Nodes
 pub fn span_hashes(s: &[u8], a: Span, b: Span, c: Span, d: Span) -> Nodes
     ensures { (l : ℕ) → L.node l result ≡ span_id s.now (L.in_lane l a b c d) }
 {
-    if fits(s, a) {
-        if fits(s, b) {
-            if fits(s, c) {
-                if fits(s, d) {
-                    return four_at_once(s, a, b, c, d);
-                }
-            }
-        }
+    if fits(s, a) && fits(s, b) && fits(s, c) && fits(s, d) {
+        return four_at_once(s, a, b, c, d);
     }
     one_by_one(s, a, b, c, d)
 }

@@ -5,50 +5,38 @@ ghost use Rattle.spv.specs.Values.{has_value, value_by, join_both, join_of, valu
 ghost use Rattle.spv.specs.Siblings.{written, written_by, find_at, path_join};
 ghost use Rattle.spv.specs.Marks.{Marked};
 ghost use Rattle.spv.specs.PositionFits.{PositionFits};
-ghost use Rattle.spv.specs.Shapes.{node_of, sibling_of};
+ghost use Rattle.spv.specs.Shapes.{sibling_of};
 
-use super::marks::{find_marked, mark_at};
-use super::node::{Node, NodeKind, absent_node, value_at};
+use super::marks::{MARKS, find_marked, mark_at};
+use super::node::{Node, value_at};
 use format::{Kind, Layout};
-use path::{Form, Found, LAYERS, Path};
+use path::{Form, LAYERS, Path};
 
+#[tactic(auto, unfolding(crate::specs::Values::has_value))]
 pub fn has_value(node: Node) -> bool
     ensures { result ≡ has_value (sibling_of node) }
 {
-    let kind = node.kind;
-    match kind {
-        NodeKind::Value => true,
-        NodeKind::Copied => false,
-        NodeKind::Absent => false,
-    }
+    matches!(node, Node::Value(_))
 }
 
 // The join of two children that both have a value.
+#[tactic(auto, unfolding(crate::specs::Values::join_both))]
 pub fn join_both(l: Node, r: Node) -> Node
-    ensures { result ≡ node_of (join_both (sibling_of l) (sibling_of r)) }
+    ensures { sibling_of result ≡ join_both (sibling_of l) (sibling_of r) }
 {
-    if !has_value(l) {
-        return absent_node();
-    }
-    if !has_value(r) {
-        return absent_node();
-    }
-    let a = l.hash;
-    let b = r.hash;
-    let hash = hash::join(a, b);
-    Node {
-        kind: NodeKind::Value,
-        hash,
+    match (l, r) {
+        (Node::Value(a), Node::Value(b)) => Node::Value(hash::join(a, b)),
+        _ => Node::Absent,
     }
 }
 
 // The value of a leaf that is written, by the value that a copy there has.
+#[tactic(auto, unfolding(crate::specs::Values::value_by, crate::specs::Siblings::written))]
 fn value_here(s: &[u8], kind: Kind, copy: Node) -> Node
     ensures { sibling_of result ≡ value_by (written s.now kind) (sibling_of copy) absent }
 {
     match kind {
-        Kind::Plain(place) => value_at(s, place),
-        Kind::Client(place) => value_at(s, place),
+        Kind::Plain(place) | Kind::Client(place) => value_at(s, place),
         Kind::Copy => copy,
     }
 }
@@ -57,22 +45,29 @@ fn value_here(s: &[u8], kind: Kind, copy: Node) -> Node
 #[cycle(join_of_value_of)]
 fn join_of(
     s: &[u8],
-    places: &[usize],
-    marks: &[u32],
+    places: &[usize; LAYERS],
+    marks: &[u32; MARKS],
     layout: Layout,
     layer: usize,
     position: u64,
 ) -> Node
-    requires { (Marked layout s.now places.now marks.now) × (length places.now ≡ 64) × (layer ≤ 64) × (PositionFits layer position) }
+    requires { (Marked layout s.now places.now marks.now) × (layer ≤ 64) × (PositionFits layer position) }
     ensures { sibling_of result ≡ join_of (written_by s.now (find_at layout s.now places.now)) layer position }
 {
     if layer == 0 {
-        return absent_node();
+        return Node::Absent;
     }
-    let none = absent_node();
-    let l = value_of(s, places, marks, layout, layer - 1, 2 * position, none);
+    let l = value_of(
+        s,
+        places,
+        marks,
+        layout,
+        layer - 1,
+        2 * position,
+        Node::Absent,
+    );
     if !has_value(l) {
-        return absent_node();
+        return Node::Absent;
     }
     let r = value_of(s, places, marks, layout, layer - 1, 2 * position + 1, l);
     join_both(l, r)
@@ -82,20 +77,19 @@ fn join_of(
 #[cycle(join_of_value_of)]
 fn value_of(
     s: &[u8],
-    places: &[usize],
-    marks: &[u32],
+    places: &[usize; LAYERS],
+    marks: &[u32; MARKS],
     layout: Layout,
     layer: usize,
     position: u64,
     copy: Node,
 ) -> Node
-    requires { (Marked layout s.now places.now marks.now) × (length places.now ≡ 64) × (layer < 64) × (PositionFits layer position) }
+    requires { (Marked layout s.now places.now marks.now) × (layer < 64) × (PositionFits layer position) }
     ensures { sibling_of result ≡ value_of (written_by s.now (find_at layout s.now places.now)) (sibling_of copy) layer position }
 {
-    let found = find_marked(s, places, marks, layout, layer, position);
-    match found {
-        Found::Here(kind) => value_here(s, kind, copy),
-        Found::Missing => join_of(s, places, marks, layout, layer, position),
+    match find_marked(s, places, marks, layout, layer, position) {
+        Some(kind) => value_here(s, kind, copy),
+        None => join_of(s, places, marks, layout, layer, position),
     }
 }
 
@@ -105,14 +99,11 @@ fn join_at(s: &[u8], places: [usize; LAYERS], layout: Layout, layer: usize, posi
     requires { (layer ≤ 64) × (PositionFits layer position) }
     ensures { sibling_of result ≡ join_of (written_by s.now (find_at layout s.now places)) layer position }
 {
-    let mut marks = [0u32; 1024];
-    let end = 16 * layer;
+    let mut marks = [0u32; MARKS];
     let mut before: u32 = 0;
-    let mut y: usize = 0;
-    while y < end {
+    for y in 0..16 * layer {
         before = mark_at(s, &places, layout, before, y);
         marks[y] = before;
-        y += 1;
     }
     join_of(s, &places, &marks, layout, layer, position)
 }
@@ -123,16 +114,15 @@ pub(crate) fn join_in(s: &[u8], path: Path, layer: usize, position: u64) -> Node
     ensures { sibling_of result ≡ path_join s.now path layer position }
 {
     if path.layers <= layer {
-        return absent_node();
+        return Node::Absent;
     }
     if LAYERS <= layer {
-        return absent_node();
+        return Node::Absent;
     }
     let places = path.at;
-    let form = path.form;
-    match form {
+    match path.form {
         Form::Bump => join_at(s, places, Layout::Bump, layer, position),
         Form::Cmp => join_at(s, places, Layout::Cmp, layer, position),
-        Form::Tsc => absent_node(),
+        Form::Tsc => Node::Absent,
     }
 }

@@ -11,13 +11,15 @@ use lib.Dec.{leb, eqb}
 use borrow.Author.Tests.{le-leb, lt-leb}
 use Rattle.hash.specs.Sha256.{sha256d}
 use Rattle.format.specs.Parse.{Parse, pick, each, ended, whole, ok, fault}
-use Rattle.format.specs.Refusals.{TOO_LONG, SHORT, EXTRA, MAX_INPUT}
+use Rattle.format.specs.declared.refusal.ReadRefusal.{ReadRefusal}
+use Rattle.format.specs.Refusals.{refusal_number, TOO_LONG, SHORT, EXTRA, MAX_INPUT}
 use Rattle.format.specs.Transaction.{Transaction, tx_field, tx_whole}
 use Rattle.stream.specs.declared.progress.Progress.{Progress}
-use Rattle.stream.specs.declared.progress.Fed.{Fed}
+use Rattle.std.specs.Prelude.{Ok, Err}
+use Rattle.format.specs.declared.refusal.Refusal.{Refusal}
 use Rattle.stream.specs.declared.state.State.{State}
 use Rattle.stream.specs.Parts.{MAX_PARTS, too_long, reading, more, refused, received, part_says, end_says, Calls, came, closed, started, with_part, with_end, says}
-use Rattle.stream.specs.Progress.{is_end, first, taken, run}
+use Rattle.stream.specs.Progress.{refused_at, Fed, is_end, first, taken, run}
 use Rattle.stream.proofs.Rest.{Counts, counts_of, ending}
 use Rattle.stream.proofs.Run.{Fair, run_fair, run_append, run-refused, fed_says, fed_ends, part-told, end-told, reading-run, reading-told, reading-id}
 use Rattle.stream.specs.Lent.{answer_of, state_of, Keeps}
@@ -85,28 +87,27 @@ received_is size b {t} {q} e =
 
 -- "After a refusal .. the state repeats that answer to every call"
 module _ (size : ℕ) (b : List ℕ) {n q : ℕ} (e : says size (came b) ≡ refused n q) where
-  refused_by : (m : Fed) → run size (Fed.On first) b ≡ m → fed_says m ≡ refused n q → run size (Fed.On first) b ≡ Fed.Refused n q
-  refused_by (Fed.On f) h k = absurd (more-refused k)
+  refused_by : (m : Fed) → run size (Ok first) b ≡ m → fed_says m ≡ refused n q → (r : ReadRefusal) × (run size (Ok first) b ≡ Err r) × (refusal_number r.refusal ≡ n)
+  refused_by (Ok f) h k = absurd (more-refused k)
     where
       more-refused : {n q : ℕ} → more ≡ refused n q → ⊥
       more-refused k = let z : ◌≡◌ {A = ℕ} 0 1 = cc in omega arith
-  refused_by (Fed.Refused i j) h k =
-      let z : i ≡ n = cc in
-      let w : j ≡ q = cc in
-      h ∙ rw (z, w)
+  refused_by (Err r) h k = (r, h, cc)
 
-  stopped : run size (Fed.On first) b ≡ Fed.Refused n q
-  stopped = refused_by (run size (Fed.On first) b) refl (sym (part-told size b) ∙ e)
+  stopped : (r : ReadRefusal) × (run size (Ok first) b ≡ Err r) × (refusal_number r.refusal ≡ n)
+  stopped = refused_by (run size (Ok first) b) refl (sym (part-told size b) ∙ e)
 
   pub part_repeats : (p : List ℕ) → says size (with_part p (came b)) ≡ refused n q
-  part_repeats p = part-told size (b ++ p) ∙ ap fed_says (run_append size b p (Fed.On first) ∙ ap (λ (m : Fed). run size m p) stopped ∙ run-refused size p n q)
+  part_repeats p =
+      part-told size (b ++ p) ∙ ap fed_says (run_append size b p (Ok first) ∙ ap (λ (m : Fed). run size m p) stopped.1 ∙ run-refused size p stopped.0 ∙ sym stopped.1)
+      ∙ sym (part-told size b) ∙ e
 
   pub end_repeats : says size (with_end (came b)) ≡ refused n q
-  end_repeats = end-told size b ∙ ap (fed_ends (sha256d b)) stopped
+  end_repeats = end-told size b ∙ ap (fed_ends (sha256d b)) stopped.1 ∙ sym (ap fed_says stopped.1) ∙ sym (part-told size b) ∙ e
 
   -- "2 only at the end call"
   pub never_short : eqb n SHORT ≡ false
-  never_short = rw stopped at (run_fair size b (Fed.On first) 0 (refl, λ _. omega arith))
+  never_short = rw (stopped.1, stopped.2) at (run_fair size b (Ok first) 0 (refl, λ _. omega arith))
 
 -- "After .. the end call the state repeats that answer to every call"
 pub ended_repeats : (size : ℕ) (p b : List ℕ) → (says size (with_part p (closed b)) ≡ says size (closed b)) × (says size (with_end (closed b)) ≡ says size (closed b))
@@ -114,35 +115,35 @@ ended_repeats size p b = (refl, refl)
 
 -- ---- where 9 and 1 come
 
-going_told : (size : ℕ) (b : List ℕ) (m : Fed) → run size (Fed.On first) b ≡ m → says size (came b) ≡ more → (f : Progress) × (m ≡ Fed.On f) × (f.at ≡ length b)
-going_told size b (Fed.On f) h e =
-    let fair : Fair (Fed.On f) (0 + length b) = rw h at (run_fair size b (Fed.On first) 0 (refl, λ _. omega arith)) in
+going_told : (size : ℕ) (b : List ℕ) (m : Fed) → run size (Ok first) b ≡ m → says size (came b) ≡ more → (f : Progress) × (m ≡ Ok f) × (f.at ≡ length b)
+going_told size b (Ok f) h e =
+    let fair : Fair (Ok f) (0 + length b) = rw h at (run_fair size b (Ok first) 0 (refl, λ _. omega arith)) in
     (f, refl, fair.0 ∙ zero-add (length b))
-going_told size b (Fed.Refused n q) h e = absurd (let k = sym (part-told size b ∙ ap fed_says h) ∙ e in let z : ◌≡◌ {A = ℕ} 0 1 = cc in omega arith)
+going_told size b (Err r) h e = absurd (let k = sym (part-told size b ∙ ap fed_says h) ∙ e in let z : ◌≡◌ {A = ℕ} 0 1 = cc in omega arith)
 
-over_refused : (size : ℕ) (f : Progress) (x : ℕ) (p : List ℕ) → size ≤ f.at → run size (Fed.On f) (x ∷ p) ≡ Fed.Refused TOO_LONG 0
+over_refused : (size : ℕ) (f : Progress) (x : ℕ) (p : List ℕ) → size ≤ f.at → run size (Ok f) (x ∷ p) ≡ refused_at Refusal.TooLong 0
 unfolding run taken
-over_refused size f x p h = rw (le-leb size f.at h) (run-refused size p TOO_LONG 0)
+over_refused size f x p h = rw (le-leb size f.at h) (run-refused size p _)
 
-extra_refused : (size : ℕ) (f : Progress) (x : ℕ) (p : List ℕ) → f.at < size → is_end f.stage ≡ true → run size (Fed.On f) (x ∷ p) ≡ Fed.Refused EXTRA f.at
+extra_refused : (size : ℕ) (f : Progress) (x : ℕ) (p : List ℕ) → f.at < size → is_end f.stage ≡ true → run size (Ok f) (x ∷ p) ≡ refused_at Refusal.Extra f.at
 unfolding run taken
-extra_refused size f x p h t = rw (lt-leb size f.at h, t) (run-refused size p EXTRA f.at)
+extra_refused size f x p h t = rw (lt-leb size f.at h, t) (run-refused size p _)
 
 -- "1, carrying 0, once a byte past the size comes and the bytes before it show no fault, ahead of 9 at that byte"
 pub one_comes : (size : ℕ) (b p : List ℕ) (x : ℕ) → length b ≡ size → says size (came b) ≡ more → says size (with_part (x ∷ p) (came b)) ≡ refused TOO_LONG 0
 one_comes size b p x l e =
-    let g = going_told size b (run size (Fed.On first) b) refl e in
+    let g = going_told size b (run size (Ok first) b) refl e in
     let a = g.2 in
-    part-told size (b ++ x ∷ p) ∙ ap fed_says (run_append size b (x ∷ p) (Fed.On first) ∙ ap (λ (m : Fed). run size m (x ∷ p)) g.1 ∙ over_refused size g.0 x p (omega arith))
+    part-told size (b ++ x ∷ p) ∙ ap fed_says (run_append size b (x ∷ p) (Ok first) ∙ ap (λ (m : Fed). run size m (x ∷ p)) g.1 ∙ over_refused size g.0 x p (omega arith))
 
 -- "9 for a byte after the lock time"
 pub nine_comes : (size : ℕ) (b p : List ℕ) (x : ℕ) {t : Transaction} {q : ℕ} → reading size b ≡ ok t q → length b < size → says size (with_part (x ∷ p) (came b)) ≡ refused EXTRA (length b)
 unfolding each
 nine_comes size b p x {t} {q} r l =
-    let g = going_told size b (run size (Fed.On first) b) refl (ap part_says r) in
+    let g = going_told size b (run size (Ok first) b) refl (ap part_says r) in
     let a = g.2 in
-    let k : ending (Fed.On g.0) ≡ ok (counts_of t) q = ap ending (sym g.1) ∙ sym (reading-run size b) ∙ ap (each counts_of) r in
-    part-told size (b ++ x ∷ p) ∙ ap fed_says (run_append size b (x ∷ p) (Fed.On first) ∙ ap (λ (m : Fed). run size m (x ∷ p)) g.1
+    let k : ending (Ok g.0) ≡ ok (counts_of t) q = ap ending (sym g.1) ∙ sym (reading-run size b) ∙ ap (each counts_of) r in
+    part-told size (b ++ x ∷ p) ∙ ap fed_says (run_append size b (x ∷ p) (Ok first) ∙ ap (λ (m : Fed). run size m (x ∷ p)) g.1
     ∙ extra_refused size g.0 x p (omega arith) (at-end g.0 (is_end g.0.stage) refl k)) ∙ ap (refused EXTRA) a
   where
     at-end : (f : Progress) (v : Bool) → is_end f.stage ≡ v → ◌≡◌ {A = Parse Counts} (pick (is_end f.stage) (ok (record { size = f.at; inputs = f.inputs; outputs = f.outputs }) f.at) (fault SHORT f.start)) (ok (counts_of t) q) → is_end f.stage ≡ true

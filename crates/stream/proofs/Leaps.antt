@@ -11,10 +11,11 @@ use lib.Dec.{leb}
 use borrow.Author.Tests.{lt-leb, le-leb, leb-true, leb-false}
 use Rattle.format.specs.Parse.{pick}
 use Rattle.stream.proofs.Run.{run-refused}
+use Rattle.format.specs.declared.refusal.ReadRefusal.{ReadRefusal}
 use Rattle.stream.specs.declared.progress.Stage.{Stage}
 use Rattle.stream.specs.declared.progress.Progress.{Progress}
-use Rattle.stream.specs.declared.progress.Fed.{Fed}
-use Rattle.stream.specs.Progress.{is_number, is_end, next_at, next, moved, passed, taken, feed, run, Leaps, stage_number, stage_of}
+use Rattle.std.specs.Prelude.{Ok, Err}
+use Rattle.stream.specs.Progress.{Fed, is_number, is_end, next_at, next, moved, passed, taken, feed, run, Leaps, stage_number, stage_of}
 
 pub leap_one : (size : ℕ) (f : Progress) → Leaps size f 1
 unfolding run
@@ -36,11 +37,11 @@ unfolding passed moved
 passed-again f j h = rw (moved-again f j) (go (leb f.need (j + 1)) refl)
   where
     go : (t : Bool) → leb f.need (j + 1) ≡ t
-        → pick (leb (f.need - j) 1) (next (moved f (j + 1)) 0) (Fed.On (moved f (j + 1))) ≡ pick t (next (moved f (j + 1)) 0) (Fed.On (moved f (j + 1)))
+        → pick (leb (f.need - j) 1) (next (moved f (j + 1)) 0) (Ok (moved f (j + 1))) ≡ pick t (next (moved f (j + 1)) 0) (Ok (moved f (j + 1)))
     go true e = let g = leb-true f.need (j + 1) e in rw (le-leb (f.need - j) 1 (omega arith))
     go false e = let g = leb-false f.need (j + 1) e in rw (lt-leb (f.need - j) 1 (omega arith))
 
-passed_less : (f : Progress) (j : ℕ) → j < f.need → passed f j ≡ Fed.On (moved f j)
+passed_less : (f : Progress) (j : ℕ) → j < f.need → passed f j ≡ Ok (moved f j)
 unfolding passed
 passed_less f j h = rw (lt-leb f.need j h)
 
@@ -67,24 +68,24 @@ module _ (size : ℕ) (f : Progress) (e : is_end f.stage ≡ false) (n : is_numb
 
 -- one turn of the bytes from place i on
 pub leap_turn : (size : ℕ) (f : Progress) (part : List ℕ) (i k : ℕ) → Leaps size f k → i + k ≤ length part → i < length part
-    → run size (Fed.On f) (drop i part) ≡ run size (taken size f (get_or part i 0) k) (drop (i + k) part)
+    → run size (Ok f) (drop i part) ≡ run size (taken size f (get_or part i 0) k) (drop (i + k) part)
 leap_turn size f part i k leaps h l =
     let e = drop-cons part i 0 l in
     let n : length (drop (suc i) part) ≡ length part - suc i = length-drop (suc i) part in
     let d : drop k (get_or part i 0 ∷ drop (suc i) part) ≡ drop (i + k) part = ap (drop k) (sym e) ∙ drop-drop k i part in
-    ap (run size (Fed.On f)) e ∙ leaps (get_or part i 0) (drop (suc i) part) (omega arith) ∙ ap (run size (taken size f (get_or part i 0) k)) d
+    ap (run size (Ok f)) e ∙ leaps (get_or part i 0) (drop (suc i) part) (omega arith) ∙ ap (run size (taken size f (get_or part i 0) k)) d
 
-pub walk_turn : (size : ℕ) (f g : Progress) (part : List ℕ) (i k : ℕ) {x : ℕ} {m : Fed} → run size (Fed.On f) part ≡ run size (Fed.On g) (drop i part) → Leaps size g k
-    → i + k ≤ length part → i < length part → x ≡ get_or part i 0 → m ≡ taken size g x k → run size (Fed.On f) part ≡ run size m (drop (i + k) part)
+pub walk_turn : (size : ℕ) (f g : Progress) (part : List ℕ) (i k : ℕ) {x : ℕ} {m : Fed} → run size (Ok f) part ≡ run size (Ok g) (drop i part) → Leaps size g k
+    → i + k ≤ length part → i < length part → x ≡ get_or part i 0 → m ≡ taken size g x k → run size (Ok f) part ≡ run size m (drop (i + k) part)
 walk_turn size f g part i k inv leaps h l ex em =
     inv ∙ leap_turn size g part i k leaps h l ∙ sym (ap (λ (z : Fed). run size z (drop (i + k) part)) (em ∙ ap (λ (y : ℕ). taken size g y k) ex))
 
-pub walk_stops : (size : ℕ) (f : Progress) (part l : List ℕ) {m : Fed} {n q : ℕ} → run size (Fed.On f) part ≡ run size m l → m ≡ Fed.Refused n q → m ≡ run size (Fed.On f) part
-walk_stops size f part l {n = n} {q = q} e told = told ∙ sym (e ∙ ap (λ (z : Fed). run size z l) told ∙ run-refused size l n q)
+pub walk_stops : (size : ℕ) (f : Progress) (part l : List ℕ) {m r : Fed} {e : ReadRefusal} → run size (Ok f) part ≡ run size m l → m ≡ Err e → r ≡ Err e → r ≡ run size (Ok f) part
+walk_stops size f part l {e = e} inv told is = is ∙ sym (inv ∙ ap (λ (z : Fed). run size z l) told ∙ run-refused size l e)
 
-pub walk_ends : (size : ℕ) (f g : Progress) (part : List ℕ) (i : ℕ) → length part ≤ i → run size (Fed.On f) part ≡ run size (Fed.On g) (drop i part) → Fed.On g ≡ run size (Fed.On f) part
+pub walk_ends : (size : ℕ) (f g : Progress) (part : List ℕ) (i : ℕ) → length part ≤ i → run size (Ok f) part ≡ run size (Ok g) (drop i part) → Ok g ≡ run size (Ok f) part
 unfolding run
-walk_ends size f g part i h e = sym (e ∙ ap (run size (Fed.On g)) (drop_of_length-le part h))
+walk_ends size f g part i h e = sym (e ∙ ap (run size (Ok g)) (drop_of_length-le part h))
 
 -- the stage that is met decides what comes next
 pub next-at : (f : Progress) (v : ℕ) (s : Stage) → f.stage ≡ s → next_at s f v ≡ next f v

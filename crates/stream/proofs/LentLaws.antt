@@ -9,14 +9,15 @@ use lib.ListN.{length}
 use Rattle.hash.specs.Sha256.{sha256d}
 use Rattle.format.specs.Parse.{Parse, ok, fault}
 use Rattle.format.proofs.ParseLaws.{each-ok}
-use Rattle.format.specs.Refusals.{SHORT}
+use Rattle.format.specs.declared.refusal.ReadRefusal.{ReadRefusal}
+use Rattle.format.specs.Refusals.{refusal_number, SHORT}
 use Rattle.format.specs.Transaction.{Transaction}
 use Rattle.stream.specs.declared.progress.Progress.{Progress}
-use Rattle.stream.specs.declared.progress.Fed.{Fed}
+use Rattle.std.specs.Prelude.{Ok, Err}
 use Rattle.stream.specs.declared.hashing.Hashing.{Hashing}
 use Rattle.stream.specs.declared.state.State.{State}
 use Rattle.stream.specs.Parts.{MAX_PARTS, Said, refused, received, Calls, came, closed, with_part, with_end, says, reading, end_says}
-use Rattle.stream.specs.Progress.{is_end, first, run}
+use Rattle.stream.specs.Progress.{Fed, is_end, first, run}
 use Rattle.stream.proofs.Rest.{counts_of, ending}
 use Rattle.stream.proofs.Run.{Fair, run_fair, run_append, run-refused, fed_says, fed_ends, part-told, end-told, reading-run, reading-told}
 use Rattle.stream.proofs.Leaps.{stage_back}
@@ -25,7 +26,7 @@ use Rattle.stream.specs.Lent.{answer_of, resting, open_state, progress_of, hashi
 
 -- the bytes so far, one by one
 abbrev pub fed_by : List ℕ → Fed
-fed_by b = run MAX_PARTS (Fed.On first) b
+fed_by b = run MAX_PARTS (Ok first) b
 
 answered_end : (b : List ℕ) (p : Parse Transaction) → (answer_of (end_says b p)).answered ≡ 0 → ⊥
 unfolding answer_of
@@ -39,8 +40,8 @@ came-fed b e = ap (fed_state (hashing_of b)) e
 -- the answer is in the state
 fed_answer : (h : Hashing) (m : Fed) → (fed_state h m).answer ≡ answer_of (fed_says m)
 unfolding open_state resting
-fed_answer h (Fed.On f) = refl
-fed_answer h (Fed.Refused n q) = refl
+fed_answer h (Ok f) = refl
+fed_answer h (Err r) = refl
 
 pub answer_in : (c : Calls) → (state_of c).answer ≡ answer_of (says MAX_PARTS c)
 unfolding state_of resting
@@ -49,19 +50,19 @@ answer_in (closed b) = refl
 
 -- with a part more
 more-fed : (b p : List ℕ) {m : Fed} → fed_by b ≡ m → fed_by (b ++ p) ≡ run MAX_PARTS m p
-more-fed b p e = run_append MAX_PARTS b p (Fed.On first) ∙ ap (λ (m : Fed). run MAX_PARTS m p) e
+more-fed b p e = run_append MAX_PARTS b p (Ok first) ∙ ap (λ (m : Fed). run MAX_PARTS m p) e
 
 -- ---- a state that has its answer
 
 part-rests : (b p : List ℕ) (m : Fed) → fed_by b ≡ m → ((state_of (came b)).answer.answered ≡ 0 → ⊥) → state_of (came b) ≡ state_of (came (b ++ p))
 unfolding open_state resting answer_of
-part-rests b p (Fed.On f) e h = absurd (h (ap (λ (s : State). s.answer.answered) (came-fed b e)))
-part-rests b p (Fed.Refused n q) e h = came-fed b e ∙ sym (came-fed (b ++ p) (more-fed b p e ∙ run-refused MAX_PARTS p n q))
+part-rests b p (Ok f) e h = absurd (h (ap (λ (s : State). s.answer.answered) (came-fed b e)))
+part-rests b p (Err r) e h = came-fed b e ∙ sym (came-fed (b ++ p) (more-fed b p e ∙ run-refused MAX_PARTS p r))
 
 end-rests : (b : List ℕ) (m : Fed) → fed_by b ≡ m → ((state_of (came b)).answer.answered ≡ 0 → ⊥) → state_of (came b) ≡ state_of (closed b)
 unfolding open_state resting answer_of state_of
-end-rests b (Fed.On f) e h = absurd (h (ap (λ (s : State). s.answer.answered) (came-fed b e)))
-end-rests b (Fed.Refused n q) e h = came-fed b e ∙ sym (ap (λ (x : Said). resting (answer_of x)) (end-told MAX_PARTS b ∙ ap (fed_ends (sha256d b)) e))
+end-rests b (Ok f) e h = absurd (h (ap (λ (s : State). s.answer.answered) (came-fed b e)))
+end-rests b (Err r) e h = came-fed b e ∙ sym (ap (λ (x : Said). resting (answer_of x)) (end-told MAX_PARTS b ∙ ap (fed_ends (sha256d b)) e))
 
 pub part-done : (st : State) (p : List ℕ) → (st.answer.answered ≡ 0 → ⊥) → Keeps (with_part p) st st
 part-done st p h (came b) e = e ∙ part-rests b p (fed_by b) refl (λ z. h (ap (λ (s : State). s.answer.answered) e ∙ z))
@@ -85,7 +86,7 @@ closed_answered b e = answered_end b (reading MAX_PARTS b) e
 -- what is in it
 pub record Going (st : State) (b : List ℕ) : Type 0 where
   pub progress : Progress
-  pub fed : fed_by b ≡ Fed.On progress
+  pub fed : fed_by b ≡ Ok progress
   pub progress_is : progress_of st ≡ progress
   pub hashing_is : hashing_in st ≡ hashing_of b
   pub length-is : st.length ≡ length b
@@ -93,11 +94,11 @@ pub record Going (st : State) (b : List ℕ) : Type 0 where
 
 going : (st : State) (b : List ℕ) → st ≡ state_of (came b) → (m : Fed) → fed_by b ≡ m → st.answer.answered ≡ 0 → Going st b
 unfolding open_state resting answer_of progress_of hashing_in
-going st b e (Fed.Refused n q) fed h =
+going st b e (Err r) fed h =
     absurd (let z : ◌≡◌ {A = ℕ} 0 1 = sym h ∙ ap (λ (s : State). s.answer.answered) (e ∙ came-fed b fed) in omega arith)
-going st b e (Fed.On f) fed h =
+going st b e (Ok f) fed h =
     let is : st ≡ open_state (hashing_of b) f = e ∙ came-fed b fed in
-    let fair : Fair (Fed.On f) (0 + length b) = rw fed at (run_fair MAX_PARTS b (Fed.On first) 0 (refl, λ _. omega arith)) in
+    let fair : Fair (Ok f) (0 + length b) = rw fed at (run_fair MAX_PARTS b (Ok first) 0 (refl, λ _. omega arith)) in
     let at : f.at ≡ length b = fair.0 ∙ zero-add (length b) in
     record {
       progress = f;
@@ -109,20 +110,20 @@ going st b e (Fed.On f) fed h =
     }
 
 module _ (st : State) (zero : st.answer.answered ≡ 0) where
-  pub part-refused : (p : List ℕ) {m : Fed} {n q : ℕ} → m ≡ run MAX_PARTS (Fed.On (progress_of st)) p → m ≡ Fed.Refused n q
-      → Keeps (with_part p) st (resting (answer_of (refused n q)))
+  pub part-refused : (p : List ℕ) {m : Fed} {r : ReadRefusal} → m ≡ run MAX_PARTS (Ok (progress_of st)) p → m ≡ Err r
+      → Keeps (with_part p) st (resting (answer_of (refused (refusal_number r.refusal) r.place)))
   part-refused p em told (closed b) e = absurd (closed_answered b (sym (ap (λ (s : State). s.answer.answered) e) ∙ zero))
-  part-refused p {m} {n} {q} em told (came b) e =
+  part-refused p {m} {r} em told (came b) e =
       let g = going st b e (fed_by b) refl zero in
-      let k : fed_by (b ++ p) ≡ Fed.Refused n q = more-fed b p g.fed ∙ ap (λ (x : Progress). run MAX_PARTS (Fed.On x) p) (sym g.progress_is) ∙ sym em ∙ told in
+      let k : fed_by (b ++ p) ≡ Err r = more-fed b p g.fed ∙ ap (λ (x : Progress). run MAX_PARTS (Ok x) p) (sym g.progress_is) ∙ sym em ∙ told in
       sym (came-fed (b ++ p) k)
 
-  pub part-more : (p : List ℕ) {m : Fed} {f : Progress} {h : Hashing} → m ≡ run MAX_PARTS (Fed.On (progress_of st)) p → m ≡ Fed.On f → Absorbs (hashing_in st) st.length p h
+  pub part-more : (p : List ℕ) {m : Fed} {f : Progress} {h : Hashing} → m ≡ run MAX_PARTS (Ok (progress_of st)) p → m ≡ Ok f → Absorbs (hashing_in st) st.length p h
       → Keeps (with_part p) st (open_state h f)
   part-more p em told absorbs (closed b) e = absurd (closed_answered b (sym (ap (λ (s : State). s.answer.answered) e) ∙ zero))
   part-more p {m} {f} {h} em told absorbs (came b) e =
       let g = going st b e (fed_by b) refl zero in
-      let k : fed_by (b ++ p) ≡ Fed.On f = more-fed b p g.fed ∙ ap (λ (x : Progress). run MAX_PARTS (Fed.On x) p) (sym g.progress_is) ∙ sym em ∙ told in
+      let k : fed_by (b ++ p) ≡ Ok f = more-fed b p g.fed ∙ ap (λ (x : Progress). run MAX_PARTS (Ok x) p) (sym g.progress_is) ∙ sym em ∙ told in
       ap (λ (x : Hashing). open_state x f) (absorbs b g.hashing_is g.length-is) ∙ sym (came-fed (b ++ p) k)
 
   -- the end call
@@ -130,18 +131,18 @@ module _ (st : State) (zero : st.answer.answered ≡ 0) where
   unfolding state_of
   closed-told b {a} k = ap (λ (x : Said). resting (answer_of x)) (sym (end-told MAX_PARTS b ∙ k))
 
-  few : (b : List ℕ) (f : Progress) → fed_by b ≡ Fed.On f → is_end f.stage ≡ true → length b ≤ MAX_PARTS
+  few : (b : List ℕ) (f : Progress) → fed_by b ≡ Ok f → is_end f.stage ≡ true → length b ≤ MAX_PARTS
   few b f e t =
       let c = reading-run MAX_PARTS b ∙ ap ending e ∙ ended t in
       (reading-told MAX_PARTS b (each-ok counts_of (reading MAX_PARTS b) c).1).0
     where
-      ended : is_end f.stage ≡ true → ending (Fed.On f) ≡ ok (record { size = f.at; inputs = f.inputs; outputs = f.outputs }) f.at
+      ended : is_end f.stage ≡ true → ending (Ok f) ≡ ok (record { size = f.at; inputs = f.inputs; outputs = f.outputs }) f.at
       ended t = rw t
 
-  fed_short : (id : List ℕ) (f : Progress) → is_end f.stage ≡ false → fed_ends id (Fed.On f) ≡ refused SHORT f.start
+  fed_short : (id : List ℕ) (f : Progress) → is_end f.stage ≡ false → fed_ends id (Ok f) ≡ refused SHORT f.start
   fed_short id f t = rw t
 
-  fed-whole : (id : List ℕ) (f : Progress) → is_end f.stage ≡ true → fed_ends id (Fed.On f) ≡ received f.at f.inputs f.outputs id
+  fed-whole : (id : List ℕ) (f : Progress) → is_end f.stage ≡ true → fed_ends id (Ok f) ≡ received f.at f.inputs f.outputs id
   fed-whole id f t = rw t
 
   pub end_short : is_end (progress_of st).stage ≡ false → Keeps with_end st (resting (answer_of (refused SHORT st.start)))

@@ -7,11 +7,11 @@ use lib.Dec.{leb, ltb, eqb}
 use Rattle.format.specs.Parse.{Parse, Reader, pick, onward, ◌>>=◌, times, ok, fault}
 use Rattle.format.specs.Field.{bytes, varint}
 use Rattle.format.specs.Transaction.{Transaction, input_field, output_field, some_field}
-use Rattle.format.specs.Refusals.{SHORT, LONG_VARINT, EXTRA, BAD_TX}
+use Rattle.format.specs.Refusals.{refusal_number, SHORT, LONG_VARINT, EXTRA, BAD_TX}
 use Rattle.stream.specs.declared.progress.Stage.{Stage}
 use Rattle.stream.specs.declared.progress.Progress.{Progress}
-use Rattle.stream.specs.declared.progress.Fed.{Fed}
-use Rattle.stream.specs.Progress.{is_number, is_end, shift_in, width_of, scaled, least}
+use Rattle.std.specs.Prelude.{Ok, Err}
+use Rattle.stream.specs.Progress.{Fed, is_number, is_end, shift_in, width_of, scaled, least}
 
 -- what is kept of a transaction: its size and its counts
 pub record Counts : Type 0 where
@@ -125,10 +125,10 @@ rest f s =
     (λ v at. then_at f.stage f.start f.inputs f.outputs f.left v s at))
 
 abbrev pub rest_of : Fed → List ℕ → Parse Counts
-rest_of (Fed.On f) s = rest f s
-rest_of (Fed.Refused n at) s = fault n at
+rest_of (Ok f) s = rest f s
+rest_of (Err r) s = fault (refusal_number r.refusal) r.place
 
 -- where no byte comes any more
 abbrev pub ending : Fed → Parse Counts
-ending (Fed.On f) = pick (is_end f.stage) (ok (record { size = f.at; inputs = f.inputs; outputs = f.outputs }) f.at) (fault SHORT f.start)
-ending (Fed.Refused n at) = fault n at
+ending (Ok f) = pick (is_end f.stage) (ok (record { size = f.at; inputs = f.inputs; outputs = f.outputs }) f.at) (fault SHORT f.start)
+ending (Err r) = fault (refusal_number r.refusal) r.place

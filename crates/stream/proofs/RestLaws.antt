@@ -18,8 +18,9 @@ use Rattle.format.specs.Transaction.{Listed, Transaction, script_field, input_fi
 use Rattle.format.specs.Refusals.{SHORT, LONG_VARINT, EXTRA, BAD_TX}
 use Rattle.stream.specs.declared.progress.Stage.{Stage}
 use Rattle.stream.specs.declared.progress.Progress.{Progress}
-use Rattle.stream.specs.declared.progress.Fed.{Fed}
-use Rattle.stream.specs.Progress.{is_number, is_end, begin, one_passed, count_inputs, count_outputs, after_input, after_output, after_lock_time, next_at, next, moved, passed, shift_in, width_of, scaled, least, numbered, announce, shifted, first_digit, later_digit, digit, taken, fed}
+use Rattle.std.specs.Prelude.{Ok}
+use Rattle.format.specs.declared.refusal.Refusal.{Refusal}
+use Rattle.stream.specs.Progress.{refused_at, is_number, is_end, begin, one_passed, count_inputs, count_outputs, after_input, after_output, after_lock_time, next_at, next, moved, passed, shift_in, width_of, scaled, least, numbered, announce, shifted, first_digit, later_digit, digit, taken, fed}
 use Rattle.stream.proofs.Rest.{Counts, counts_of, end_rest, size_rest, lock_time_rest, any_output, outputs_rest, output_script_rest, output_length_rest, amount_rest, output_count_rest, inputs_rest, sequence_rest, input_script_rest, input_length_rest, output_number_rest, parent_rest, input_count_rest, version_rest, then_at, run_left, shifting, shortest, digits_left, first_left, number_left, rest, rest_of, ending}
 
 -- ---- parses one after the other
@@ -292,7 +293,7 @@ module _ (s : List ℕ) where
   unfolding after_lock_time size_rest
   after_lock_time_lem f = go (eqb f.at 64)
     where
-      go : (t : Bool) → rest_of (pick t (Fed.Refused BAD_TX 0) (Fed.On (begin Stage.End 0 f))) s ≡ pick t (fault BAD_TX 0) (end_rest f.inputs f.outputs s f.at)
+      go : (t : Bool) → rest_of (pick t (refused_at Refusal.BadTx 0) (Ok (begin Stage.End 0 f))) s ≡ pick t (fault BAD_TX 0) (end_rest f.inputs f.outputs s f.at)
       go true = refl
       go false = from_end f
 
@@ -300,7 +301,7 @@ module _ (s : List ℕ) where
   unfolding after_input one_passed
   after-input f = go (leb f.left 1) refl
     where
-      go : (t : Bool) → leb f.left 1 ≡ t → rest_of (pick t (Fed.On (begin Stage.OutputCount 1 f)) (Fed.On (begin Stage.Parent 32 (one_passed f)))) s ≡ inputs_rest f.inputs (f.left - 1) s f.at
+      go : (t : Bool) → leb f.left 1 ≡ t → rest_of (pick t (Ok (begin Stage.OutputCount 1 f)) (Ok (begin Stage.Parent 32 (one_passed f)))) s ≡ inputs_rest f.inputs (f.left - 1) s f.at
       go true e =
           let h = leb-true f.left 1 e in
           let z : f.left - 1 ≡ 0 = omega arith in
@@ -311,7 +312,7 @@ module _ (s : List ℕ) where
   unfolding after_output one_passed
   after-output f = go (leb f.left 1) refl
     where
-      go : (t : Bool) → leb f.left 1 ≡ t → rest_of (pick t (Fed.On (begin Stage.LockTime 4 f)) (Fed.On (begin Stage.Amount 8 (one_passed f)))) s ≡ outputs_rest f.inputs f.outputs (f.left - 1) s f.at
+      go : (t : Bool) → leb f.left 1 ≡ t → rest_of (pick t (Ok (begin Stage.LockTime 4 f)) (Ok (begin Stage.Amount 8 (one_passed f)))) s ≡ outputs_rest f.inputs f.outputs (f.left - 1) s f.at
       go true e =
           let h = leb-true f.left 1 e in
           let z : f.left - 1 ≡ 0 = omega arith in
@@ -326,27 +327,27 @@ module _ (s : List ℕ) where
   next-rest Stage.Version f v h = from_input-count f
   next-rest Stage.InputCount f v h = go (leb 1 v) refl
     where
-      go : (t : Bool) → leb 1 v ≡ t → rest_of (pick t (Fed.On (begin Stage.Parent 32 (count_inputs v f))) (Fed.Refused BAD_TX f.start)) s ≡ pick t (inputs_rest v v s f.at) (fault BAD_TX f.start)
+      go : (t : Bool) → leb 1 v ≡ t → rest_of (pick t (Ok (begin Stage.Parent 32 (count_inputs v f))) (refused_at Refusal.BadTx f.start)) s ≡ pick t (inputs_rest v v s f.at) (fault BAD_TX f.start)
       go true e = from_parent (count_inputs v f) ∙ some-inputs v v f.at (leb-true 1 v e)
       go false e = refl
   next-rest Stage.Parent f v h = from_output-number f
   next-rest Stage.OutputNumber f v h = from_input-length f
   next-rest Stage.InputLength f v h = go (leb 1 v) refl
     where
-      go : (t : Bool) → leb 1 v ≡ t → rest_of (pick t (Fed.On (begin Stage.InputScript v f)) (Fed.On (begin Stage.Sequence 4 f))) s ≡ input_script_rest f.inputs (f.left - 1) v s f.at
+      go : (t : Bool) → leb 1 v ≡ t → rest_of (pick t (Ok (begin Stage.InputScript v f)) (Ok (begin Stage.Sequence 4 f))) s ≡ input_script_rest f.inputs (f.left - 1) v s f.at
       go true e = from_input_script f v
       go false e = rw (zero_is v e) (from_sequence f ∙ nothing-rest (λ q. sequence_rest f.inputs (f.left - 1) s q) f.at h)
   next-rest Stage.InputScript f v h = from_sequence f
   next-rest Stage.Sequence f v h = after-input f
   next-rest Stage.OutputCount f v h = go (leb 1 v) refl
     where
-      go : (t : Bool) → leb 1 v ≡ t → rest_of (pick t (Fed.On (begin Stage.Amount 8 (count_outputs v f))) (Fed.Refused BAD_TX f.start)) s ≡ pick t (outputs_rest f.inputs v v s f.at) (fault BAD_TX f.start)
+      go : (t : Bool) → leb 1 v ≡ t → rest_of (pick t (Ok (begin Stage.Amount 8 (count_outputs v f))) (refused_at Refusal.BadTx f.start)) s ≡ pick t (outputs_rest f.inputs v v s f.at) (fault BAD_TX f.start)
       go true e = from_amount (count_outputs v f) ∙ some-outputs f.inputs v v f.at (leb-true 1 v e)
       go false e = refl
   next-rest Stage.Amount f v h = from_output-length f
   next-rest Stage.OutputLength f v h = go (leb 1 v) refl
     where
-      go : (t : Bool) → leb 1 v ≡ t → rest_of (pick t (Fed.On (begin Stage.OutputScript v f)) (after_output f)) s ≡ output_script_rest f.inputs f.outputs (f.left - 1) v s f.at
+      go : (t : Bool) → leb 1 v ≡ t → rest_of (pick t (Ok (begin Stage.OutputScript v f)) (after_output f)) s ≡ output_script_rest f.inputs f.outputs (f.left - 1) v s f.at
       go true e = from_output_script f v
       go false e = rw (zero_is v e) (after-output f ∙ nothing-rest (λ q. outputs_rest f.inputs f.outputs (f.left - 1) s q) f.at h)
   next-rest Stage.OutputScript f v h = after-output f
@@ -433,7 +434,7 @@ module _ (s : List ℕ) where
       follows : ℕ → ℕ → Parse Counts
       follows v at = then_at f.stage f.start f.inputs f.outputs f.left v s at
 
-      go : (t : Bool) → leb f.need 1 ≡ t → onward (run_left f.start (f.need - 1) s (f.at + 1)) follows ≡ rest_of (pick t (next (moved f 1) 0) (Fed.On (moved f 1))) s
+      go : (t : Bool) → leb f.need 1 ≡ t → onward (run_left f.start (f.need - 1) s (f.at + 1)) follows ≡ rest_of (pick t (next (moved f 1) 0) (Ok (moved f 1))) s
       go true u =
           let g = leb-true f.need 1 u in
           ap (λ (p : Parse ℕ). onward p follows) (run_none f.start (f.need - 1) (f.at + 1) (omega arith) (omega arith))
@@ -459,17 +460,17 @@ module _ (s : List ℕ) where
       follows : ℕ → ℕ → Parse Counts
       follows v at = then_at f.stage f.start f.inputs f.outputs f.left v s at
 
-      small : (t : Bool) → onward (pick t (ok x (f.at + 1)) (digits_left f.start (width_of x) 0 (width_of x) s (f.at + 1))) follows ≡ rest_of (pick t (next (moved f 1) x) (Fed.On (announce f x))) s
+      small : (t : Bool) → onward (pick t (ok x (f.at + 1)) (digits_left f.start (width_of x) 0 (width_of x) s (f.at + 1))) follows ≡ rest_of (pick t (next (moved f 1) x) (Ok (announce f x))) s
       small true = sym (next-rest f.stage (moved f 1) x (omega arith))
       small false = sym (rest-number (announce f x) e n ∙ rw (wide x))
 
-      whole : (v : ℕ) (t : Bool) → onward (pick t (ok v (f.at + 1)) (fault LONG_VARINT f.start)) follows ≡ rest_of (pick t (next (shifted f x) v) (Fed.Refused LONG_VARINT f.start)) s
+      whole : (v : ℕ) (t : Bool) → onward (pick t (ok v (f.at + 1)) (fault LONG_VARINT f.start)) follows ≡ rest_of (pick t (next (shifted f x) v) (refused_at Refusal.LongVarint f.start)) s
       whole v true = sym (next-rest f.stage (shifted f x) v (omega arith))
       whole v false = refl
 
       later : eqb f.width 0 ≡ false → (t : Bool) → leb f.need 1 ≡ t
           → onward (digits_left f.start f.width (shift_in f.value x) (f.need - 1) s (f.at + 1)) follows
-          ≡ rest_of (pick t (numbered (shifted f x) f.width (shift_in f.value x)) (Fed.On (shifted f x))) s
+          ≡ rest_of (pick t (numbered (shifted f x) f.width (shift_in f.value x)) (Ok (shifted f x))) s
       later w true u =
           let g = leb-true f.need 1 u in
           ap (λ (p : Parse ℕ). onward p follows) (digits-none f.start f.width (shift_in f.value x) (f.need - 1) (f.at + 1) (omega arith) (omega arith))
@@ -490,12 +491,12 @@ module _ (s : List ℕ) where
       x : ℕ
       x = get_or s f.at 0
 
-      go : (e n : Bool) → is_end f.stage ≡ e → is_number f.stage ≡ n → rest f s ≡ rest_of (pick e (Fed.Refused EXTRA f.at) (pick n (digit f x) (passed f 1))) s
+      go : (e n : Bool) → is_end f.stage ≡ e → is_number f.stage ≡ n → rest f s ≡ rest_of (pick e (refused_at Refusal.Extra f.at) (pick n (digit f x) (passed f 1))) s
       go true n e m = rest_extra f e h
       go false true e m = digit-rest f e m (one e) h
       go false false e m = passed-rest f e m (one e) h
 
-  pub rest-done : (f : Progress) → (is_end f.stage ≡ false → 1 ≤ f.need) → length s ≤ f.at → rest f s ≡ ending (Fed.On f)
+  pub rest-done : (f : Progress) → (is_end f.stage ≡ false → 1 ≤ f.need) → length s ≤ f.at → rest f s ≡ ending (Ok f)
   rest-done f one h = go (is_end f.stage) (is_number f.stage) refl refl
     where
       follows : ℕ → ℕ → Parse Counts

@@ -16,12 +16,14 @@ use Rattle.format.specs.Transaction.{Transaction, tx_field}
 use Rattle.format.proofs.ParseLaws.{onward-told}
 use Rattle.format.proofs.TransactionLaws.{tx_told}
 use Rattle.format.specs.Id.{txid}
-use Rattle.format.specs.Refusals.{TOO_LONG, SHORT, EXTRA}
+use Rattle.format.specs.declared.refusal.Refusal.{Refusal}
+use Rattle.format.specs.declared.refusal.ReadRefusal.{ReadRefusal}
+use Rattle.format.specs.Refusals.{refusal_number, TOO_LONG, SHORT, EXTRA}
 use Rattle.stream.specs.declared.progress.Stage.{Stage}
 use Rattle.stream.specs.declared.progress.Progress.{Progress}
-use Rattle.stream.specs.declared.progress.Fed.{Fed}
+use Rattle.std.specs.Prelude.{Ok, Err}
 use Rattle.stream.specs.Parts.{too_long, reading, Said, more, refused, received, part_says, end_says}
-use Rattle.stream.specs.Progress.{is_number, is_end, first, begin, one_passed, count_inputs, count_outputs, after_input, after_output, after_lock_time, next_at, next, moved, passed, shift_in, scaled, least, numbered, announce, shifted, first_digit, later_digit, digit, taken, fed, feed, run}
+use Rattle.stream.specs.Progress.{Fed, is_number, is_end, first, begin, one_passed, count_inputs, count_outputs, after_input, after_output, after_lock_time, next_at, next, moved, passed, shift_in, scaled, least, numbered, announce, shifted, first_digit, later_digit, digit, taken, fed, feed, run}
 use Rattle.stream.proofs.Rest.{Counts, counts_of, version_rest, then_at, run_left, rest, rest_of, ending}
 use Rattle.stream.proofs.RestLaws.{whole-rest, fed-rest, rest-done}
 use Rattle.format.specs.Field.{bytes}
@@ -29,10 +31,10 @@ use Rattle.format.specs.Field.{bytes}
 -- ---- what holds after every byte: the bytes so far are counted, a field has a byte to come, and no refusal is 2
 
 abbrev pub Fair : Fed → ℕ → Type 0
-Fair (Fed.On f) at = (f.at ≡ at) × (is_end f.stage ≡ false → 1 ≤ f.need)
-Fair (Fed.Refused n q) at = eqb n SHORT ≡ false
+Fair (Ok f) at = (f.at ≡ at) × (is_end f.stage ≡ false → 1 ≤ f.need)
+Fair (Err r) at = eqb (refusal_number r.refusal) SHORT ≡ false
 
-fair_begin : (stage : Stage) (need : ℕ) (f : Progress) (at : ℕ) → f.at ≡ at → 1 ≤ need → Fair (Fed.On (begin stage need f)) at
+fair_begin : (stage : Stage) (need : ℕ) (f : Progress) (at : ℕ) → f.at ≡ at → 1 ≤ need → Fair (Ok (begin stage need f)) at
 unfolding begin
 fair_begin stage need f at e h = (e, λ _. h)
 
@@ -95,8 +97,8 @@ fair_fed size f x =
     (λ _. fair_pick (is_number f.stage) _ _ _ (λ _. fair_digit f x) (λ _. fair_passed f)))
 
 fair_feed : (size : ℕ) (m : Fed) (at x : ℕ) → Fair m at → Fair (feed size m x) (at + 1)
-fair_feed size (Fed.On f) at x h = rw (← h.0) (fair_fed size f x)
-fair_feed size (Fed.Refused n q) at x h = h
+fair_feed size (Ok f) at x h = rw (← h.0) (fair_fed size f x)
+fair_feed size (Err r) at x h = h
 
 pub run_fair : (size : ℕ) (l : List ℕ) (m : Fed) (at : ℕ) → Fair m at → Fair (run size m l) (at + length l)
 unfolding run
@@ -110,17 +112,17 @@ unfolding run
 run_append size [] b m = refl
 run_append size (x ∷ a) b m = run_append size a b (feed size m x)
 
-pub run-refused : (size : ℕ) (l : List ℕ) (n q : ℕ) → run size (Fed.Refused n q) l ≡ Fed.Refused n q
+pub run-refused : (size : ℕ) (l : List ℕ) (r : ReadRefusal) → ◌≡◌ {A = Fed} (run size (Err r) l) (Err r)
 unfolding run
-run-refused size [] n q = refl
-run-refused size (x ∷ l) n q = run-refused size l n q
+run-refused size [] r = refl
+run-refused size (x ∷ l) r = run-refused size l r
 
 -- ---- all bytes
 
 module _ (s : List ℕ) (size : ℕ) (fits : length s ≤ size) where
   feed-rest : (m : Fed) (at : ℕ) → Fair m at → at < length s → rest_of m s ≡ rest_of (feed size m (get_or s at 0)) s
-  feed-rest (Fed.On f) at h l = let e = h.0 in rw (← e) (fed-rest s size f h.1 (omega arith) (omega arith))
-  feed-rest (Fed.Refused n q) at h l = refl
+  feed-rest (Ok f) at h l = let e = h.0 in rw (← e) (fed-rest s size f h.1 (omega arith) (omega arith))
+  feed-rest (Err r) at h l = refl
 
   run-rest : (l : List ℕ) (m : Fed) (at : ℕ) → Fair m at → drop at s ≡ l → at ≤ length s → rest_of m s ≡ ending (run size m l)
   unfolding run
@@ -130,8 +132,8 @@ module _ (s : List ℕ) (size : ℕ) (fits : length s ≤ size) where
       past = let z : length s - at ≡ 0 = sym (length-drop at s) ∙ ap length e in omega arith
 
       done : (m : Fed) → Fair m at → rest_of m s ≡ ending m
-      done (Fed.On f) h = let w = h.0 in rest-done s f h.1 (omega (arith, past))
-      done (Fed.Refused n q) h = refl
+      done (Ok f) h = let w = h.0 in rest-done s f h.1 (omega (arith, past))
+      done (Err r) h = refl
   run-rest (x ∷ l) m at h e g =
       let z : length s - at ≡ suc (length l) = sym (length-drop at s) ∙ ap length e in
       let less : at < length s = omega arith in
@@ -140,12 +142,12 @@ module _ (s : List ℕ) (size : ℕ) (fits : length s ≤ size) where
       let tail : drop (suc at) s ≡ l = cc in
       feed-rest m at h less ∙ rw head (run-rest l (feed size m x) (at + 1) (fair_feed size m at x h) (rw add-one tail) (omega arith))
 
-  first_rest : rest_of (Fed.On first) s ≡ version_rest s 0
+  first_rest : rest_of (Ok first) s ≡ version_rest s 0
   unfolding rest run_left bytes then_at version_rest
   first_rest = refl
 
-  pub run-whole : each counts_of (ended tx_field s 0) ≡ ending (run size (Fed.On first) s)
-  run-whole = whole-rest s ∙ sym first_rest ∙ run-rest s (Fed.On first) 0 (refl, λ _. omega arith) refl (omega arith)
+  pub run-whole : each counts_of (ended tx_field s 0) ≡ ending (run size (Ok first) s)
+  run-whole = whole-rest s ∙ sym first_rest ∙ run-rest s (Ok first) 0 (refl, λ _. omega arith) refl (omega arith)
 
 -- ---- any size
 
@@ -160,29 +162,29 @@ each_late (fault n at) = go (eqb n SHORT)
 
 full : (size : ℕ) (m : Fed) (x : ℕ) (l : List ℕ) → Fair m size → too_long (ending m) ≡ ending (run size m (x ∷ l))
 unfolding run taken
-full size (Fed.On f) x l h =
-    rw (le-leb size f.at (let e = h.0 in omega arith), run-refused size l TOO_LONG 0) (go (is_end f.stage))
+full size (Ok f) x l h =
+    rw (le-leb size f.at (let e = h.0 in omega arith), run-refused size l (record { refusal = Refusal.TooLong; place = 0 })) (go (is_end f.stage))
   where
     go : (t : Bool) → too_long {A = Counts} (pick t (ok (record { size = f.at; inputs = f.inputs; outputs = f.outputs }) f.at) (fault SHORT f.start)) ≡ fault TOO_LONG 0
     go true = refl
     go false = refl
-full size (Fed.Refused n q) x l h = rw (run-refused size l n q, h)
+full size (Err r) x l h = rw (run-refused size l r, h)
 
 -- the reading of the bytes so far is what they came to one by one
-pub reading-run : (size : ℕ) (b : List ℕ) → each counts_of (reading size b) ≡ ending (run size (Fed.On first) b)
+pub reading-run : (size : ℕ) (b : List ℕ) → each counts_of (reading size b) ≡ ending (run size (Ok first) b)
 unfolding reading
 reading-run size b = go (leb (length b) size) refl
   where
     m : Fed
-    m = run size (Fed.On first) (take size b)
+    m = run size (Ok first) (take size b)
 
-    go : (t : Bool) → leb (length b) size ≡ t → each counts_of (pick t (ended tx_field b 0) (too_long (ended tx_field (take size b) 0))) ≡ ending (run size (Fed.On first) b)
+    go : (t : Bool) → leb (length b) size ≡ t → each counts_of (pick t (ended tx_field b 0) (too_long (ended tx_field (take size b) 0))) ≡ ending (run size (Ok first) b)
     go true e = run-whole b size (leb-true _ _ e)
     go false e =
         let over : size < length b = leb-false _ _ e in
         let short : length (take size b) ≡ size = length-take-le size b (omega arith) in
-        let fair : Fair m size = rw (short, zero-add) at (run_fair size (take size b) (Fed.On first) 0 (refl, λ _. omega arith)) in
-        let cut : run size m (drop size b) ≡ run size (Fed.On first) b = sym (run_append size (take size b) (drop size b) (Fed.On first)) ∙ ap (run size (Fed.On first)) (take-append-drop size b) in
+        let fair : Fair m size = rw (short, zero-add) at (run_fair size (take size b) (Ok first) 0 (refl, λ _. omega arith)) in
+        let cut : run size m (drop size b) ≡ run size (Ok first) b = sym (run_append size (take size b) (drop size b) (Ok first)) ∙ ap (run size (Ok first)) (take-append-drop size b) in
         each_late (ended tx_field (take size b) 0) ∙ ap too_long (run-whole (take size b) size (omega arith))
         ∙ rw (← cut, drop-cons b size 0 over) (full size m (get_or b size 0) (drop (suc size) b) fair)
 
@@ -190,33 +192,33 @@ reading-run size b = go (leb (length b) size) refl
 
 -- what a part says, and the end call, by what the bytes came to
 abbrev pub fed_says : Fed → Said
-fed_says (Fed.On f) = more
-fed_says (Fed.Refused n q) = refused n q
+fed_says (Ok f) = more
+fed_says (Err r) = refused (refusal_number r.refusal) r.place
 
 abbrev pub fed_ends : List ℕ → Fed → Said
-fed_ends id (Fed.On f) = pick (is_end f.stage) (received f.at f.inputs f.outputs id) (refused SHORT f.start)
-fed_ends id (Fed.Refused n q) = refused n q
+fed_ends id (Ok f) = pick (is_end f.stage) (received f.at f.inputs f.outputs id) (refused SHORT f.start)
+fed_ends id (Err r) = refused (refusal_number r.refusal) r.place
 
 ok-fault : {A : Type 0} {a : A} {n p q : ℕ} → ok a p ≡ fault n q → ⊥
 ok-fault e = let z : ◌≡◌ {A = ℕ} 0 1 = cc in omega arith
 
 part_like : (p : Parse Transaction) (m : Fed) (at : ℕ) → Fair m at → each counts_of p ≡ ending m → part_says p ≡ fed_says m
 unfolding each
-part_like (ok t q) (Fed.On f) at h e = refl
-part_like (ok t q) (Fed.Refused n r) at h e = absurd (ok-fault e)
-part_like (fault n q) (Fed.On f) at h e = go (is_end f.stage) e
+part_like (ok t q) (Ok f) at h e = refl
+part_like (ok t q) (Err r) at h e = absurd (ok-fault e)
+part_like (fault n q) (Ok f) at h e = go (is_end f.stage) e
   where
     go : (t : Bool) → ◌≡◌ {A = Parse Counts} (fault n q) (pick t (ok (record { size = f.at; inputs = f.inputs; outputs = f.outputs }) f.at) (fault SHORT f.start)) → pick (eqb n SHORT) more (refused n q) ≡ more
     go true e = absurd (ok-fault (sym e))
     go false e = let z : n ≡ SHORT = cc in rw z
-part_like (fault n q) (Fed.Refused k r) at h e =
-    let z : n ≡ k = cc in
-    let w : q ≡ r = cc in
+part_like (fault n q) (Err r) at h e =
+    let z : n ≡ refusal_number r.refusal = cc in
+    let w : q ≡ r.place = cc in
     rw (z, w, h)
 
 end_like : (b : List ℕ) (p : Parse Transaction) (m : Fed) → ((t : Transaction) (q : ℕ) → p ≡ ok t q → txid b t ≡ sha256d b) → each counts_of p ≡ ending m → end_says b p ≡ fed_ends (sha256d b) m
 unfolding each
-end_like b (ok t q) (Fed.On f) h e = go (is_end f.stage) e
+end_like b (ok t q) (Ok f) h e = go (is_end f.stage) e
   where
     go : (u : Bool) → ◌≡◌ {A = Parse Counts} (ok (counts_of t) q) (pick u (ok (record { size = f.at; inputs = f.inputs; outputs = f.outputs }) f.at) (fault SHORT f.start))
         → received t.end (length t.inputs) (length t.outputs) (txid b t) ≡ pick u (received f.at f.inputs f.outputs (sha256d b)) (refused SHORT f.start)
@@ -227,8 +229,8 @@ end_like b (ok t q) (Fed.On f) h e = go (is_end f.stage) e
         let c3 = ap (λ (x : Counts). x.outputs) c in
         rw (h t q refl, c1, c2, c3)
     go false e = absurd (ok-fault e)
-end_like b (ok t q) (Fed.Refused n r) h e = absurd (ok-fault e)
-end_like b (fault n q) (Fed.On f) h e = go (is_end f.stage) e
+end_like b (ok t q) (Err r) h e = absurd (ok-fault e)
+end_like b (fault n q) (Ok f) h e = go (is_end f.stage) e
   where
     go : (u : Bool) → ◌≡◌ {A = Parse Counts} (fault n q) (pick u (ok (record { size = f.at; inputs = f.inputs; outputs = f.outputs }) f.at) (fault SHORT f.start))
         → refused n q ≡ pick u (received f.at f.inputs f.outputs (sha256d b)) (refused SHORT f.start)
@@ -237,9 +239,9 @@ end_like b (fault n q) (Fed.On f) h e = go (is_end f.stage) e
         let z : n ≡ SHORT = cc in
         let w : q ≡ f.start = cc in
         rw (z, w)
-end_like b (fault n q) (Fed.Refused k r) h e =
-    let z : n ≡ k = cc in
-    let w : q ≡ r = cc in
+end_like b (fault n q) (Err r) h e =
+    let z : n ≡ refusal_number r.refusal = cc in
+    let w : q ≡ r.place = cc in
     rw (z, w)
 
 -- what was read is all the bytes that came
@@ -279,8 +281,8 @@ reading-id size b t q e =
     let n : t.end - t.start ≡ length b = omega (arith, x.1, x.2) in
     rw (n, x.1) (ap sha256d (take-length b))
 
-pub part-told : (size : ℕ) (b : List ℕ) → part_says (reading size b) ≡ fed_says (run size (Fed.On first) b)
-part-told size b = part_like (reading size b) (run size (Fed.On first) b) (0 + length b) (run_fair size b (Fed.On first) 0 (refl, λ _. omega arith)) (reading-run size b)
+pub part-told : (size : ℕ) (b : List ℕ) → part_says (reading size b) ≡ fed_says (run size (Ok first) b)
+part-told size b = part_like (reading size b) (run size (Ok first) b) (0 + length b) (run_fair size b (Ok first) 0 (refl, λ _. omega arith)) (reading-run size b)
 
-pub end-told : (size : ℕ) (b : List ℕ) → end_says b (reading size b) ≡ fed_ends (sha256d b) (run size (Fed.On first) b)
-end-told size b = end_like b (reading size b) (run size (Fed.On first) b) (reading-id size b) (reading-run size b)
+pub end-told : (size : ℕ) (b : List ℕ) → end_says b (reading size b) ≡ fed_ends (sha256d b) (run size (Ok first) b)
+end-told size b = end_like b (reading size b) (run size (Ok first) b) (reading-id size b) (reading-run size b)

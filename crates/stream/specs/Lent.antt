@@ -1,12 +1,13 @@
 -- The state that the caller lends, and what the calls answer.
 use Rattle.std.specs.Prelude.{◌≡◌, replicate}
 use Rattle.stream.specs.declared.progress.Progress.{Progress}
-use Rattle.stream.specs.declared.progress.Fed.{Fed}
+use Rattle.std.specs.Prelude.{Ok, Err}
 use Rattle.stream.specs.declared.hashing.Hashing.{Hashing}
 use Rattle.stream.specs.declared.state.Answer.{Answer}
 use Rattle.stream.specs.declared.state.State.{State}
+use Rattle.format.specs.Refusals.{refusal_number}
 use Rattle.stream.specs.Parts.{MAX_PARTS, Said, more, refused, received, Calls, came, closed, says}
-use Rattle.stream.specs.Progress.{first, run, stage_number, stage_of}
+use Rattle.stream.specs.Progress.{Fed, first, run, stage_number, stage_of}
 use Rattle.stream.specs.HashState.{hashing_of}
 
 -- an answer as the state has it: none yet, a refusal or a transaction; the refusal's number and place, or zeros; length, counts and id, or zeros
@@ -46,12 +47,12 @@ unfoldable pub hashing_in : State → Hashing
 hashing_in st = record { words = st.words; tail = st.tail }
 
 abbrev pub fed_state : Hashing → Fed → State
-fed_state h (Fed.On f) = open_state h f
-fed_state h (Fed.Refused n q) = resting (answer_of (refused n q))
+fed_state h (Ok f) = open_state h f
+fed_state h (Err r) = resting (answer_of (refused (refusal_number r.refusal) r.place))
 
 -- the state after the calls since the start: of the bytes that came alone, however they were cut
 unfoldable pub state_of : Calls → State
-state_of (came b) = fed_state (hashing_of b) (run MAX_PARTS (Fed.On first) b)
+state_of (came b) = fed_state (hashing_of b) (run MAX_PARTS (Ok first) b)
 state_of (closed b) = resting (answer_of (says MAX_PARTS (closed b)))
 
 -- what a call does to every state that the start and calls made; over other states it is free

@@ -3,32 +3,23 @@ ghost use Rattle.std.specs.Prelude.{◌≡◌, ◌+◌, ◌-◌, ◌≤◌, ◌<
 ghost use Rattle.stream.specs.Parts.{MAX_PARTS};
 ghost use Rattle.stream.specs.Progress as P;
 
-use super::progress::{Fed, MAX_PARTS, Progress, is_end, is_number, next};
-use format::refusal::{EXTRA, LONG_VARINT, TOO_LONG};
-
-// A difference, 0 where there is none.
-fn minus(a: u64, b: u64) -> u64
-    ensures { result ≡ a - b }
-{
-    if a < b {
-        return 0;
-    }
-    a - b
-}
+use super::progress::{MAX_PARTS, Progress, Step, is_end, is_number, next, refused};
+use format::Refusal;
 
 // k bytes further in a field.
 fn moved(f: Progress, k: u64) -> Progress
     requires { f.at + k < 18446744073709551616 }
     ensures { result ≡ P.moved f k }
 {
-    let mut g = f;
-    g.need = minus(f.need, k);
-    g.at = f.at + k;
-    g
+    Progress {
+        need: f.need.saturating_sub(k),
+        at: f.at + k,
+        ..f
+    }
 }
 
 // k bytes of a field that is no VarInt.
-pub(crate) fn passed(f: Progress, k: u64) -> Fed
+pub(crate) fn passed(f: Progress, k: u64) -> Step
     requires { f.at + k < 18446744073709551616 }
     ensures { result ≡ P.passed f k }
 {
@@ -36,53 +27,49 @@ pub(crate) fn passed(f: Progress, k: u64) -> Fed
     if f.need <= k {
         return next(g, 0);
     }
-    Fed::On(g)
+    Ok(g)
 }
 
 fn width_of(x: u64) -> u64
     ensures { result ≡ P.width_of x }
 {
-    if x == 253 {
-        return 2;
+    match x {
+        253 => 2,
+        254 => 4,
+        _ => 8,
     }
-    if x == 254 {
-        return 4;
-    }
-    8
 }
 
 // A VarInt's bytes, of which it announced so many, as a number.
+#[tactic(auto, unfolding(crate::specs::Progress::scaled))]
 fn scaled(width: u64, value: u64) -> u64
     ensures { result ≡ P.scaled width value }
 {
-    if width == 2 {
-        return value / 281474976710656;
+    match width {
+        2 => value / 281474976710656,
+        4 => value / 4294967296,
+        _ => value,
     }
-    if width == 4 {
-        return value / 4294967296;
-    }
-    value
 }
 
 // The least number that takes so many bytes.
+#[tactic(auto, unfolding(crate::specs::Progress::least))]
 fn least(width: u64) -> u64
     ensures { result ≡ P.least width }
 {
-    if width == 2 {
-        return 253;
+    match width {
+        2 => 253,
+        4 => 65536,
+        _ => 4294967296,
     }
-    if width == 4 {
-        return 65536;
-    }
-    4294967296
 }
 
-fn numbered(f: Progress, width: u64, value: u64) -> Fed
+fn numbered(f: Progress, width: u64, value: u64) -> Step
     ensures { result ≡ P.numbered f width value }
 {
     let v = scaled(width, value);
     if v < least(width) {
-        return Fed::Refused(LONG_VARINT, f.start);
+        return refused(Refusal::LongVarint, f.start);
     }
     next(f, v)
 }
@@ -92,36 +79,38 @@ fn announce(f: Progress, x: u64) -> Progress
     ensures { result ≡ P.announce f x }
 {
     let width = width_of(x);
-    let mut g = f;
-    g.need = width;
-    g.width = width;
-    g.value = 0;
-    g.at = f.at + 1;
-    g
+    Progress {
+        need: width,
+        width,
+        value: 0,
+        at: f.at + 1,
+        ..f
+    }
 }
 
 fn shifted(f: Progress, x: u64) -> Progress
     requires { (f.at + 1 < 18446744073709551616) × (x < 256) }
     ensures { result ≡ P.shifted f x }
 {
-    let mut g = f;
-    g.need = minus(f.need, 1);
-    g.value = f.value / 256 + x * 72057594037927936;
-    g.at = f.at + 1;
-    g
+    Progress {
+        need: f.need.saturating_sub(1),
+        value: f.value / 256 + x * 72057594037927936,
+        at: f.at + 1,
+        ..f
+    }
 }
 
-fn first_digit(f: Progress, x: u64) -> Fed
+fn first_digit(f: Progress, x: u64) -> Step
     requires { f.at + 1 < 18446744073709551616 }
     ensures { result ≡ P.first_digit f x }
 {
     if x < 253 {
         return next(moved(f, 1), x);
     }
-    Fed::On(announce(f, x))
+    Ok(announce(f, x))
 }
 
-fn later_digit(f: Progress, x: u64) -> Fed
+fn later_digit(f: Progress, x: u64) -> Step
     requires { (f.at + 1 < 18446744073709551616) × (x < 256) }
     ensures { result ≡ P.later_digit f x }
 {
@@ -129,11 +118,11 @@ fn later_digit(f: Progress, x: u64) -> Fed
     if f.need <= 1 {
         return numbered(g, f.width, g.value);
     }
-    Fed::On(g)
+    Ok(g)
 }
 
 // A byte of a VarInt.
-fn digit(f: Progress, x: u64) -> Fed
+fn digit(f: Progress, x: u64) -> Step
     requires { (f.at + 1 < 18446744073709551616) × (x < 256) }
     ensures { result ≡ P.digit f x }
 {
@@ -144,18 +133,17 @@ fn digit(f: Progress, x: u64) -> Fed
 }
 
 // The byte x, and with it k - 1 bytes more of a field that is no VarInt.
-pub(crate) fn taken(f: Progress, x: u64, k: u64) -> Fed
+pub(crate) fn taken(f: Progress, x: u64, k: u64) -> Step
     requires { (x < 256) × (k ≤ MAX_PARTS) }
     ensures { result ≡ P.taken MAX_PARTS f x k }
 {
     if MAX_PARTS <= f.at {
-        return Fed::Refused(TOO_LONG, 0);
+        return refused(Refusal::TooLong, 0);
     }
-    let stage = f.stage;
-    if is_end(stage) {
-        return Fed::Refused(EXTRA, f.at);
+    if is_end(f.stage) {
+        return refused(Refusal::Extra, f.at);
     }
-    if is_number(stage) {
+    if is_number(f.stage) {
         return digit(f, x);
     }
     passed(f, k)

@@ -14,15 +14,16 @@ pub struct Hashing {
 fn unpacked(w: [u32; 8]) -> hash::State
     ensures { result ≡ S.from_words w }
 {
+    let [a, b, c, d, e, f, g, h] = w;
     hash::State {
-        a: w[0],
-        b: w[1],
-        c: w[2],
-        d: w[3],
-        e: w[4],
-        f: w[5],
-        g: w[6],
-        h: w[7],
+        a,
+        b,
+        c,
+        d,
+        e,
+        f,
+        g,
+        h,
     }
 }
 
@@ -32,35 +33,14 @@ fn packed(s: hash::State) -> [u32; 8]
     [s.a, s.b, s.c, s.d, s.e, s.f, s.g, s.h]
 }
 
-// Section 5.3.3.
-pub(crate) fn initial() -> hash::State
-    ensures { result ≡ F.H0 }
-{
-    hash::State {
-        a: 0x6a09_e667,
-        b: 0xbb67_ae85,
-        c: 0x3c6e_f372,
-        d: 0xa54f_f53a,
-        e: 0x510e_527f,
-        f: 0x9b05_688c,
-        g: 0x1f83_d9ab,
-        h: 0x5be0_cd19,
-    }
-}
-
-fn no_bytes() -> [u8; 64]
-    ensures { result ≡ replicate 64 0 }
-{
-    [0u8; 64]
-}
-
 // Before the first byte.
 pub(crate) fn fresh() -> Hashing
     ensures { result ≡ S.hashing_of [] }
 {
-    let words = packed(initial());
-    let tail = no_bytes();
-    Hashing { words, tail }
+    Hashing {
+        words: packed(hash::initial()),
+        tail: [0; 64],
+    }
 }
 
 // A part laid into a block from a place on.
@@ -69,11 +49,7 @@ fn laid(tail: [u8; 64], at: usize, part: &[u8]) -> [u8; 64]
     ensures { result ≡ paste tail at part.now (length part.now) }
 {
     let mut t = tail;
-    let mut i: usize = 0;
-    while i < part.len() {
-        t[at + i] = part[i];
-        i += 1;
-    }
+    t[at..at + part.len()].copy_from_slice(part);
     t
 }
 
@@ -91,10 +67,8 @@ fn whole_blocks(h: hash::State, s: &[u8]) -> hash::State
 {
     let n = s.len() / 64;
     let mut r = h;
-    let mut i: usize = 0;
-    while i < n {
+    for i in 0..n {
         r = hash::compressed(r, block(&s[64 * i..64 * i + 64]));
-        i += 1;
     }
     r
 }
@@ -108,21 +82,16 @@ pub(crate) fn absorb(h: Hashing, n: u64, part: &[u8]) -> Hashing
     let tail = h.tail;
     let room = 64 - t;
     if part.len() < room {
-        let longer = laid(tail, t, part);
-        return Hashing {
-            words: words,
-            tail: longer,
-        };
+        let tail = laid(tail, t, part);
+        return Hashing { words, tail };
     }
     let done = room + (part.len() - room) / 64 * 64;
     let full = laid(tail, t, &part[..room]);
     let first = hash::compressed(unpacked(words), block(&full));
     let last = whole_blocks(first, &part[room..]);
-    let left = laid(no_bytes(), 0, &part[done..]);
-    let after = packed(last);
     Hashing {
-        words: after,
-        tail: left,
+        words: packed(last),
+        tail: laid([0; 64], 0, &part[done..]),
     }
 }
 
@@ -135,12 +104,6 @@ fn with_length(m: [u32; 16], n: u64) -> [u32; 16]
     w[14] = (bits / 4294967296) as u32;
     w[15] = (bits % 4294967296) as u32;
     w
-}
-
-fn no_words() -> [u32; 16]
-    ensures { result ≡ replicate 16 0 }
-{
-    [0u32; 16]
 }
 
 // The hash value after the padding of the n bytes that came.
@@ -156,83 +119,12 @@ fn closed_value(h: Hashing, n: u64) -> hash::State
         return hash::compressed(before, with_length(block(&tail), n));
     }
     let middle = hash::compressed(before, block(&tail));
-    hash::compressed(middle, with_length(no_words(), n))
-}
-
-// The message digest of a hash value.
-fn digest_bytes(s: hash::State) -> [u8; 32]
-    ensures { result ≡ F.digest s }
-{
-    [
-        (s.a / 0x100_0000 % 256) as u8,
-        (s.a / 0x1_0000 % 256) as u8,
-        (s.a / 0x100 % 256) as u8,
-        (s.a % 256) as u8,
-        (s.b / 0x100_0000 % 256) as u8,
-        (s.b / 0x1_0000 % 256) as u8,
-        (s.b / 0x100 % 256) as u8,
-        (s.b % 256) as u8,
-        (s.c / 0x100_0000 % 256) as u8,
-        (s.c / 0x1_0000 % 256) as u8,
-        (s.c / 0x100 % 256) as u8,
-        (s.c % 256) as u8,
-        (s.d / 0x100_0000 % 256) as u8,
-        (s.d / 0x1_0000 % 256) as u8,
-        (s.d / 0x100 % 256) as u8,
-        (s.d % 256) as u8,
-        (s.e / 0x100_0000 % 256) as u8,
-        (s.e / 0x1_0000 % 256) as u8,
-        (s.e / 0x100 % 256) as u8,
-        (s.e % 256) as u8,
-        (s.f / 0x100_0000 % 256) as u8,
-        (s.f / 0x1_0000 % 256) as u8,
-        (s.f / 0x100 % 256) as u8,
-        (s.f % 256) as u8,
-        (s.g / 0x100_0000 % 256) as u8,
-        (s.g / 0x1_0000 % 256) as u8,
-        (s.g / 0x100 % 256) as u8,
-        (s.g % 256) as u8,
-        (s.h / 0x100_0000 % 256) as u8,
-        (s.h / 0x1_0000 % 256) as u8,
-        (s.h / 0x100 % 256) as u8,
-        (s.h % 256) as u8,
-    ]
-}
-
-// The one block of a padded digest: its eight words, the bit 1, and its length of 256 bits.
-fn digest_block(s: hash::State) -> [u32; 16]
-    ensures { result ≡ F.words (F.pad (F.digest s)) 0 16 }
-{
-    [
-        s.a,
-        s.b,
-        s.c,
-        s.d,
-        s.e,
-        s.f,
-        s.g,
-        s.h,
-        0x8000_0000,
-        0,
-        0,
-        0,
-        0,
-        0,
-        0,
-        256,
-    ]
-}
-
-// The digest of a digest, from its hash value.
-fn hash_digest(s: hash::State) -> [u8; 32]
-    ensures { result ≡ F.sha256 (F.digest s) }
-{
-    digest_bytes(hash::compressed(initial(), digest_block(s)))
+    hash::compressed(middle, with_length([0; 16], n))
 }
 
 // The id of the n bytes that came.
 pub(crate) fn finish(h: Hashing, n: u64) -> [u8; 32]
     ensures { S.Finishes h n result }
 {
-    hash_digest(closed_value(h, n))
+    hash::hash_digest(closed_value(h, n))
 }

@@ -1,13 +1,14 @@
 // The state that the caller lends (specs/Lent.antt).
 ghost use Rattle.std.specs.Prelude.{◌≡◌};
+ghost use Rattle.format.specs.Refusals.{refusal_number};
 ghost use Rattle.stream.specs.Parts.{more, refused, received, started, with_part, with_end};
 ghost use Rattle.stream.specs.Progress.{first, stage_of, stage_number};
 ghost use Rattle.stream.specs.Lent.{answer_of, resting, open_state, progress_of, hashing_in, state_of, Keeps};
 
 use super::hashing::{Hashing, absorb, finish, fresh};
-use super::progress::{Fed, Progress, Stage, is_end};
+use super::progress::{Progress, Stage, is_end};
 use super::walk::walk;
-use format::refusal::SHORT;
+use format::Refusal;
 
 // What a call answers: 0 as long as nothing is answered, 1 a refusal and 2 a transaction that was received; the number of a refusal and
 // its place, or zeros; length, counts and id of what was received, or zeros.
@@ -57,17 +58,14 @@ fn no_answer() -> Answer
     }
 }
 
-fn refusal(number: u8, place: u64) -> Answer
-    ensures { result ≡ answer_of (refused number place) }
+fn refusal(refusal: Refusal, place: u64) -> Answer
+    ensures { result ≡ answer_of (refused (refusal_number refusal) place) }
 {
     Answer {
         answered: 1,
-        number: number as u32,
-        place: place,
-        length: 0,
-        inputs: 0,
-        outputs: 0,
-        id: [0u8; 32],
+        number: u32::from(refusal.number()),
+        place,
+        ..no_answer()
     }
 }
 
@@ -76,12 +74,11 @@ fn receipt(length: u64, inputs: u64, outputs: u64, id: [u8; 32]) -> Answer
 {
     Answer {
         answered: 2,
-        number: 0,
-        place: 0,
-        length: length,
-        inputs: inputs,
-        outputs: outputs,
-        id: id,
+        length,
+        inputs,
+        outputs,
+        id,
+        ..no_answer()
     }
 }
 
@@ -101,79 +98,44 @@ fn rested(answer: Answer) -> State
         inputs: 0,
         outputs: 0,
         length: 0,
-        answer: answer,
+        answer,
     }
 }
 
+#[tactic(auto, unfolding(crate::specs::Progress::stage_of))]
 fn stage_of(n: u64) -> Stage
     ensures { result ≡ stage_of n }
 {
-    if n == 0 {
-        return Stage::Version;
+    match n {
+        0 => Stage::Version,
+        1 => Stage::InputCount,
+        2 => Stage::Parent,
+        3 => Stage::OutputNumber,
+        4 => Stage::InputLength,
+        5 => Stage::InputScript,
+        6 => Stage::Sequence,
+        7 => Stage::OutputCount,
+        8 => Stage::Amount,
+        9 => Stage::OutputLength,
+        10 => Stage::OutputScript,
+        11 => Stage::LockTime,
+        _ => Stage::End,
     }
-    if n == 1 {
-        return Stage::InputCount;
-    }
-    if n == 2 {
-        return Stage::Parent;
-    }
-    if n == 3 {
-        return Stage::OutputNumber;
-    }
-    if n == 4 {
-        return Stage::InputLength;
-    }
-    if n == 5 {
-        return Stage::InputScript;
-    }
-    if n == 6 {
-        return Stage::Sequence;
-    }
-    if n == 7 {
-        return Stage::OutputCount;
-    }
-    if n == 8 {
-        return Stage::Amount;
-    }
-    if n == 9 {
-        return Stage::OutputLength;
-    }
-    if n == 10 {
-        return Stage::OutputScript;
-    }
-    if n == 11 {
-        return Stage::LockTime;
-    }
-    Stage::End
 }
 
+#[tactic(auto, unfolding(crate::specs::Progress::stage_number))]
 fn stage_number(s: Stage) -> u64
     ensures { result ≡ stage_number s }
 {
-    match s {
-        Stage::Version => 0,
-        Stage::InputCount => 1,
-        Stage::Parent => 2,
-        Stage::OutputNumber => 3,
-        Stage::InputLength => 4,
-        Stage::InputScript => 5,
-        Stage::Sequence => 6,
-        Stage::OutputCount => 7,
-        Stage::Amount => 8,
-        Stage::OutputLength => 9,
-        Stage::OutputScript => 10,
-        Stage::LockTime => 11,
-        Stage::End => 12,
-    }
+    s as u64
 }
 
 // The field that the next byte belongs to.
 fn progress_of(st: State) -> Progress
     ensures { result ≡ progress_of st }
 {
-    let stage = stage_of(st.stage);
     Progress {
-        stage: stage,
+        stage: stage_of(st.stage),
         start: st.start,
         need: st.need,
         width: st.width,
@@ -198,13 +160,10 @@ fn open_state(h: Hashing, f: Progress) -> State
 {
     let words = h.words;
     let tail = h.tail;
-    let stage = f.stage;
-    let number = stage_number(stage);
-    let answer = no_answer();
     State {
-        words: words,
-        tail: tail,
-        stage: number,
+        words,
+        tail,
+        stage: stage_number(f.stage),
         start: f.start,
         need: f.need,
         width: f.width,
@@ -213,7 +172,7 @@ fn open_state(h: Hashing, f: Progress) -> State
         inputs: f.inputs,
         outputs: f.outputs,
         length: f.at,
-        answer: answer,
+        answer: no_answer(),
     }
 }
 
@@ -244,17 +203,12 @@ pub fn start() -> State
 pub fn part(st: State, bytes: &[u8]) -> State
     ensures { Keeps (with_part bytes.now) st result }
 {
-    let said = st.answer;
-    if said.answered != 0 {
+    if st.answer.answered != 0 {
         return st;
     }
-    let fed = walk(progress_of(st), bytes);
-    match fed {
-        Fed::Refused(number, place) => rested(refusal(number, place)),
-        Fed::On(f) => {
-            let h = absorb(hashing_in(st), st.length, bytes);
-            open_state(h, f)
-        }
+    match walk(progress_of(st), bytes) {
+        Ok(f) => open_state(absorb(hashing_in(st), st.length, bytes), f),
+        Err(r) => rested(refusal(r.refusal, r.place as u64)),
     }
 }
 
@@ -262,13 +216,12 @@ pub fn part(st: State, bytes: &[u8]) -> State
 pub fn end(st: State) -> State
     ensures { Keeps with_end st result }
 {
-    let said = st.answer;
-    if said.answered != 0 {
-        return rested(said);
+    if st.answer.answered != 0 {
+        return rested(st.answer);
     }
     if is_end(stage_of(st.stage)) {
         let id = finish(hashing_in(st), st.length);
         return rested(receipt(st.length, st.inputs, st.outputs, id));
     }
-    rested(refusal(SHORT, st.start))
+    rested(refusal(Refusal::Short, st.start))
 }

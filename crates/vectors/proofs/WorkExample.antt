@@ -8,8 +8,7 @@ use lib.Dec.{leb, eqb}
 use borrow.Author.Tests.{eq-eqb}
 use lib.ListN.{length, get_or}
 use Rattle.hash.specs.Sha256.{◌⊞◌, ◌⊕◌, not32, shl, shr, rotr, Ch, Maj, Σ0, Σ1, σ0, σ1, K, big_endian, word4, zeros, padding, pad, word, words, H0, W, schedule, T1, T2, round, rounds, plus, compress, H, hash_value, digest, sha256, sha256d}
-use Rattle.format.specs.declared.beef.Anchor.TheVariants.{Unanchored, Bump as InBump}
-use Rattle.path.specs.declared.path.Start.TheVariants.{At}
+use Rattle.std.specs.Prelude.{Some, None, Ok, Err}
 use Rattle.format.specs.Parse.{Parse, ok, fault, pick, each, many, whole}
 use Rattle.format.specs.Bytes.{same, hash_at}
 use Rattle.format.specs.Field as F
@@ -24,9 +23,7 @@ use Rattle.spv.specs.Values.{value_by, value_of, worked_out}
 use Rattle.spv.specs.Joins.{joins_by}
 use Rattle.spv.specs.Siblings.{written, sibling, written_by, find_in}
 use Rattle.spv.specs.Hashes.{among}
-use Rattle.bundle.specs.declared.judge.Ruling.{Ruling}
-use Rattle.bundle.specs.declared.judge.Ruling.TheVariants.{Refuses, Passes}
-use Rattle.bundle.specs.Bundle.{nth_bump, entry_id, ruling}
+use Rattle.bundle.specs.Bundle.{Ruling, nth_bump, entry_id, ruling}
 use Rattle.bundle.proofs.BundleTheorems.{empty_entry}
 use Rattle.climbs.specs.Count.{cost_of, climb_cost, start_cost}
 use Rattle.bundle.specs.Amounts.{Payment, payment_of, ids_of}
@@ -35,7 +32,7 @@ use Rattle.bundle.specs.Work.{id_work, sum_of, ids_work, bump_cost, anchor_cost,
 
 -- ---- a bundle of an anchored transaction and one that is not
 
-module _ (s roots : List ℕ) (fee : ℕ) (bumps : List Bump) (x y : BeefEntry) (n cost : ℕ) (ax : x.anchor ≡ InBump n) (ay : y.anchor ≡ Unanchored) (climb : bump_cost s (nth_bump bumps n) (entry_id s x) ≡ cost) where
+module _ (s roots : List ℕ) (fee : ℕ) (bumps : List Bump) (x y : BeefEntry) (n cost : ℕ) (ax : x.anchor ≡ Some n) (ay : y.anchor ≡ None) (climb : bump_cost s (nth_bump bumps n) (entry_id s x) ≡ cost) where
   first : ruling_cost s bumps [] x ≡ cost
   unfolding ruling_cost among anchor_cost
   first = ap (anchor_cost s bumps (entry_id s x)) ax ∙ climb
@@ -52,17 +49,17 @@ module _ (s roots : List ℕ) (fee : ℕ) (bumps : List Bump) (x y : BeefEntry) 
   unfolding cost_from
   rest earlier = go (ruling s roots fee bumps earlier y)
     where
-      go : (t : Ruling) → ruling_cost s bumps earlier y + elim t [ Refuses why ↦ 0 | Passes a n i ↦ 0 ] ≡ 0
-      go (Refuses why) = omega (arith, second earlier)
-      go (Passes a n i) = omega (arith, second earlier)
+      go : (t : Ruling) → ruling_cost s bumps earlier y + elim t [ Err why ↦ 0 | Ok st ↦ 0 ] ≡ 0
+      go (Err why) = omega (arith, second earlier)
+      go (Ok st) = omega (arith, second earlier)
 
   both : cost_from (payment_of s) (ruling s roots fee bumps) (ruling_cost s bumps) [] (x ∷ y ∷ []) ≡ cost
   unfolding cost_from
   both = go (ruling s roots fee bumps [] x)
     where
-      go : (t : Ruling) → ruling_cost s bumps [] x + elim t [ Refuses why ↦ 0 | Passes a n i ↦ cost_from (payment_of s) (ruling s roots fee bumps) (ruling_cost s bumps) ([] ++ (payment_of s x ∷ [])) (y ∷ []) ] ≡ cost
-      go (Refuses why) = omega (arith, first)
-      go (Passes a n i) = omega (arith, first, rest ([] ++ (payment_of s x ∷ [])))
+      go : (t : Ruling) → ruling_cost s bumps [] x + elim t [ Err why ↦ 0 | Ok st ↦ cost_from (payment_of s) (ruling s roots fee bumps) (ruling_cost s bumps) ([] ++ (payment_of s x ∷ [])) (y ∷ []) ] ≡ cost
+      go (Err why) = omega (arith, first)
+      go (Ok st) = omega (arith, first, rest ([] ++ (payment_of s x ∷ [])))
 
 -- ---- 004's
 
@@ -124,7 +121,7 @@ first-id : entry_id bundle (get_or read.entries 0 empty_entry) ≡ id
 unfolding bundle beef_of read id txid each many whole F.byte F.bytes F.varint L.holds L.offset_field L.flag_field L.kind_field L.carried_field L.leaf_field L.level_field L.level_of_turn block_field height_up_to bump_up_to script_field input_field takes output_field outputs_field some_field list_field fields_by tx_field_by version_field bump_count_field bumps_up_to tx_count_field bump_number_field anchor_field entry_field entries_field beef_up_to ◌⊞◌ ◌⊕◌ not32 shl shr rotr Ch Maj Σ0 Σ1 σ0 σ1 K big_endian word4 zeros padding pad word words H0 W schedule T1 T2 round rounds plus compress H hash_value digest sha256 sha256d
 first-id = refl
 
-starts : least_offset bundle id (get_or (nth_bump read.bumps 0).levels 0 []) ≡ At 21
+starts : least_offset bundle id (get_or (nth_bump read.bumps 0).levels 0 []) ≡ Some 21
 unfolding bundle beef_of read id least_offset hash_at carries lesser same each many whole F.byte F.bytes F.varint L.holds L.offset_field L.flag_field L.kind_field L.carried_field L.leaf_field L.level_field L.level_of_turn block_field height_up_to bump_up_to script_field input_field takes output_field outputs_field some_field list_field fields_by tx_field_by version_field bump_count_field bumps_up_to tx_count_field bump_number_field anchor_field entry_field entries_field beef_up_to
 starts = refl
 
@@ -330,7 +327,7 @@ entries_are : read.entries ≡ get_or read.entries 0 empty_entry ∷ get_or read
 unfolding bundle beef_of read each many whole F.byte F.bytes F.varint L.holds L.offset_field L.flag_field L.kind_field L.carried_field L.leaf_field L.level_field L.level_of_turn block_field height_up_to bump_up_to script_field input_field takes output_field outputs_field some_field list_field fields_by tx_field_by version_field bump_count_field bumps_up_to tx_count_field bump_number_field anchor_field entry_field entries_field beef_up_to
 entries_are = refl
 
-anchored : ((get_or read.entries 0 empty_entry).anchor ≡ InBump 0) × ((get_or read.entries 1 empty_entry).anchor ≡ Unanchored)
+anchored : ((get_or read.entries 0 empty_entry).anchor ≡ Some 0) × ((get_or read.entries 1 empty_entry).anchor ≡ None)
 unfolding bundle beef_of read each many whole F.byte F.bytes F.varint L.holds L.offset_field L.flag_field L.kind_field L.carried_field L.leaf_field L.level_field L.level_of_turn block_field height_up_to bump_up_to script_field input_field takes output_field outputs_field some_field list_field fields_by tx_field_by version_field bump_count_field bumps_up_to tx_count_field bump_number_field anchor_field entry_field entries_field beef_up_to
 anchored = (refl, refl)
 

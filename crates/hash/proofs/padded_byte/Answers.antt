@@ -1,5 +1,5 @@
 -- Each return is a part of the padded message: the message, the bit 1, the zeros, the length.
-use Rattle.std.proofs.Common.{sym, ◌∙◌, arith}
+use Rattle.std.proofs.Common.{sym, arith}
 use Rattle.hash.proofs.Padding.{pad-front, pad-one, pad-zero, pad-length}
 use Rattle.hash.proofs.padded_byte.Goals as goal
 
@@ -13,4 +13,4 @@ pub returns-then-i-end : goal.returns-then-i-end
 returns-then-i-end c = sym (pad-zero c.args.s.now c.args.i (omega arith) (omega arith))
 
 pub returns : goal.returns
-returns c = c.byte.ensures ∙ sym (pad-length c.args.s.now c.args.i (omega arith) (omega arith))
+returns c = rw c.to_be_bytes-bits.ensures (sym (pad-length c.args.s.now c.args.i (omega arith) (omega arith)))

@@ -1,10 +1,10 @@
-use Rattle.page.specs.Page.{answer_by, answer_of}
+use Rattle.page.specs.Page.{answer_of}
 use Rattle.page.proofs.answer_of.Goals as goal
 
-pub returns-in-Accepted : goal.returns-in-Accepted
-unfolding answer_of answer_by
-returns-in-Accepted c = rw c.in-Accepted.is
+pub returns-in-Ok : goal.returns-in-Ok
+unfolding answer_of
+returns-in-Ok c = rw c.in-Ok.is
 
-pub returns-in-Refused : goal.returns-in-Refused
-unfolding answer_of answer_by
-returns-in-Refused c = rw c.in-Refused.is
+pub returns-in-Err : goal.returns-in-Err
+unfolding answer_of
+returns-in-Err c = rw c.in-Err.is

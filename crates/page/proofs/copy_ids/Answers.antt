@@ -10,11 +10,8 @@ loop-row-init c = (refl, copied_none _ _)
 pub loop-row-preserved : goal.loop-row-preserved
 loop-row-preserved c = (
   c.set_hash.auto.list ∙ c.loop-row.invariant.0,
-  rw (c.set_hash.ensures, c.hash_at.ensures) (copied_on _ _ _ (omega (arith, c.loop-row-test.true, c.requires.ids_len_bound)) (omega (arith, c.requires.in_bounds, c.loop-row.invariant.0)) (hash-at-length _ _) c.loop-row.invariant.1),
+  rw (c.set_hash.ensures, c.hash_at.ensures) (copied_on _ _ _ (omega arith) (omega arith) (hash-at-length _ _) c.loop-row.invariant.1),
 )
 
-pub shape_of-roots : goal.shape_of-roots
-shape_of-roots c = c.loop-row.invariant.0
-
 pub returns : goal.returns
-returns c = copied_all _ _ _ _ c.loop-row-test.false c.loop-row.invariant.1
+returns c = copied_all _ _ _ _ (omega arith) c.loop-row.invariant.1

@@ -1,4 +1,3 @@
-use Prim.Native.Nat.{◌-◌}
 use mathlib.Core.Path.{◌≡◌}
 use lib.ListN.{length}
 use Rattle.page.specs.Flat.{Copied}
@@ -6,6 +5,3 @@ use Rattle.page.proofs.copy_ids.Given as goal
 
 abbrev pub invariant-loop-row : goal.invariant-loop-row
 invariant-loop-row l = (length l.roots ≡ length l.initial.roots) × Copied l.ids l.row l.roots
-
-abbrev pub decreases-loop-row : goal.decreases-loop-row
-decreases-loop-row l = l.count - l.row

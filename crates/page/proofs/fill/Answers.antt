@@ -9,10 +9,10 @@ loop-i-init c = (omega arith, up_to_none (flat_answer c.args.roots.now c.args.nu
 pub loop-i-preserved : goal.loop-i-preserved
 loop-i-preserved c =
     let long = ap length c.loop-i.invariant.1 ∙ up_to_length (flat_answer c.args.roots.now c.args.numbers.now c.args.count) c.args.row.now c.loop-i.i c.loop-i.invariant.0 in
-    let low : c.loop-i.i < length c.args.row.now = omega (arith, c.loop-i-test.true) in
+    let low : c.loop-i.i < length c.args.row.now = omega arith in
     (omega arith, ap (λ t. slice_set t c.loop-i.i c.flat_answer.result) c.loop-i.invariant.1 ∙ up_to_more (flat_answer c.args.roots.now c.args.numbers.now c.args.count) c.args.row.now c.loop-i.i c.flat_answer.result low c.flat_answer.ensures)
 
 pub returns : goal.returns
 returns c =
     let long = ap length c.loop-i.invariant.1 ∙ up_to_length (flat_answer c.args.roots.now c.args.numbers.now c.args.count) c.args.row.now c.loop-i.i c.loop-i.invariant.0 in
-    c.loop-i.invariant.1 ∙ up_to_all (flat_answer c.args.roots.now c.args.numbers.now c.args.count) c.args.row.now c.loop-i.i (omega (arith, c.loop-i-test.false))
+    c.loop-i.invariant.1 ∙ up_to_all (flat_answer c.args.roots.now c.args.numbers.now c.args.count) c.args.row.now c.loop-i.i (omega arith)

@@ -1,6 +1,9 @@
+use mathlib.Core.Path.{◌∙◌}
+use lib.ListN.{length}
+use Rattle.barrowtide.proofs.InterfaceLaws.{told_number, told_blame, told_value}
 use Rattle.barrowtide.proofs.convert.barrowtide_bump_to_tsc.Goals as goal
 
 pub returns : goal.returns
 returns c =
-    let t = c.tell.ensures _ c.bump_to_tsc-answer.ensures.0 in
-    (t.0, c.bump_to_tsc-answer.ensures.1, t.1, t.2)
+    let e = c.bump_to_tsc-answer.ensures.0 in
+    (c.tell_count.ensures.0 ∙ told_number length _ e, c.bump_to_tsc-answer.ensures.1, c.tell_count.ensures.1 ∙ told_blame length _ e _, c.tell_count.ensures.2 ∙ told_value length _ e (λ n. n) _)

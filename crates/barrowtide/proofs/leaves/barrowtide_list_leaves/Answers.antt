@@ -1,6 +1,9 @@
+use mathlib.Core.Path.{◌∙◌}
+use lib.ListN.{length}
+use Rattle.barrowtide.proofs.InterfaceLaws.{told_number, told_blame, told_value}
 use Rattle.barrowtide.proofs.leaves.barrowtide_list_leaves.Goals as goal
 
 pub returns : goal.returns
 returns c =
-    let t = c.tell_built.ensures _ c.build-answer.ensures.value in
-    (t.0, c.build-answer.ensures.out_after, t.1, t.2)
+    let e = c.build-answer.ensures.value in
+    (c.tell_count.ensures.0 ∙ told_number length _ e, c.build-answer.ensures.out_after, c.tell_count.ensures.1 ∙ told_blame length _ e _, c.tell_count.ensures.2 ∙ told_value length _ e (λ n. n) _)

@@ -2,8 +2,8 @@ use mathlib.Core.Path.{sym, ◌∙◌}
 use Rattle.barrowtide.proofs.OrderingLaws.{told-accepted, told-refused}
 use Rattle.barrowtide.proofs.ordering.tell.Goals as goal
 
-pub returns-in-Accepted : goal.returns-in-Accepted
-returns-in-Accepted c = λ v h. told-accepted v _ _ (sym c.in-Accepted.is ∙ h)
+pub returns-in-Ok : goal.returns-in-Ok
+returns-in-Ok c = λ v h. told-accepted v _ _ (sym c.in-Ok.is ∙ h)
 
-pub returns-in-Refused : goal.returns-in-Refused
-returns-in-Refused c = λ v h. told-refused v _ _ _ _ (sym c.in-Refused.is ∙ h) c.blame_of.ensures
+pub returns-in-Err : goal.returns-in-Err
+returns-in-Err c = λ v h. let t = told-refused v c.in-Err.refusal _ _ (sym c.in-Err.is ∙ h) in (c.refuse.ensures.0 ∙ t.0, c.refuse.ensures.1 ∙ t.1, t.2)

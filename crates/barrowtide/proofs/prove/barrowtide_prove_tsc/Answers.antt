@@ -1,16 +1,16 @@
-use mathlib.Core.Path.{sym, ◌∙◌}
+use mathlib.Core.Path.{ap, sym, ◌∙◌}
+use Rattle.spv.proofs.ResultLaws.{answered-ok, answered-err}
+use Rattle.spv.specs.declared.prove.Proved.{Proved}
 use Rattle.barrowtide.proofs.InterfaceLaws.{refused-number, refused-blame, refused-taken, given-number, given-blame, given-taken}
-use Rattle.spv.proofs.ShapesLaws.{told-accepted}
-use Rattle.spv.proofs.ShapesLaws.{told_unproved}
 use Rattle.barrowtide.proofs.prove.barrowtide_prove_tsc.Goals as goal
 
-pub returns-in-Refused : goal.returns-in-Refused
-returns-in-Refused c =
-    let e = told_unproved _ _ _ c.prove_tsc-proved.ensures c.in-Refused.is in
-    (refused-number _ e, c.blame_of.ensures ∙ refused-blame _ _ e, refused-taken _ _ _ e, refused-taken _ _ _ e, refused-taken _ _ _ e, refused-taken _ _ _ e)
-
-pub returns-in-Accepted : goal.returns-in-Accepted
-returns-in-Accepted c =
-    let t = told-accepted _ _ _ _ c.prove_tsc-proved.ensures c.in-Accepted.is in
+pub returns-in-Ok : goal.returns-in-Ok
+returns-in-Ok c =
+    let t = answered-ok _ _ _ c.in-Ok.ensures in
     let e = t.1 in
-    (given-number _ e, given-blame _ _ e, sym t.5 ∙ given-taken _ _ _ e, sym t.3 ∙ given-taken _ _ _ e, sym t.4 ∙ given-taken _ _ _ e, sym t.2 ∙ given-taken _ _ _ e)
+    (given-number _ e, given-blame _ _ e, ap (λ (p : Proved). p.id) (sym t.2) ∙ given-taken _ _ _ e, ap (λ (p : Proved). p.position) (sym t.2) ∙ given-taken _ _ _ e, ap (λ (p : Proved). p.layers) (sym t.2) ∙ given-taken _ _ _ e, ap (λ (p : Proved). p.root) (sym t.2) ∙ given-taken _ _ _ e)
+
+pub returns-in-Err : goal.returns-in-Err
+returns-in-Err c =
+    let e = answered-err _ _ _ c.in-Err.ensures in
+    (c.refuse.ensures.0 ∙ refused-number _ e, c.refuse.ensures.1 ∙ refused-blame _ _ e, refused-taken _ _ _ e, refused-taken _ _ _ e, refused-taken _ _ _ e, refused-taken _ _ _ e)

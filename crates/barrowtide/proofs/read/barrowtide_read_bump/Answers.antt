@@ -1,16 +1,16 @@
-use Rattle.format.proofs.ParseLaws.{answered, each-ok, each-fault}
-use Rattle.format.specs.Bump.{bump_answer, head_of}
+use mathlib.Core.Path.{sym, ◌∙◌}
+use Rattle.format.proofs.ParseLaws.{each-ok, each-fault}
+use Rattle.format.specs.Bump.{head_of}
 use Rattle.barrowtide.proofs.InterfaceLaws.{refused-number, refused-blame, refused-taken, given-number, given-blame, given_view, reading-fault, reading-ok}
 use Rattle.barrowtide.proofs.read.barrowtide_read_bump.Goals as goal
 
-pub returns-in_default : goal.returns-in_default
-returns-in_default c =
-    let e = reading-fault _ (each-fault head_of _ (answered bump_answer c.read_bump-answer.ensures c.in_default.is)) in
-    rw (c.refusal-refusal.ensures, c.in_default.is)
-    (refused-number _ e, refused-blame _ _ e, refused-taken _ _ _ e, refused-taken _ _ _ e, refused-taken _ _ _ e)
-
-pub returns : goal.returns
-returns c =
-    let e = answered bump_answer c.read_bump-answer.ensures c.in-Value.is in
+pub returns-in-Ok : goal.returns-in-Ok
+returns-in-Ok c =
+    let e = sym c.in-Ok.ensures in
     let x = reading-ok _ (each-ok head_of _ e).1 in
     (given-number _ x, given-blame _ _ x, given_view head_of (λ h. h.block) _ _ e, given_view head_of (λ h. h.height) _ _ e, given_view head_of (λ h. h.leaves) _ _ e)
+
+pub returns-in-Err : goal.returns-in-Err
+returns-in-Err c =
+    let e = reading-fault _ (each-fault head_of _ (sym c.in-Err.ensures)) in
+    (c.refuse_reading.ensures.0 ∙ refused-number _ e, c.refuse_reading.ensures.1 ∙ refused-blame _ _ e, refused-taken _ _ _ e, refused-taken _ _ _ e, refused-taken _ _ _ e)

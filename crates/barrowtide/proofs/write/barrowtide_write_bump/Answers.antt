@@ -1,6 +1,9 @@
+use mathlib.Core.Path.{◌∙◌}
+use lib.ListN.{length}
+use Rattle.barrowtide.proofs.InterfaceLaws.{told_number, told_blame, told_value}
 use Rattle.barrowtide.proofs.write.barrowtide_write_bump.Goals as goal
 
 pub returns : goal.returns
 returns c =
-    let t = c.tell.ensures _ c.write_bump-answer.ensures.0 in
-    (t.0, c.write_bump-answer.ensures.1, t.1, t.2)
+    let e = c.write_bump-answer.ensures.0 in
+    (c.tell_count.ensures.0 ∙ told_number length _ e, c.write_bump-answer.ensures.1, c.tell_count.ensures.1 ∙ told_blame length _ e _, c.tell_count.ensures.2 ∙ told_value length _ e (λ n. n) _)

@@ -19,13 +19,13 @@ pub repeated-requires : goal.repeated-requires
 repeated-requires c = omega (arith, c.loop-i.invariant.low)
 
 pub returns-then-repeated : goal.returns-then-repeated
-returns-then-repeated c = differing-stop _ _ _ c.loop-i-test.true c.loop-i.invariant c.slot-s.ensures.0 c.repeated.ensures c.if-repeated.true
+returns-then-repeated c = differing-stop _ _ _ (omega arith) c.loop-i.invariant c.slot-s.ensures.0 c.repeated.ensures c.if-repeated.true
 
 pub bounds-taken-s-in-loop-i : goal.bounds-taken-s-in-loop-i
 bounds-taken-s-in-loop-i c = omega (arith, c.loop-i.invariant.long, c.slot-s.ensures.1)
 
 pub loop-i-preserved : goal.loop-i-preserved
-loop-i-preserved c = differing_on _ _ _ c.loop-i-test.true c.loop-i.invariant c.slot-s.ensures.0 c.repeated.ensures c.if-repeated.false
+loop-i-preserved c = differing_on _ _ _ (omega arith) c.loop-i.invariant c.slot-s.ensures.0 c.repeated.ensures c.if-repeated.false
 
 pub returns : goal.returns
-returns c = differing-end _ _ _ c.loop-i-test.false c.loop-i.invariant
+returns c = differing-end _ _ _ (omega arith) c.loop-i.invariant

@@ -1,8 +1,5 @@
-use Rattle.block.proofs.LeavesLaws.{text-nothing, text-plain, text-copy, text-client}
+use Rattle.block.proofs.LeavesLaws.{text-plain, text-copy, text-client}
 use Rattle.block.proofs.level.write_leaf.Goals as goal
-
-pub returns-in-Nothing : goal.returns-in-Nothing
-returns-in-Nothing c = text-nothing _ _ _ _ _ _ c.in-Nothing.is
 
 pub returns-in-Plain : goal.returns-in-Plain
 returns-in-Plain c = text-plain _ _ _ _ _ _ c.in-Plain.is c.write_hashed.ensures

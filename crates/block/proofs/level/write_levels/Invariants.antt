@@ -1,5 +1,5 @@
 use mathlib.Core.Path.{◌≡◌}
-use Prim.Native.Nat.{ℕ, ◌-◌, ◌≤◌}
+use Prim.Native.Nat.{ℕ, ◌≤◌}
 use mathlib.Core.List.{List}
 use lib.ListN.{length}
 use Rattle.spv.specs.Hashes.{hashes_of}
@@ -12,6 +12,3 @@ use Rattle.block.proofs.level.write_levels.Given as goal
 
 abbrev pub invariant-loop-k : goal.invariant-loop-k
 invariant-loop-k l = Level l.height l.k l.width × (l.count ≤ 1024) × (length l.out ≡ length l.initial.out) × ((chosen : List ℕ) → Ready l.ids l.heap l.marks chosen l.height l.n → (l.count ≡ layer_size (hashes_of l.ids) l.k) × (write_on (buffer l.initial.out l.at) (rest l.ids chosen l.height 0) ≡ write_on (buffer l.out l.next) (rest l.ids chosen l.height l.k)))
-
-abbrev pub decreases-loop-k : goal.decreases-loop-k
-decreases-loop-k l = l.height - l.k

@@ -9,6 +9,3 @@ use Rattle.block.proofs.tree.climb_chosen.Given as goal
 
 abbrev pub invariant-loop-i : goal.invariant-loop-i
 invariant-loop-i l = (l.i ≤ l.n) × ((chosen : List ℕ) → Grown l.ids l.heap l.height → Marked l.marks chosen l.height → climbs_from (hashes_of l.ids) chosen l.i (l.n - l.i) ≡ climbs_from (hashes_of l.ids) chosen 0 l.n)
-
-abbrev pub decreases-loop-i : goal.decreases-loop-i
-decreases-loop-i l = l.n - l.i

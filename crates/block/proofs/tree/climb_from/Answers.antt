@@ -7,13 +7,13 @@ pub loop-k-init : goal.loop-k-init
 loop-k-init c = (level-start _ _ (omega arith), omega arith, λ g b. climb_start g _ b)
 
 pub has_twin-requires : goal.has_twin-requires
-has_twin-requires c = let w = level-small _ _ _ c.loop-k.invariant.0 c.loop-k-test.true (omega arith) in (omega arith, omega arith)
+has_twin-requires c = let w = level-small _ _ _ c.loop-k.invariant.0 (omega arith) (omega arith) in (omega arith, omega arith)
 
 pub returns-then-has_twin : goal.returns-then-has_twin
-returns-then-has_twin c = λ g b. climb_twin g _ _ _ c.loop-k.invariant.0 c.loop-k-test.true (c.loop-k.invariant.2 g b).inside _ (sym c.has_twin.ensures ∙ c.if-has_twin.true) (c.loop-k.invariant.2 g b) c.sibling_position-sibling.ensures
+returns-then-has_twin c = λ g b. rw c.number.ensures (climb_twin g _ _ _ c.loop-k.invariant.0 (omega arith) (c.loop-k.invariant.2 g b).inside _ (sym c.has_twin.ensures ∙ c.if-has_twin.true) (c.loop-k.invariant.2 g b) c.sibling_position.ensures)
 
 pub loop-k-preserved : goal.loop-k-preserved
-loop-k-preserved c = (level_on _ _ _ c.loop-k.invariant.0 c.loop-k-test.true, omega arith, λ g b. climb_on g _ _ _ c.loop-k.invariant.0 c.loop-k-test.true (c.loop-k.invariant.2 g b).inside _ (sym c.has_twin.ensures ∙ c.if-has_twin.false) (c.loop-k.invariant.2 g b))
+loop-k-preserved c = (level_on _ _ _ c.loop-k.invariant.0 (omega arith), omega arith, λ g b. climb_on g _ _ _ c.loop-k.invariant.0 (omega arith) (c.loop-k.invariant.2 g b).inside _ (sym c.has_twin.ensures ∙ c.if-has_twin.false) (c.loop-k.invariant.2 g b))
 
 pub returns : goal.returns
-returns c = λ g b. climb_end _ _ _ _ _ c.loop-k-test.false (c.loop-k.invariant.2 g b)
+returns c = λ g b. climb_end _ _ _ _ _ (omega arith) (c.loop-k.invariant.2 g b)

@@ -1,4 +1,4 @@
-use Prim.Native.Nat.{ℕ, ◌+◌, ◌-◌, ◌≤◌, ◌<◌}
+use Prim.Native.Nat.{ℕ, ◌+◌, ◌≤◌, ◌<◌}
 use mathlib.Core.Path.{◌≡◌}
 use lib.ListN.{length, get_or}
 use Rattle.format.specs.Refusals.{MAX_BUMPS}
@@ -6,7 +6,4 @@ use Rattle.bundle.specs.Anchored.{Right}
 use Rattle.bundle.proofs.anchored.climb_bumps.Given as goal
 
 abbrev pub invariant-loop-b : goal.invariant-loop-b
-invariant-loop-b l = (length l.bumps ≡ MAX_BUMPS) × (length l.ends ≡ length l.initial.ends) × (l.b ≤ l.last) × (l.last + 1 ≡ l.count) × ((i : ℕ) → i < l.n → get_or l.anchors i 0 < l.b → Right l.s l.roots l.bumps l.anchors l.ids l.ends i)
-
-abbrev pub decreases-loop-b : goal.decreases-loop-b
-decreases-loop-b l = l.last - l.b
+invariant-loop-b l = (length l.bumps ≡ MAX_BUMPS) × (l.b ≤ l.last) × (l.last + 1 ≡ l.count) × ((i : ℕ) → i < l.n → get_or l.anchors i 0 < l.b → Right l.s l.roots l.bumps l.anchors l.ids l.ends i)

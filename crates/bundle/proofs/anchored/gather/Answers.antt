@@ -1,16 +1,13 @@
-use mathlib.Core.Path.{◌≡◌, refl, ap, ◌∙◌}
+use mathlib.Core.Path.{refl, ap, ◌∙◌}
 use native.Mathlib.Omega.{arith}
 use borrow.Author.Rules.{rules}
 use lib.ListN.{length, length-set}
 use Rattle.format.proofs.BytesLaws.{hash-at-length}
-use Rattle.bundle.proofs.AnchoredLaws.{gathered_none, gathered_past, gathered_one}
+use Rattle.bundle.proofs.AnchoredLaws.{gathered_none, gathered_one}
 use Rattle.bundle.proofs.anchored.gather.Goals as goal
 
 pub loop-i-init : goal.loop-i-init
 loop-i-init c = (search rules, search rules, refl, refl, gathered_none _ _ _ _ _)
-
-pub loop-i-preserved-then-anchors-i : goal.loop-i-preserved-then-anchors-i
-loop-i-preserved-then-anchors-i c = (search rules, search rules, c.loop-i.invariant.2, c.loop-i.invariant.3, gathered_past _ _ _ c.loop-i.invariant.4 c.if-anchors-i.true)
 
 pub loop-i-preserved : goal.loop-i-preserved
 loop-i-preserved c = (
@@ -20,14 +17,3 @@ loop-i-preserved c = (
   c.set_hash.auto.list ∙ c.loop-i.invariant.3,
   gathered_one _ _ _ c.loop-i.invariant.4 c.if-anchors-i.false (omega arith) (omega arith) c.hash_at-id.ensures (ap length c.hash_at-id.ensures ∙ hash-at-length _ _) c.set_hash.ensures,
 )
-
-pub shape_of-slots : goal.shape_of-slots
-shape_of-slots c = c.loop-i.invariant.2
-
-pub shape_of-hashes : goal.shape_of-hashes
-shape_of-hashes c = c.loop-i.invariant.3
-
-pub returns : goal.returns
-returns c =
-    let all : c.loop-i.i ≡ c.args.n = omega arith in
-    rw all at c.loop-i.invariant.4

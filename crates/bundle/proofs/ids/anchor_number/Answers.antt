@@ -2,10 +2,10 @@ use mathlib.Core.Path.{sym, ap}
 use Rattle.bundle.specs.Ahead.{anchor_of}
 use Rattle.bundle.proofs.ids.anchor_number.Goals as goal
 
-pub returns-in-Bump : goal.returns-in-Bump
+pub returns-in-Some : goal.returns-in-Some
 unfolding anchor_of
-returns-in-Bump c = sym (ap anchor_of c.in-Bump.is)
+returns-in-Some c = sym (ap anchor_of c.in-Some.is)
 
-pub returns-in-Unanchored : goal.returns-in-Unanchored
+pub returns-in-None : goal.returns-in-None
 unfolding anchor_of
-returns-in-Unanchored c = sym (ap anchor_of c.in-Unanchored.is)
+returns-in-None c = sym (ap anchor_of c.in-None.is)

@@ -1,8 +1,9 @@
+use Rattle.std.proofs.lemmas.Result.{err_from_is_err_and}
 use Rattle.bundle.proofs.BundleRead.{settle-none, settle-fault}
 use Rattle.bundle.proofs.judge.settle.Goals as goal
 
-pub returns-then-number-eq0 : goal.returns-then-number-eq0
-returns-then-number-eq0 c = settle-none _ _ c.if-number-eq0.true
+pub returns-in_err-amounts : goal.returns-in_err-amounts
+returns-in_err-amounts c = let p = err_from_is_err_and c.from_residual.result c.from_residual.ensures.1 in rw (p.1, p.2) (settle-fault _ c.in_err-amounts.was)
 
 pub returns : goal.returns
-returns c = settle-fault _ _ c.if-number-eq0.false c.reject.ensures c.blame.ensures
+returns c = settle-none _ c.in_ok-amounts.was

@@ -4,8 +4,5 @@ use Rattle.spv.specs.Hashes.{hashes_of, Distinct}
 use Rattle.bundle.specs.FlatForm.{exist_from}
 use Rattle.bundle.proofs.outputs.outputs_there.Given as goal
 
-abbrev pub invariant-loop-i : goal.invariant-loop-i
-invariant-loop-i l = (l.i ≤ l.count) × (Distinct (hashes_of l.ids) → exist_from l.s (hashes_of l.ids) l.numbers (l.count - l.i) l.next.at ≡ exist_from l.s (hashes_of l.ids) l.numbers l.count l.initial.next.at)
-
-abbrev pub decreases-loop-i : goal.decreases-loop-i
-decreases-loop-i l = l.count - l.i
+abbrev pub invariant-loop : goal.invariant-loop
+invariant-loop l = (l.counter ≤ l.count) × (Distinct (hashes_of l.ids) → exist_from l.s (hashes_of l.ids) l.numbers (l.count - l.counter) l.next.at ≡ exist_from l.s (hashes_of l.ids) l.numbers l.count l.initial.next.at)

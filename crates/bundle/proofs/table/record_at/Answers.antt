@@ -1,6 +1,8 @@
 use mathlib.Core.Path.{◌∙◌}
-use borrow.Author.Tests.{lt-ltb, le-ltb, lt-leb, le-leb}
-use Rattle.bundle.specs.Table.{flat_record}
+use native.Mathlib.Omega.{arith}
+use lib.ListN.{length}
+use borrow.Author.Tests.{lt-ltb, le-ltb, le-leb}
+use Rattle.bundle.specs.Table.{NUMBERS_ROOM, flat_record}
 use Rattle.bundle.proofs.table.record_at.Goals as goal
 
 pub returns-then-count-row : goal.returns-then-count-row
@@ -11,10 +13,6 @@ pub returns-then-row-ge-MAX_TRANSACTIONS : goal.returns-then-row-ge-MAX_TRANSACT
 unfolding flat_record
 returns-then-row-ge-MAX_TRANSACTIONS c = c.blank-then-row-ge-MAX_TRANSACTIONS.ensures ∙ simp (lt-ltb _ _ c.if-count-row.false, le-ltb _ _ c.if-row-ge-MAX_TRANSACTIONS.true)
 
-pub returns-then-numbers-lt-NUMBERS_ROOM : goal.returns-then-numbers-lt-NUMBERS_ROOM
-unfolding flat_record
-returns-then-numbers-lt-NUMBERS_ROOM c = c.blank-then-numbers-lt-NUMBERS_ROOM.ensures ∙ simp (lt-ltb _ _ c.if-count-row.false, lt-ltb _ _ c.if-row-ge-MAX_TRANSACTIONS.false, lt-leb _ _ c.if-numbers-lt-NUMBERS_ROOM.true)
-
 pub returns : goal.returns
 unfolding flat_record
-returns c = rw c.hash_at-id.ensures (simp (lt-ltb _ _ c.if-count-row.false, lt-ltb _ _ c.if-row-ge-MAX_TRANSACTIONS.false, le-leb _ _ c.if-numbers-lt-NUMBERS_ROOM.false))
+returns c = rw c.hash_at-id.ensures (simp (lt-ltb _ _ c.if-count-row.false, lt-ltb _ _ c.if-row-ge-MAX_TRANSACTIONS.false, le-leb NUMBERS_ROOM (length c.args.numbers.now) (omega arith)))

@@ -1,4 +1,4 @@
-use mathlib.Core.Path.{◌≡◌, refl}
+use mathlib.Core.Path.{refl}
 use borrow.Author.Rules.{rules}
 use native.Mathlib.Omega.{arith}
 use Rattle.bundle.specs.Windows.{sum_to}
@@ -10,15 +10,7 @@ pub loop-k-init : goal.loop-k-init
 unfolding sum_to
 loop-k-init c = (omega arith, refl, omega arith)
 
-pub overflow_add-joins : goal.overflow_add-joins
-overflow_add-joins c = record { fits = omega arith }
-
 pub loop-k-preserved : goal.loop-k-preserved
 loop-k-preserved c =
     let one = sum_one (kept_joins c.args.anchors.now c.args.ends.now) c.loop-k.k in
     (search rules, omega arith, omega arith)
-
-pub returns : goal.returns
-returns c =
-    let all : c.loop-k.k ≡ c.args.n = omega arith in
-    (rw (← all) c.loop-k.invariant.1, rw (← all) c.loop-k.invariant.2)

@@ -1,13 +1,11 @@
-use Rattle.std.proofs.Common.{sym, ap, ◌∙◌}
-use Rattle.spv.specs.Climb.{absent}
+use Rattle.std.proofs.Common.{ap, ◌∙◌}
 use Rattle.spv.specs.Siblings.{sibling}
-use Rattle.spv.proofs.ShapesLaws.{node-says}
 use Rattle.climbs.proofs.lookup.node_at.Goals as goal
 
-pub returns-in-Here : goal.returns-in-Here
+pub returns-in-Some : goal.returns-in-Some
 unfolding sibling
-returns-in-Here c = node-says _ _ c.written_node.ensures ∙ sym (ap (sibling c.args.s.now) (sym c.find_in_level-found.ensures ∙ c.in-Here.is))
+returns-in-Some c = c.written_node.ensures ∙ ap (sibling c.args.s.now) c.in-Some.ensures
 
-pub returns-in-Missing : goal.returns-in-Missing
+pub returns-in-None : goal.returns-in-None
 unfolding sibling
-returns-in-Missing c = node-says _ absent c.absent_node.ensures ∙ sym (ap (sibling c.args.s.now) (sym c.find_in_level-found.ensures ∙ c.in-Missing.is))
+returns-in-None c = ap (sibling c.args.s.now) c.in-None.ensures

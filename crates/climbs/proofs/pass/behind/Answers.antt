@@ -1,39 +1,11 @@
-use Rattle.std.proofs.Common.{◌≡◌, ℕ, ◌<◌, length, get_or, arith, rules}
-use Rattle.climbs.specs.Row.{Rows}
-use Rattle.climbs.proofs.PassLaws.{reached-none, reached-more, reached_less}
+use Rattle.std.proofs.Common.{ℕ, ltb, List, get_or, sym, ap, ◌∙◌, rules, tests}
+use Rattle.std.specs.List.{list_any}
+use Rattle.std.proofs.lemmas.Iterator.{YieldsList-from_slice}
+use Rattle.std.proofs.lemmas.Iterator.Search.{any_from_yields_List}
+use Rattle.climbs.proofs.PassLaws.{none-below}
 use Rattle.climbs.proofs.pass.behind.Goals as goal
 
-pub loop-i-init : goal.loop-i-init
-loop-i-init c = reached-none _ _ _ _
-
-pub offset_bounds-order-i : goal.offset_bounds-order-i
-offset_bounds-order-i c = let l : c.loop-i.i < length c.args.order.now = omega arith in search rules
-
-pub bounds-order-i : goal.bounds-order-i
-bounds-order-i c = omega arith
-
-pub overflow_cast-row : goal.overflow_cast-row
-overflow_cast-row c = omega (arith, c.shared_slice_known-1.given c.loop-i.i)
-
-pub offset_bounds-states-row : goal.offset_bounds-states-row
-unfolding Rows
-offset_bounds-states-row c = let l = c.requires.1 c.loop-i.i (omega arith) in search rules
-
-pub bounds-states-row : goal.bounds-states-row
-unfolding Rows
-bounds-states-row c = c.requires.1 c.loop-i.i (omega arith)
-
-pub overflow_cast-state : goal.overflow_cast-state
-overflow_cast-state c = omega (arith, c.shared_slice_known-in-loop-i-1.given (get_or c.args.order.now c.loop-i.i 0))
-
-pub returns-then-state-layer : goal.returns-then-state-layer
-returns-then-state-layer c = λ e. let z : ◌≡◌ {A = ℕ} 0 1 = cc in absurd (omega arith)
-
-pub overflow_add-i : goal.overflow_add-i
-overflow_add-i c = omega arith
-
-pub loop-i-preserved : goal.loop-i-preserved
-loop-i-preserved c = reached-more _ _ _ _ _ c.loop-i.invariant c.if-state-layer.false
-
 pub returns : goal.returns
-returns c = λ e. reached_less _ _ _ _ _ _ c.loop-i-test.false c.loop-i.invariant
+returns c e =
+    let found = any_from_yields_List (λ (row : ℕ). ltb (get_or c.args.states.now row 0) c.args.layer) _ _ c.any.result c.any.ensures.ran (YieldsList-from_slice c.iter.result.rest.now cc) (λ x b q k. search (rules, tests)) in
+    none-below _ _ _ _ _ c.requires.1 (ap (λ (rest : List ℕ). list_any (λ (row : ℕ). ltb (get_or c.args.states.now row 0) c.args.layer) rest) (sym c.iter.ensures.rest) ∙ sym found ∙ e)

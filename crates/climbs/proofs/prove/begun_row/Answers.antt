@@ -2,10 +2,10 @@ use Rattle.std.proofs.Common.{sym, ap}
 use Rattle.climbs.specs.Begun.{begun_row}
 use Rattle.climbs.proofs.prove.begun_row.Goals as goal
 
-pub returns-in-At : goal.returns-in-At
+pub returns-in-Some : goal.returns-in-Some
 unfolding begun_row
-returns-in-At c = sym (ap begun_row c.in-At.is)
+returns-in-Some c = sym (ap begun_row c.in-Some.is)
 
-pub returns-in-Nowhere : goal.returns-in-Nowhere
+pub returns-in-None : goal.returns-in-None
 unfolding begun_row
-returns-in-Nowhere c = sym (ap begun_row c.in-Nowhere.is)
+returns-in-None c = sym (ap begun_row c.in-None.is)

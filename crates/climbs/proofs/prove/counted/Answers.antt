@@ -5,5 +5,5 @@ use Rattle.climbs.proofs.prove.counted.Goals as goal
 pub returns-then-count-costs : goal.returns-then-count-costs
 returns-then-count-costs c = sym (counted-all c.args.count c.args.costs c.if-count-costs.true)
 
-pub returns : goal.returns
-returns c = sym (counted_none c.args.count c.args.costs c.if-count-costs.false)
+pub returns-else-count-costs : goal.returns-else-count-costs
+returns-else-count-costs c = sym (counted_none c.args.count c.args.costs c.if-count-costs.false)

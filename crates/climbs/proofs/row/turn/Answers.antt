@@ -1,7 +1,7 @@
-use Rattle.std.proofs.Common.{ℕ, List, ap, ◌∙◌}
+use Rattle.std.proofs.Common.{List, ℕ, ap, ◌∙◌}
 use Rattle.spv.specs.Climb.{step}
-use Rattle.spv.specs.Shapes.{sibling_of, joined_of}
+use Rattle.spv.specs.Shapes.{sibling_of}
 use Rattle.climbs.proofs.row.turn.Goals as goal
 
 pub returns : goal.returns
-returns c = c.fold.ensures ∙ ap (λ (h : List ℕ). joined_of (step (sibling_of c.args.node) c.args.odd h)) c.hash_at-c.ensures
+returns c = c.fold.ensures ∙ ap (λ (h : List ℕ). step (sibling_of c.args.node) c.args.odd h) c.hash_at.ensures

@@ -8,11 +8,11 @@ use Rattle.conversion.proofs.ConvertLaws.{read-target, read-few, read_none, read
 use borrow.Author.Rules.{rules}
 use Rattle.conversion.proofs.from_tsc.write_proved.Goals as goal
 
-pub node_count_at-place-requires : goal.node_count_at-place-requires
-node_count_at-place-requires c = read-target _ _ _ c.requires
+pub node_count_at-requires : goal.node_count_at-requires
+node_count_at-requires c = read-target _ _ _ c.requires
 
 pub returns-then-n-eq0 : goal.returns-then-n-eq0
-returns-then-n-eq0 c = refused_so _ (read_none _ _ _ c.requires _ _ c.if-n-eq0.true _ c.node_count_at-place.ensures) c.reject_reading.ensures c.refuse.ensures
+returns-then-n-eq0 c = refused_so _ (read_none _ _ _ c.requires _ _ c.if-n-eq0.true _ c.node_count_at.ensures) c.reject_reading.ensures
 
 pub overflow_add-size : goal.overflow_add-size
 overflow_add-size c = let b = varint-length c.args.block in omega arith
@@ -26,7 +26,7 @@ overflow_add-size-2 c = let b = varint-length c.args.block in omega arith
 pub returns-then-out-size : goal.returns-then-out-size
 returns-then-out-size c =
     let size = read-size _ _ _ c.requires _ 0 c.varint_size.ensures (c.client_levels_size.ensures.0 _ (search rules)) in
-    refused_so _ (read_short _ _ _ c.requires _ _ c.if-n-eq0.false (omega arith)) c.reject.ensures c.refuse-then-out-size.ensures
+    refused_so _ (read_short _ _ _ c.requires _ _ c.if-n-eq0.false (omega arith)) c.reject.ensures
 
 pub overflow_cast-n : goal.overflow_cast-n
 overflow_cast-n c = let few = read-few _ _ _ c.requires in omega arith

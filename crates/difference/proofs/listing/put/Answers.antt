@@ -11,4 +11,4 @@ returns-then-not-write c = sym (put-counted _ _ _ _ _ _ c.if-room-at.false c.if-
 
 pub returns : goal.returns
 unfolding store
-returns c = sym (put_written _ _ _ _ _ _ c.if-room-at.false c.if-not-write.false)
+returns c = rw c.word.ensures (sym (put_written _ _ _ _ _ _ c.if-room-at.false c.if-not-write.false))

@@ -1,19 +1,18 @@
+use mathlib.Core.Path.{sym, ◌∙◌}
 use borrow.Author.Tests.{le-ltb, lt-ltb}
-use Rattle.format.specs.FieldAnswer.{number_of}
-use Rattle.format.proofs.ParseLaws.{answered}
+use Rattle.format.proofs.ParseLaws.{passed_on}
 use Rattle.format.specs.Beef.{bump_number_field}
 use Rattle.format.proofs.beef.read_bump_number.Goals as goal
 
-pub returns-in_default : goal.returns-in_default
+pub returns-in_err-number : goal.returns-in_err-number
 unfolding bump_number_field
-returns-in_default c =
-    rw c.in_default.is
-    (simp (answered number_of c.read_varint-field.ensures c.in_default.is))
+returns-in_err-number c =
+    passed_on _ _ c.from_residual.ensures.1 ∙ (simp (sym c.in_err-number.ensures))
 
 pub returns-then-bumps-number : goal.returns-then-bumps-number
 unfolding bump_number_field
-returns-then-bumps-number c = simp (answered number_of c.read_varint-field.ensures c.in-Value.is, le-ltb _ _ c.if-bumps-number.true)
+returns-then-bumps-number c = simp (sym c.in_ok-number.ensures, le-ltb _ _ c.if-bumps-number.true)
 
 pub returns : goal.returns
 unfolding bump_number_field
-returns c = simp (answered number_of c.read_varint-field.ensures c.in-Value.is, lt-ltb _ _ c.if-bumps-number.false)
+returns c = simp (sym c.in_ok-number.ensures, lt-ltb _ _ c.if-bumps-number.false)

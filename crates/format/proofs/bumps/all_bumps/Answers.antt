@@ -1,19 +1,18 @@
 use native.Mathlib.Omega.{arith}
 use mathlib.Core.Path.{sym, ◌∙◌}
-use Rattle.format.proofs.ParseLaws.{answered, each-ok, each-fault, count-start, count-step, count-refused, count-done}
-use Rattle.format.specs.Bump.{head_of, bump_answer}
+use Rattle.format.proofs.ParseLaws.{passed_on, each-ok, each-fault, count-start, count-step, count-refused, count-all}
+use Rattle.format.specs.Bump.{head_of}
 use Rattle.format.proofs.bumps.all_bumps.Goals as goal
 
-pub loop-i-init : goal.loop-i-init
-loop-i-init c = (omega arith, count-start _ _ _ _ _ _)
+pub loop-init : goal.loop-init
+loop-init c = (omega arith, count-start _ _ _ _ _ _)
 
-pub returns-in_default : goal.returns-in_default
-returns-in_default c =
-    rw (c.refusal.ensures, c.in_default.is)
-    (sym (c.loop-i.invariant.1 ∙ count-refused _ _ _ _ _ _ _ c.loop-i-test.true (each-fault head_of _ (answered bump_answer c.bump_at-field.ensures c.in_default.is))))
+pub returns-in_err-after : goal.returns-in_err-after
+returns-in_err-after c =
+    passed_on _ _ c.from_residual.ensures.1 ∙ (sym (c.loop.invariant.1 ∙ count-refused _ _ _ _ _ _ _ (omega arith) (each-fault head_of _ (sym c.in_err-after.ensures))))
 
-pub loop-i-preserved : goal.loop-i-preserved
-loop-i-preserved c = (omega arith, c.loop-i.invariant.1 ∙ count-step _ _ _ _ _ _ _ c.loop-i-test.true (each-ok head_of _ (answered bump_answer c.bump_at-field.ensures c.in-Value.is)).1)
+pub loop-preserved : goal.loop-preserved
+loop-preserved c = (omega arith, c.loop.invariant.1 ∙ count-step _ _ _ _ _ _ _ (omega arith) (each-ok head_of _ (sym c.in_ok-after.ensures)).1)
 
 pub returns : goal.returns
-returns c = sym (c.loop-i.invariant.1 ∙ count-done _ _ _ _ _ _ _ c.loop-i-test.false)
+returns c = sym (c.loop.invariant.1 ∙ count-all _ _ _ _ _ _ _ (omega arith))

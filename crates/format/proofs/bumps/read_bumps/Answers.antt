@@ -1,13 +1,12 @@
 use mathlib.Core.Path.{sym, ◌∙◌}
-use Rattle.format.specs.FieldAnswer.{number_of}
-use Rattle.format.proofs.ParseLaws.{answered, go, stop}
+use Rattle.format.proofs.ParseLaws.{passed_on, go, stop}
 use Rattle.format.specs.Beef.{bumps_up_to}
 use Rattle.format.proofs.bumps.read_bumps.Goals as goal
 
-pub returns-in_default : goal.returns-in_default
+pub returns-in_err-count : goal.returns-in_err-count
 unfolding bumps_up_to
-returns-in_default c = rw c.in_default.is (sym (stop _ _ (answered number_of c.read_bump_count-field.ensures c.in_default.is)))
+returns-in_err-count c = passed_on _ _ c.from_residual.ensures.1 ∙ (sym (stop _ _ (sym c.in_err-count.ensures)))
 
 pub returns : goal.returns
 unfolding bumps_up_to
-returns c = c.all_bumps.ensures ∙ sym (go _ _ (answered number_of c.read_bump_count-field.ensures c.in-Value.is))
+returns c = c.all_bumps.ensures ∙ sym (go _ _ (sym c.in_ok-count.ensures))

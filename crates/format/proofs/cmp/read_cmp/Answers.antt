@@ -1,22 +1,20 @@
-use mathlib.Core.Path.{sym}
-use Rattle.format.specs.Cmp.{cmp_answer}
-use Rattle.format.proofs.ParseLaws.{answered, whole_too_long, whole-refused, whole_extra, whole-read}
+use mathlib.Core.Path.{sym, ◌∙◌}
+use Rattle.format.proofs.ParseLaws.{passed_on, whole_too_long, whole-refused, whole_extra, whole-read}
 use Rattle.format.proofs.cmp.read_cmp.Goals as goal
 
-pub returns-then-s-gt-MAX_INPUT : goal.returns-then-s-gt-MAX_INPUT
-returns-then-s-gt-MAX_INPUT c = sym (whole_too_long _ _ _ c.if-s-gt-MAX_INPUT.true)
+pub returns-in_err-check_size : goal.returns-in_err-check_size
+returns-in_err-check_size c =
+    let long = c.in_err-check_size.ensures in
+    passed_on _ _ c.from_residual.ensures.1 ∙ rw long.1 (sym (whole_too_long _ _ _ long.0))
 
-pub returns-in_default : goal.returns-in_default
-returns-in_default c =
-    rw c.in_default.is
-    (sym (whole-refused _ _ _ c.if-s-gt-MAX_INPUT.false (answered cmp_answer (rw c.start.ensures at c.cmp_at-field.ensures) c.in_default.is)))
+pub returns-in_err-head : goal.returns-in_err-head
+returns-in_err-head c =
+    passed_on _ _ c.from_residual-in_err-head.ensures.1 ∙ sym (whole-refused _ _ _ c.in_ok-check_size.ensures (sym c.in_err-head.ensures))
 
-pub returns-then-at-s : goal.returns-then-at-s
-returns-then-at-s c =
-    sym (whole_extra _ _ _ c.if-s-gt-MAX_INPUT.false
-    (answered cmp_answer (rw c.start.ensures at c.cmp_at-field.ensures) c.in-Value.is) c.if-at-s.true)
+pub returns-in_err-check_end : goal.returns-in_err-check_end
+returns-in_err-check_end c =
+    let more = c.in_err-check_end.ensures in
+    passed_on _ _ c.from_residual-in_err-check_end.ensures.1 ∙ rw more.1 (sym (whole_extra _ _ _ c.in_ok-check_size.ensures (sym c.in_ok-head.ensures) more.0))
 
 pub returns : goal.returns
-returns c =
-    sym (whole-read _ _ _ c.if-s-gt-MAX_INPUT.false
-    (answered cmp_answer (rw c.start.ensures at c.cmp_at-field.ensures) c.in-Value.is) c.if-at-s.false)
+returns c = sym (whole-read _ _ _ c.in_ok-check_size.ensures (sym c.in_ok-head.ensures) c.in_ok-check_end.ensures)

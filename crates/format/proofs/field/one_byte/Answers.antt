@@ -8,4 +8,4 @@ returns-then-s-at c = simp (le-ltb _ _ c.if-s-at.true)
 
 pub returns : goal.returns
 unfolding byte
-returns c = simp (lt-ltb _ _ c.if-s-at.false, c.wide.ensures.0)
+returns c = simp (lt-ltb _ _ c.if-s-at.false, c.from.ensures)

@@ -1,5 +1,4 @@
-use mathlib.Core.Path.{sym, ap, ◌∙◌}
-use Rattle.hash.specs.declared.Hashed.{Hashed}
+use mathlib.Core.Path.{sym}
 use Rattle.format.proofs.IdLaws.{span_backward, span_outside, span-inside}
 use Rattle.format.proofs.id.span_hash.Goals as goal
 
@@ -10,4 +9,4 @@ pub returns-then-s-end : goal.returns-then-s-end
 returns-then-s-end c = sym (span_outside _ _ _ c.if-end-start.false c.if-s-end.true)
 
 pub returns : goal.returns
-returns c = ap (λ (h : Hashed). h.digest) c.sha256d-hashed.ensures ∙ sym (span-inside _ _ _ c.if-end-start.false c.if-s-end.false)
+returns c = rw (c.unwrap_or.ensures, c.sha256d.ensures) (sym (span-inside _ _ _ c.if-end-start.false c.if-s-end.false))

@@ -1,11 +1,16 @@
-use borrow.Author.Rules.{rules}
+use native.Mathlib.Omega.{arith}
 use mathlib.Core.Path.{sym, ◌∙◌}
 use Rattle.format.proofs.SeenLaws.{scan_here, scan_on, scan_end}
 use Rattle.format.proofs.leaf.contains.Goals as goal
-use Rattle.format.proofs.leaf.contains.Goals.{else-x-l, then-x-l}
+use Rattle.format.proofs.leaf.contains.Goals.{else-y-x, then-y-x}
 
-pub loop-i-preserved : goal.loop-i-preserved
-loop-i-preserved c = (search rules, c.loop-i.invariant.1 ∙ elim c.if-x-l.branch [ then-x-l w ↦ scan_here _ _ _ c.loop-i.found c.if-x-l.found c.loop-i-test.true w.if-x-l.true w.found-is | else-x-l w ↦ scan_on _ _ _ c.loop-i.found c.if-x-l.found c.loop-i-test.true w.if-x-l.false w.found-is ])
+pub loop-y-preserved : goal.loop-y-preserved
+loop-y-preserved c =
+    c.loop-y.invariant
+    ∙ elim c.if-y-x.branch [
+      | then-y-x w ↦ scan_here c.args.x c.args.l.now c.loop-y.y-index c.loop-y.found c.if-y-x.found (omega arith) (sym w.if-y-x.true) w.found-is
+      | else-y-x w ↦ scan_on c.args.x c.args.l.now c.loop-y.y-index c.loop-y.found c.if-y-x.found (omega arith) (λ e. w.if-y-x.false (sym e)) w.found-is
+    ]
 
 pub returns : goal.returns
-returns c = sym (c.loop-i.invariant.1 ∙ scan_end _ _ _ c.loop-i.found c.loop-i-test.false)
+returns c = sym (c.loop-y.invariant ∙ scan_end c.args.x c.args.l.now c.loop-y.y-index c.loop-y.found (omega arith))

@@ -1,10 +1,10 @@
 use native.Mathlib.Omega.{arith}
 use mathlib.Core.Path.{sym}
-use Rattle.format.proofs.SeenLaws.{above-told, risen_start, risen_step, risen_done}
+use Rattle.format.proofs.SeenLaws.{risen_start, risen_step, risen_done}
 use Rattle.format.proofs.level.read_rising.Goals as goal
 
-pub loop-i-init : goal.loop-i-init
-loop-i-init c = (omega arith, risen_start _ _ _ _ _ _)
+pub loop-init : goal.loop-init
+loop-init c = (omega arith, risen_start _ _ _ _ _ _)
 
 pub returns-in_default : goal.returns-in_default
 returns-in_default c = c.read_leaves.ensures
@@ -12,8 +12,8 @@ returns-in_default c = c.read_leaves.ensures
 pub returns-then-offset : goal.returns-then-offset
 returns-then-offset c = c.read_leaves-then-offset.ensures
 
-pub loop-i-preserved : goal.loop-i-preserved
-loop-i-preserved c = let a = above-told _ _ c.read_above-field.ensures c.in-Value.is in (omega arith, risen_step _ _ _ _ _ _ _ _ _ (omega arith) c.loop-i.invariant.1 a.0 a.1)
+pub loop-preserved : goal.loop-preserved
+loop-preserved c = let a = c.in-Ok.ensures in (omega arith, risen_step _ _ _ _ _ _ _ _ _ (omega arith) c.loop.invariant.1 a.0 a.1)
 
 pub returns : goal.returns
-returns c = sym (risen_done _ _ _ _ _ _ _ _ _ c.loop-i-test.false c.loop-i.invariant.1)
+returns c = sym (risen_done _ _ _ _ _ _ _ _ _ (omega arith) c.loop.invariant.1)

@@ -1,27 +1,24 @@
 use mathlib.Core.Path.{sym, ◌∙◌}
 use lib.ListN.{length}
-use Rattle.format.specs.FieldAnswer.{number_of}
-use Rattle.format.proofs.ParseLaws.{go, stop, answered, each-ok, each-fault}
+use Rattle.format.proofs.ParseLaws.{passed_on, go, stop, each-ok, each-fault}
 use Rattle.format.specs.Transaction.{list_field}
 use Rattle.format.proofs.TransactionLaws.{list_head}
 use Rattle.format.proofs.transaction.all_outputs.Goals as goal
 
-pub returns-in_default : goal.returns-in_default
+pub returns-in_err-wanted : goal.returns-in_err-wanted
 unfolding list_field
-returns-in_default c =
-    rw (c.refusal.ensures, c.in_default.is)
-    (sym (stop _ _ (answered number_of c.read_some-first.ensures c.in_default.is)))
+returns-in_err-wanted c =
+    passed_on _ _ c.from_residual.ensures.1 ∙ (sym (stop _ _ (sym c.in_err-wanted.ensures)))
 
-pub returns-in_default-second : goal.returns-in_default-second
+pub returns-in_err-count : goal.returns-in_err-count
 unfolding list_field
-returns-in_default-second c =
-    rw (c.refusal-in_default-second.ensures, c.in_default-second.is)
-    (sym (go _ _ (answered number_of c.read_some-first.ensures c.in-Value.is)
-    ∙ stop _ _ (each-fault length _ (answered number_of c.read_outputs-second.ensures c.in_default-second.is))))
+returns-in_err-count c =
+    passed_on _ _ c.from_residual-in_err-count.ensures.1 ∙ (sym (go _ _ (sym c.in_ok-wanted.ensures)
+    ∙ stop _ _ (each-fault length _ (sym c.in_err-count.ensures))))
 
 pub returns : goal.returns
 unfolding list_field
 returns c =
-    sym (go _ _ (answered number_of c.read_some-first.ensures c.in-Value.is)
-    ∙ go _ _ (each-ok length _ (answered number_of c.read_outputs-second.ensures c.in-Value-second.is)).1
-    ∙ list_head _ _ _ _ (each-ok length _ (answered number_of c.read_outputs-second.ensures c.in-Value-second.is)).2)
+    sym (go _ _ (sym c.in_ok-wanted.ensures)
+    ∙ go _ _ (each-ok length _ (sym c.in_ok-count.ensures)).1
+    ∙ list_head _ _ _ _ (each-ok length _ (sym c.in_ok-count.ensures)).2)

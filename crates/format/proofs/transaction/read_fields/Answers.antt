@@ -1,46 +1,40 @@
 use mathlib.Core.Path.{sym, ◌∙◌}
-use Rattle.format.specs.FieldAnswer.{run_of}
-use Rattle.format.specs.TransactionAnswer.{items_answer}
-use Rattle.format.proofs.ParseLaws.{go, stop, answered, each-ok, each-fault}
+use Rattle.format.proofs.ParseLaws.{passed_on, go, stop, each-ok, each-fault}
 use Rattle.format.specs.Transaction.{items_of, fields_by}
 use Rattle.format.proofs.TransactionLaws.{tx_head}
 use Rattle.format.proofs.transaction.read_fields.Goals as goal
 
-pub returns-in_default : goal.returns-in_default
+pub returns-in_err-start : goal.returns-in_err-start
 unfolding fields_by
-returns-in_default c =
-    rw (c.refusal.ensures, c.in_default.is)
-    (sym (stop _ _ (answered run_of c.read_run-version.ensures c.in_default.is)))
+returns-in_err-start c =
+    passed_on _ _ c.from_residual.ensures.1 ∙ (sym (stop _ _ (sym c.in_err-start.ensures)))
 
-pub returns-in_default-first : goal.returns-in_default-first
+pub returns-in_err-inputs : goal.returns-in_err-inputs
 unfolding fields_by
-returns-in_default-first c =
-    rw (c.refusal-in_default-first.ensures, c.in_default-first.is)
-    (sym (go _ _ (answered run_of c.read_run-version.ensures c.in-Value.is)
-    ∙ stop _ _ (each-fault items_of _ (answered items_answer c.all_inputs-first.ensures c.in_default-first.is))))
+returns-in_err-inputs c =
+    passed_on _ _ c.from_residual-in_err-inputs.ensures.1 ∙ (sym (go _ _ (sym c.in_ok-start.ensures)
+    ∙ stop _ _ (each-fault items_of _ (sym c.in_err-inputs.ensures))))
 
-pub returns-in_default-second : goal.returns-in_default-second
+pub returns-in_err-outputs : goal.returns-in_err-outputs
 unfolding fields_by
-returns-in_default-second c =
-    rw (c.refusal-in_default-second.ensures, c.in_default-second.is)
-    (sym (go _ _ (answered run_of c.read_run-version.ensures c.in-Value.is)
-    ∙ go _ _ (each-ok items_of _ (answered items_answer c.all_inputs-first.ensures c.in-Value-first.is)).1
-    ∙ stop _ _ (each-fault items_of _ (answered items_answer c.all_outputs-second.ensures c.in_default-second.is))))
+returns-in_err-outputs c =
+    passed_on _ _ c.from_residual-in_err-outputs.ensures.1 ∙ (sym (go _ _ (sym c.in_ok-start.ensures)
+    ∙ go _ _ (each-ok items_of _ (sym c.in_ok-inputs.ensures)).1
+    ∙ stop _ _ (each-fault items_of _ (sym c.in_err-outputs.ensures))))
 
-pub returns-in_default-lock : goal.returns-in_default-lock
+pub returns-in_err-next : goal.returns-in_err-next
 unfolding fields_by
-returns-in_default-lock c =
-    rw (c.refusal-in_default-lock.ensures, c.in_default-lock.is)
-    (sym (go _ _ (answered run_of c.read_run-version.ensures c.in-Value.is)
-    ∙ go _ _ (each-ok items_of _ (answered items_answer c.all_inputs-first.ensures c.in-Value-first.is)).1
-    ∙ go _ _ (each-ok items_of _ (answered items_answer c.all_outputs-second.ensures c.in-Value-second.is)).1
-    ∙ stop _ _ (answered run_of c.read_run-lock.ensures c.in_default-lock.is)))
+returns-in_err-next c =
+    passed_on _ _ c.from_residual-in_err-next.ensures.1 ∙ (sym (go _ _ (sym c.in_ok-start.ensures)
+    ∙ go _ _ (each-ok items_of _ (sym c.in_ok-inputs.ensures)).1
+    ∙ go _ _ (each-ok items_of _ (sym c.in_ok-outputs.ensures)).1
+    ∙ stop _ _ (sym c.in_err-next.ensures)))
 
 pub returns : goal.returns
 unfolding fields_by
 returns c =
-    sym (go _ _ (answered run_of c.read_run-version.ensures c.in-Value.is)
-    ∙ go _ _ (each-ok items_of _ (answered items_answer c.all_inputs-first.ensures c.in-Value-first.is)).1
-    ∙ go _ _ (each-ok items_of _ (answered items_answer c.all_outputs-second.ensures c.in-Value-second.is)).1
-    ∙ go _ _ (answered run_of c.read_run-lock.ensures c.in-Value-lock.is)
-    ∙ tx_head _ _ _ _ _ (each-ok items_of _ (answered items_answer c.all_inputs-first.ensures c.in-Value-first.is)).2 (each-ok items_of _ (answered items_answer c.all_outputs-second.ensures c.in-Value-second.is)).2)
+    sym (go _ _ (sym c.in_ok-start.ensures)
+    ∙ go _ _ (each-ok items_of _ (sym c.in_ok-inputs.ensures)).1
+    ∙ go _ _ (each-ok items_of _ (sym c.in_ok-outputs.ensures)).1
+    ∙ go _ _ (sym c.in_ok-next.ensures)
+    ∙ tx_head _ _ _ _ _ (each-ok items_of _ (sym c.in_ok-inputs.ensures)).2 (each-ok items_of _ (sym c.in_ok-outputs.ensures)).2)

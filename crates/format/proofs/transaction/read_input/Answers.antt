@@ -1,50 +1,46 @@
-use Rattle.format.specs.FieldAnswer.{run_of}
-use Rattle.format.proofs.ParseLaws.{answered}
+use mathlib.Core.Path.{sym, ◌∙◌}
+use Rattle.format.proofs.ParseLaws.{passed_on}
 use Rattle.format.specs.Transaction.{input_field}
 use Rattle.format.proofs.transaction.read_input.Goals as goal
 
-pub returns-in_default : goal.returns-in_default
+pub returns-in_err-parent : goal.returns-in_err-parent
 unfolding input_field
-returns-in_default c =
-    rw (c.refusal.ensures, c.in_default.is)
-    (simp (answered run_of c.read_run-first.ensures c.in_default.is))
+returns-in_err-parent c =
+    passed_on _ _ c.from_residual.ensures.1 ∙ (simp (sym c.in_err-parent.ensures))
 
-pub returns-in_default-second : goal.returns-in_default-second
+pub returns-in_err-output : goal.returns-in_err-output
 unfolding input_field
-returns-in_default-second c =
-    rw (c.refusal-in_default-second.ensures, c.in_default-second.is)
-    (simp (
-      answered run_of c.read_run-first.ensures c.in-Value.is,
-      answered run_of c.read_run-second.ensures c.in_default-second.is,
+returns-in_err-output c =
+    passed_on _ _ c.from_residual-in_err-output.ensures.1 ∙ (simp (
+      sym c.in_ok-parent.ensures,
+      sym c.in_err-output.ensures,
     ))
 
-pub returns-in_default-third : goal.returns-in_default-third
+pub returns-in_err-fourth_at : goal.returns-in_err-fourth_at
 unfolding input_field
-returns-in_default-third c =
-    rw (c.refusal-in_default-third.ensures, c.in_default-third.is)
-    (simp (
-      answered run_of c.read_run-first.ensures c.in-Value.is,
-      answered run_of c.read_run-second.ensures c.in-Value-second.is,
-      answered run_of c.read_script-third.ensures c.in_default-third.is,
+returns-in_err-fourth_at c =
+    passed_on _ _ c.from_residual-in_err-fourth_at.ensures.1 ∙ (simp (
+      sym c.in_ok-parent.ensures,
+      sym c.in_ok-output.ensures,
+      sym c.in_err-fourth_at.ensures,
     ))
 
-pub returns-in_default-fourth : goal.returns-in_default-fourth
+pub returns-in_err-next : goal.returns-in_err-next
 unfolding input_field
-returns-in_default-fourth c =
-    rw (c.refusal-in_default-fourth.ensures, c.in_default-fourth.is)
-    (simp (
-      answered run_of c.read_run-first.ensures c.in-Value.is,
-      answered run_of c.read_run-second.ensures c.in-Value-second.is,
-      answered run_of c.read_script-third.ensures c.in-Value-third.is,
-      answered run_of c.read_run-fourth.ensures c.in_default-fourth.is,
+returns-in_err-next c =
+    passed_on _ _ c.from_residual-in_err-next.ensures.1 ∙ (simp (
+      sym c.in_ok-parent.ensures,
+      sym c.in_ok-output.ensures,
+      sym c.in_ok-fourth_at.ensures,
+      sym c.in_err-next.ensures,
     ))
 
 pub returns : goal.returns
 unfolding input_field
 returns c =
     simp (
-      answered run_of c.read_run-first.ensures c.in-Value.is,
-      answered run_of c.read_run-second.ensures c.in-Value-second.is,
-      answered run_of c.read_script-third.ensures c.in-Value-third.is,
-      answered run_of c.read_run-fourth.ensures c.in-Value-fourth.is,
+      sym c.in_ok-parent.ensures,
+      sym c.in_ok-output.ensures,
+      sym c.in_ok-fourth_at.ensures,
+      sym c.in_ok-next.ensures,
     )

@@ -5,8 +5,5 @@ use Prim.Native.Nat.{◌≤◌, ◌-◌, ◌+◌}
 use lib.ListN.{length}
 use Rattle.format.proofs.transaction.read_outputs.Given as goal
 
-abbrev pub invariant-loop-i : goal.invariant-loop-i
-invariant-loop-i r = (r.i ≤ r.count) × (each length (outputs_field r.limited r.count r.s r.initial.next.at) ≡ each (λ l. r.i + length l) (many (λ total. output_field (takes r.limited total)) ◌+◌ (r.count - r.i) r.total r.s r.next.at))
-
-abbrev pub decreases-loop-i : goal.decreases-loop-i
-decreases-loop-i l = l.count - l.i
+abbrev pub invariant-loop : goal.invariant-loop
+invariant-loop r = (r.counter ≤ r.count) × (each length (outputs_field r.limited r.count r.s r.initial.next.at) ≡ each (λ l. r.counter + length l) (many (λ total. output_field (takes r.limited total)) ◌+◌ (r.count - r.counter) r.total r.s r.next.at))

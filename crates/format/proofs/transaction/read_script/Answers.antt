@@ -1,15 +1,13 @@
-use mathlib.Core.Path.{◌∙◌}
-use Rattle.format.specs.FieldAnswer.{number_of}
-use Rattle.format.proofs.ParseLaws.{answered}
+use mathlib.Core.Path.{◌∙◌, sym}
+use Rattle.format.proofs.ParseLaws.{passed_on}
 use Rattle.format.specs.Transaction.{script_field}
 use Rattle.format.proofs.transaction.read_script.Goals as goal
 
-pub returns-in_default : goal.returns-in_default
+pub returns-in_err-n : goal.returns-in_err-n
 unfolding script_field
-returns-in_default c =
-    rw (c.refusal.ensures, c.in_default.is)
-    (simp (answered number_of c.read_varint-field.ensures c.in_default.is))
+returns-in_err-n c =
+    passed_on _ _ c.from_residual.ensures.1 ∙ (simp (sym c.in_err-n.ensures))
 
 pub returns : goal.returns
 unfolding script_field
-returns c = c.read_run.ensures ∙ simp (answered number_of c.read_varint-field.ensures c.in-Value.is)
+returns c = c.read_run.ensures ∙ simp (sym c.in_ok-n.ensures)

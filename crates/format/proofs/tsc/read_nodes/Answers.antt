@@ -1,19 +1,17 @@
 use native.Mathlib.Omega.{arith}
 use mathlib.Core.Path.{sym, ◌∙◌}
-use Rattle.format.specs.LevelAnswer.{kind_of}
-use Rattle.format.proofs.ParseLaws.{answered, count-start, count-step, count-refused, count-done}
+use Rattle.format.proofs.ParseLaws.{passed_on, count-start, count-step, count-refused, count-all}
 use Rattle.format.proofs.tsc.read_nodes.Goals as goal
 
-pub loop-i-init : goal.loop-i-init
-loop-i-init c = (omega arith, count-start _ _ _ _ _ _)
+pub loop-init : goal.loop-init
+loop-init c = (omega arith, count-start _ _ _ _ _ _)
 
-pub returns-in_default : goal.returns-in_default
-returns-in_default c =
-    rw (c.refusal.ensures, c.in_default.is)
-    (sym (c.loop-i.invariant.1 ∙ count-refused _ _ _ _ _ _ _ c.loop-i-test.true (answered kind_of c.read_node-field.ensures c.in_default.is)))
+pub returns-in_err-after : goal.returns-in_err-after
+returns-in_err-after c =
+    passed_on _ _ c.from_residual.ensures.1 ∙ (sym (c.loop.invariant.1 ∙ count-refused _ _ _ _ _ _ _ (omega arith) (sym c.in_err-after.ensures)))
 
-pub loop-i-preserved : goal.loop-i-preserved
-loop-i-preserved c = (omega arith, c.loop-i.invariant.1 ∙ count-step _ _ _ _ _ _ _ c.loop-i-test.true (answered kind_of c.read_node-field.ensures c.in-Value.is))
+pub loop-preserved : goal.loop-preserved
+loop-preserved c = (omega arith, c.loop.invariant.1 ∙ count-step _ _ _ _ _ _ _ (omega arith) (sym c.in_ok-after.ensures))
 
 pub returns : goal.returns
-returns c = sym (c.loop-i.invariant.1 ∙ count-done _ _ _ _ _ _ _ c.loop-i-test.false)
+returns c = sym (c.loop.invariant.1 ∙ count-all _ _ _ _ _ _ _ (omega arith))

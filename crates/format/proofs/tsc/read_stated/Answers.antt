@@ -1,17 +1,15 @@
-use mathlib.Core.Path.{◌∙◌}
-use Rattle.format.specs.FieldAnswer.{number_of}
-use Rattle.format.proofs.ParseLaws.{answered}
+use mathlib.Core.Path.{◌∙◌, sym}
+use Rattle.format.proofs.ParseLaws.{passed_on}
 use Rattle.format.specs.Tsc.{stated_field}
 use Rattle.format.proofs.tsc.read_stated.Goals as goal
 
-pub returns-in_default : goal.returns-in_default
+pub returns-in_err-n : goal.returns-in_err-n
 unfolding stated_field
-returns-in_default c =
-    rw (c.refusal.ensures, c.in_default.is)
-    (simp (answered number_of c.read_varint-field.ensures c.in_default.is))
+returns-in_err-n c =
+    passed_on _ _ c.from_residual.ensures.1 ∙ (simp (sym c.in_err-n.ensures))
 
 pub returns : goal.returns
 unfolding stated_field
 returns c =
     c.exact_transaction.ensures
-    ∙ simp (answered number_of c.read_varint-field.ensures c.in-Value.is)
+    ∙ simp (sym c.in_ok-n.ensures)

@@ -3,15 +3,15 @@ use mathlib.Core.Path.{sym, ◌∙◌}
 use native.Mathlib.Omega.{arith}
 use Rattle.leaflist.proofs.building.put_rows.Goals as goal
 
-pub loop-i-preserved : goal.loop-i-preserved
-loop-i-preserved c = (
-  c.loop-i.invariant.0 ∙ rows_on _ _ _ _ _ c.loop-i-test.true c.offset_at.ensures c.put_row-at.ensures,
+pub loop-place-preserved : goal.loop-place-preserved
+loop-place-preserved c = (
+  c.loop-place.invariant.0 ∙ rows_on _ _ c.args.places.now c.loop-place.place-index _ (omega arith) c.offset_at.ensures c.put_row-at.ensures,
   omega arith,
-  c.put_row-at.auto.out ∙ c.loop-i.invariant.2,
+  c.put_row-at.auto.out ∙ c.loop-place.invariant.2,
 )
 
 pub shape_of-out : goal.shape_of-out
-shape_of-out c = c.loop-i.invariant.2
+shape_of-out c = c.loop-place.invariant.2
 
 pub returns : goal.returns
-returns c = sym (c.loop-i.invariant.0 ∙ rows_end _ _ _ _ _ c.loop-i-test.false)
+returns c = sym (c.loop-place.invariant.0 ∙ rows_end _ _ c.args.places.now c.loop-place.place-index _ (omega arith))

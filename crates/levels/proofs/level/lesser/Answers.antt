@@ -1,20 +1,16 @@
+use Rattle.std.proofs.Common.{refl, ap, ◌∙◌, Some}
 use Rattle.levels.specs.Fronts.{lesser}
-use borrow.Author.Tests.{lt-ltb, le-ltb}
-use mathlib.Core.Path.{refl}
+use Rattle.levels.proofs.FrontsLaws.{min-picked}
 use Rattle.levels.proofs.level.lesser.Goals as goal
 
-pub returns-then-y-x : goal.returns-then-y-x
+pub returns-in-None-default : goal.returns-in-None-default
 unfolding lesser
-returns-then-y-x c = rw (c.in-Offset.is, c.in-Offset-b.is, lt-ltb _ _ c.if-y-x.true) refl
+returns-in-None-default c = rw c.in-None-default.is-0 refl
 
-pub returns-in-End : goal.returns-in-End
+pub returns-in_default-None : goal.returns-in_default-None
 unfolding lesser
-returns-in-End c = rw c.in-End.is refl
+returns-in_default-None c = rw (c.in_default-None.is-0, c.in_default-None.is-1) refl
 
-pub returns-in-End-b : goal.returns-in-End-b
+pub returns-in-Some-Some : goal.returns-in-Some-Some
 unfolding lesser
-returns-in-End-b c = rw (c.in-Offset.is, c.in-End-b.is) refl
-
-pub returns-else-y-x : goal.returns-else-y-x
-unfolding lesser
-returns-else-y-x c = rw (c.in-Offset.is, c.in-Offset-b.is, le-ltb _ _ c.if-y-x.false) refl
+returns-in-Some-Some c = rw (c.in-Some-Some.is-0, c.in-Some-Some.is-1) (ap Some (c.min.ensures ∙ min-picked _ _))

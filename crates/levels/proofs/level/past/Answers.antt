@@ -1,12 +1,14 @@
-use Rattle.levels.proofs.FrontsLaws.{index-end, index-other, index-here}
-use mathlib.Core.Path.{sym}
+use Rattle.std.proofs.Common.{◌<◌, length, arith}
+use Rattle.levels.proofs.FrontsLaws.{index-inside, index-here, index-other}
 use Rattle.levels.proofs.level.past.Goals as goal
 
-pub returns-then-places-i : goal.returns-then-places-i
-returns-then-places-i c = sym (index-end _ _ _ _ c.if-places-i.true)
+pub overflow_add-result : goal.overflow_add-result
+overflow_add-result c =
+    let h : c.args.i < length c.args.places.now = index-inside c.args.s.now _ _ _ c.next_offset.ensures c.eq.ensures c.if-eq.true in
+    omega arith
 
-pub returns-then-offset_at-offset : goal.returns-then-offset_at-offset
-returns-then-offset_at-offset c = sym (index-other _ _ _ c.if-places-i.false c.offset_at.ensures _ c.if-offset_at-offset.true)
+pub returns-then-eq : goal.returns-then-eq
+returns-then-eq c = index-here _ _ _ _ c.next_offset.ensures c.eq.ensures c.if-eq.true
 
-pub returns : goal.returns
-returns c = sym (index-here _ _ _ c.if-places-i.false c.offset_at.ensures _ c.if-offset_at-offset.false)
+pub returns-else-eq : goal.returns-else-eq
+returns-else-eq c = index-other _ _ _ _ c.next_offset.ensures c.eq.ensures c.if-eq.false

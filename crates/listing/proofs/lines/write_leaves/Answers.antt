@@ -1,28 +1,20 @@
 use mathlib.Core.Path.{refl, sym, ◌∙◌}
 use native.Mathlib.Omega.{arith}
-use Rattle.format.proofs.ParseLaws.{answered}
-use Rattle.path.specs.LeafAnswer.{leaf_of}
 use Rattle.listing.proofs.WalkLaws.{leaves-start, leaves-more, leaves-refused, leaves-done}
 use Rattle.listing.proofs.lines.write_leaves.Goals as goal
 
-pub loop-i-init : goal.loop-i-init
-loop-i-init c = (leaves-start _ _ _ _, omega arith, refl)
-
-pub shape_of-out-in_default : goal.shape_of-out-in_default
-shape_of-out-in_default c = c.loop-i.invariant.2
+pub loop-init : goal.loop-init
+loop-init c = (leaves-start _ _ _ _, omega arith, refl)
 
 pub returns-in_default : goal.returns-in_default
-returns-in_default c = sym (c.loop-i.invariant.0 ∙ leaves-refused _ _ _ _ _ c.loop-i-test.true (answered leaf_of c.leaf_at-field.ensures c.in_default.is))
+returns-in_default c = sym (c.loop.invariant.0 ∙ leaves-refused _ _ _ _ _ (omega arith) (sym c.in_default.ensures))
 
-pub loop-i-preserved : goal.loop-i-preserved
-loop-i-preserved c = (
-  c.loop-i.invariant.0 ∙ leaves-more _ _ _ _ _ c.loop-i-test.true (answered leaf_of c.leaf_at-field.ensures c.in-Value.is) c.write_leaf-at.ensures,
+pub loop-preserved : goal.loop-preserved
+loop-preserved c = (
+  c.loop.invariant.0 ∙ leaves-more _ _ _ _ _ (omega arith) (sym c.in-Ok.ensures) c.write_leaf-at.ensures,
   omega arith,
-  c.write_leaf-at.auto.out ∙ c.loop-i.invariant.2,
+  c.write_leaf-at.auto.out ∙ c.loop.invariant.2,
 )
 
-pub shape_of-out : goal.shape_of-out
-shape_of-out c = c.loop-i.invariant.2
-
-pub returns : goal.returns
-returns c = sym (c.loop-i.invariant.0 ∙ leaves-done _ _ _ _ _ c.loop-i-test.false)
+pub returns-after-loop : goal.returns-after-loop
+returns-after-loop c = sym (c.loop.invariant.0 ∙ leaves-done _ _ _ _ _ (omega arith))

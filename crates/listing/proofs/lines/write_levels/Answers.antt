@@ -9,13 +9,10 @@ loop-level-init c = (levels-start _ _ _ _, omega arith, refl)
 
 pub loop-level-preserved : goal.loop-level-preserved
 loop-level-preserved c = (
-  c.loop-level.invariant.0 ∙ levels-more _ _ _ _ _ c.loop-level-test.true c.write_level-step.ensures,
+  c.loop-level.invariant.0 ∙ levels-more _ _ _ _ _ (omega arith) c.write_level-step.ensures,
   omega arith,
   c.write_level-step.auto.out ∙ c.loop-level.invariant.2,
 )
 
-pub shape_of-out : goal.shape_of-out
-shape_of-out c = c.loop-level.invariant.2
-
 pub returns : goal.returns
-returns c = ap (λ (w : Walk). w.buffer) (sym (c.loop-level.invariant.0 ∙ levels-done _ _ _ _ _ c.loop-level-test.false))
+returns c = ap (λ (w : Walk). w.buffer) (sym (c.loop-level.invariant.0 ∙ levels-done _ _ _ _ _ (omega arith)))

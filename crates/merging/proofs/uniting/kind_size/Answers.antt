@@ -1,10 +1,9 @@
+use Rattle.std.proofs.Common.{arith}
 use Rattle.merging.proofs.TallyLaws.{size-copy, size-hash}
-use mathlib.Core.Path.{sym, ◌∙◌}
-use native.Mathlib.Omega.{arith}
 use Rattle.merging.proofs.uniting.kind_size.Goals as goal
 
-pub returns-then-flags_of-eq1 : goal.returns-then-flags_of-eq1
-returns-then-flags_of-eq1 c = (λ s. size-copy s _ (sym c.flags_of.ensures ∙ c.if-flags_of-eq1.true), omega arith)
+pub returns-in-Some : goal.returns-in-Some
+returns-in-Some c = (λ s. size-hash s _ c.in-Some.ensures, omega arith)
 
-pub returns : goal.returns
-returns c = (λ s. size-hash s _ (λ e. c.if-flags_of-eq1.false (c.flags_of.ensures ∙ e)), omega arith)
+pub returns-in-None : goal.returns-in-None
+returns-in-None c = (λ s. size-copy s _ c.in-None.ensures, omega arith)

@@ -1,19 +1,14 @@
+use Rattle.std.proofs.Common.{ap, ◌∙◌, arith}
+use Rattle.encoding.specs.Buffer.{put_on}
 use Rattle.encoding.proofs.BufferLaws.{wrote_byte}
-use Rattle.merging.proofs.TallyLaws.{wrote_hash, plain-bytes, client-bytes, copy-bytes}
-use mathlib.Core.Path.{◌∙◌}
+use Rattle.merging.proofs.TallyLaws.{wrote_hash, hash-bytes, copy-bytes, flags-few}
 use Rattle.merging.proofs.uniting.put_kind.Goals as goal
 
-pub shape_of-out-in-Plain : goal.shape_of-out-in-Plain
-shape_of-out-in-Plain c = c.write.auto.out ∙ c.put-next.auto.out
+pub overflow_cast-flags_of : goal.overflow_cast-flags_of
+overflow_cast-flags_of c = let few = flags-few c.args.kind in omega (arith, few, c.flags_of.ensures)
 
-pub returns-in-Plain : goal.returns-in-Plain
-returns-in-Plain c = wrote_hash _ 0 _ _ (plain-bytes c.args.s.now c.args.kind _ c.in-Plain.is) c.put-next.ensures c.hash_at-hash.ensures c.write.ensures
+pub returns-in-Some : goal.returns-in-Some
+returns-in-Some c = wrote_hash _ _ _ _ (hash-bytes c.args.s.now c.args.kind c.in-Some.ensures) (c.put-next.ensures ∙ ap (put_on _) c.flags_of.ensures) c.hash_at.ensures c.write.ensures
 
-pub returns-in-Copy : goal.returns-in-Copy
-returns-in-Copy c = wrote_byte _ 1 (copy-bytes c.args.s.now c.args.kind c.in-Copy.is) c.put.ensures
-
-pub shape_of-out-in-Client : goal.shape_of-out-in-Client
-shape_of-out-in-Client c = c.write-in-Client.auto.out ∙ c.put-next-in-Client.auto.out
-
-pub returns-in-Client : goal.returns-in-Client
-returns-in-Client c = wrote_hash _ 2 _ _ (client-bytes c.args.s.now c.args.kind _ c.in-Client.is) c.put-next-in-Client.ensures c.hash_at-hash-in-Client.ensures c.write-in-Client.ensures
+pub returns-in-None : goal.returns-in-None
+returns-in-None c = wrote_byte _ _ (copy-bytes c.args.s.now c.args.kind c.in-None.ensures) (c.put-next.ensures ∙ ap (put_on _) c.flags_of.ensures)

@@ -15,10 +15,10 @@ pub is_id-requires : goal.is_id-requires
 is_id-requires c = record { i_bound = omega arith; own_value = c.requires.keys.1 c.loop-i.i (omega arith); key_value = c.loop-i.invariant.1 }
 
 pub returns-then-is_id : goal.returns-then-is_id
-returns-then-is_id c = search-here c.args.x c.args.ids.now c.args.n c.requires.n_in_bounds c.loop-i.i (omega arith) c.loop-i.invariant.2 (sym c.is_id.ensures ∙ c.if-is_id.true)
+returns-then-is_id c = search-here c.args.x c.args.ids.now c.args.n (omega arith) c.loop-i.i (omega arith) c.loop-i.invariant.2 (sym c.is_id.ensures ∙ c.if-is_id.true)
 
 pub loop-i-preserved : goal.loop-i-preserved
-loop-i-preserved c = (omega arith, c.loop-i.invariant.1, rw add-one (search_on c.args.x c.args.ids.now c.args.n c.requires.n_in_bounds c.loop-i.i (omega arith) c.loop-i.invariant.2 (sym c.is_id.ensures ∙ c.if-is_id.false)))
+loop-i-preserved c = (omega arith, c.loop-i.invariant.1, rw add-one (search_on c.args.x c.args.ids.now c.args.n (omega arith) c.loop-i.i (omega arith) c.loop-i.invariant.2 (sym c.is_id.ensures ∙ c.if-is_id.false)))
 
 pub returns : goal.returns
-returns c = search-end c.args.x c.args.ids.now c.args.n c.requires.n_in_bounds c.loop-i.i (omega arith) c.loop-i.invariant.2
+returns c = search-end c.args.x c.args.ids.now c.args.n (omega arith) c.loop-i.i (omega arith) c.loop-i.invariant.2

@@ -1,12 +1,8 @@
 use Prim.Native.Nat.{◌≤◌, ◌-◌}
 use mathlib.Core.Path.{◌≡◌}
-use lib.ListN.{length}
 use Rattle.spv.specs.Hashes.{hashes}
 use Rattle.order.specs.Parents.{filled_from}
 use Rattle.order.proofs.parents.fill_parents.Given as goal
 
 abbrev pub invariant-loop-i : goal.invariant-loop-i
-invariant-loop-i l = (l.i ≤ l.n) × (length l.matrix ≡ length l.initial.matrix) × (filled_from l.s (hashes l.n l.ids) (l.n - l.i) l.i l.next.at l.matrix ≡ filled_from l.s (hashes l.n l.ids) l.n 0 0 l.initial.matrix)
-
-abbrev pub decreases-loop-i : goal.decreases-loop-i
-decreases-loop-i l = l.n - l.i
+invariant-loop-i l = (l.i ≤ l.n) × (filled_from l.s (hashes l.n l.ids) (l.n - l.i) l.i l.next.at l.matrix ≡ filled_from l.s (hashes l.n l.ids) l.n 0 0 l.initial.matrix)

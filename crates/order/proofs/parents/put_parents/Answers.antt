@@ -1,41 +1,40 @@
-use Prim.Native.Nat.{◌<◌}
-use mathlib.Core.Path.{refl, sym, ◌∙◌}
+use Prim.Native.Nat.{ℕ, ◌<◌}
+use mathlib.Core.Path.{◌≡◌, sym, ◌∙◌}
 use native.Mathlib.Nat.{sub-zero}
 use native.Mathlib.Omega.{arith}
-use Rattle.format.proofs.ParseLaws.{answered}
-use Rattle.format.specs.TransactionAnswer.{input_answer}
-use Rattle.order.proofs.ParentsLaws.{putting_refused, putting_on, putting_end}
+use Rattle.order.proofs.IdsLaws.{found-below}
+use Rattle.spv.specs.Hashes.{hashes, index_of}
+use Rattle.order.specs.Parents.{put_parent}
+use mathlib.Core.List.{List}
+use Rattle.order.proofs.parents.put_parents.Goals.{in-Some, in_default-find}
+use Rattle.order.proofs.ParentsLaws.{put_found, put-none, putting_refused, putting_on, putting_end}
 use Rattle.order.proofs.parents.put_parents.Goals as goal
 
-pub loop-k-init : goal.loop-k-init
-loop-k-init c = (omega arith, refl, simp sub-zero)
-
-pub shape_of-matrix-in_default : goal.shape_of-matrix-in_default
-shape_of-matrix-in_default c = c.loop-k.invariant.1
+pub loop-init : goal.loop-init
+loop-init c = (omega arith, simp sub-zero)
 
 pub returns-in_default : goal.returns-in_default
 returns-in_default c =
-    sym (putting_refused c.args.s.now c.args.ids.now c.args.n c.args.i c.args.inputs.count c.loop-k.k c.loop-k.next.at c.loop-k.matrix c.loop-k-test.true (answered input_answer c.read_input-field.ensures c.in_default.is))
-    ∙ c.loop-k.invariant.2
+    sym (putting_refused c.args.s.now c.args.ids.now c.args.n c.args.i c.args.inputs.count c.loop.counter c.loop.next.at c.loop.matrix (omega arith) (sym c.in_default.ensures))
+    ∙ c.loop.invariant.1
 
-pub find-j-requires : goal.find-j-requires
-find-j-requires c = record { n_bound = c.requires.n_bound; n_in_bounds = c.requires.n_in_bounds; keys = c.requires.keys }
+pub find-requires : goal.find-requires
+find-requires c = record { n_bound = c.requires.n_bound; keys = c.requires.keys }
 
 pub put_parent-requires : goal.put_parent-requires
-put_parent-requires c = (c.requires.n_bound, c.requires.i_bound, c.loop-k.invariant.1 ∙ c.requires.matrix_len)
+put_parent-requires c = let b = found-below _ _ c.in-Some.ensures in (c.requires.i_bound, omega arith)
 
-pub loop-k-preserved : goal.loop-k-preserved
-loop-k-preserved c =
-    let low : c.loop-k.k < c.args.inputs.count = c.loop-k-test.true in (
-      omega arith,
-      c.put_parent.auto.matrix ∙ c.loop-k.invariant.1,
-      sym (putting_on c.args.s.now c.args.ids.now c.args.n c.args.i c.args.inputs.count c.loop-k.k c.loop-k.next.at c.loop-k.matrix low
-          (answered input_answer c.read_input-field.ensures c.in-Value.is) c.hash_at.ensures c.find-j.ensures c.put_parent.ensures)
-          ∙ c.loop-k.invariant.2,
-    )
-
-pub shape_of-matrix : goal.shape_of-matrix
-shape_of-matrix c = c.loop-k.invariant.1
+pub loop-preserved : goal.loop-preserved
+loop-preserved c =
+    let low : c.loop.counter < c.args.inputs.count = omega arith in
+    let on = λ (m : List ℕ) (e : m ≡ put_parent c.args.n c.loop.matrix c.args.i (index_of c.hash_at.result (hashes c.args.n c.args.ids.now))).
+    sym (putting_on c.args.s.now c.args.ids.now c.args.n c.args.i c.args.inputs.count c.loop.counter c.loop.next.at c.loop.matrix low (sym c.in-Ok.ensures) c.hash_at.ensures e) ∙ c.loop.invariant.1 in
+    elim c.match-find.branch [
+      | in-Some w ↦
+          (omega arith, on c.match-find.matrix (w.matrix-is ∙ w.put_parent.ensures ∙ put_found _ _ _ _ w.in-Some.ensures))
+      | in_default-find w ↦
+          (omega arith, on c.match-find.matrix (w.matrix-is ∙ put-none _ _ _ _ w.in_default-find.ensures))
+    ]
 
 pub returns : goal.returns
-returns c = sym (putting_end c.args.s.now c.args.ids.now c.args.n c.args.i c.args.inputs.count c.loop-k.k c.loop-k.next.at c.loop-k.matrix c.loop-k-test.false) ∙ c.loop-k.invariant.2
+returns c = sym (putting_end c.args.s.now c.args.ids.now c.args.n c.args.i c.args.inputs.count c.loop.counter c.loop.next.at c.loop.matrix (omega arith)) ∙ c.loop.invariant.1

@@ -1,4 +1,4 @@
-use Prim.Native.Nat.{ℕ}
+use Prim.Native.Nat.{ℕ, ◌<◌}
 use mathlib.Core.Path.{◌≡◌, refl, ap, ◌∙◌}
 use native.Mathlib.Omega.{arith}
 use native.Mathlib.Numerals.{add-one}
@@ -9,24 +9,25 @@ use Rattle.order.proofs.placing.our_order.Goals as goal
 pub loop-k-init : goal.loop-k-init
 loop-k-init c = (omega arith, refl, ap length c.no_marks-marks.ensures ∙ length-replicate {A = ℕ} 256 0, rw c.no_marks-marks.ensures marks_start, placing-start c.args.matrix.now c.args.n c.args.row.now, refl)
 
-pub shape_of-row-then-i-n : goal.shape_of-row-then-i-n
-shape_of-row-then-i-n c = ap length c.zero_row.ensures ∙ length-replicate {A = ℕ} (length c.loop-k.row) 0 ∙ c.loop-k.invariant.1
+pub shape_of-row-in_default : goal.shape_of-row-in_default
+shape_of-row-in_default c = ap length c.zero_row.ensures ∙ length-replicate {A = ℕ} (length c.loop-k.row) 0 ∙ c.loop-k.invariant.1
 
-pub returns-then-i-n : goal.returns-then-i-n
-returns-then-i-n c =
+pub returns-in_default : goal.returns-in_default
+returns-in_default c =
     answer_none c.args.matrix.now c.args.n c.zero_row.new.row c.args.row.now
-    (placing_stops c.args.matrix.now c.args.n c.loop-k.marks c.loop-k.row c.loop-k.k c.first_ready-i.result (omega arith) (omega arith) c.first_ready-i.ensures.1 c.loop-k.invariant.3 c.loop-k.invariant.4)
+    (placing_stops c.args.matrix.now c.args.n c.loop-k.marks c.loop-k.row c.loop-k.k (omega arith) c.in_default.ensures.0 c.loop-k.invariant.3 c.loop-k.invariant.4)
     (c.zero_row.ensures ∙ ap (λ (m : ℕ). replicate m 0) c.loop-k.invariant.1)
 
 pub loop-k-preserved : goal.loop-k-preserved
-loop-k-preserved c = (
-  omega arith,
-  length-set c.loop-k.row c.loop-k.k c.first_ready-i.result ∙ c.loop-k.invariant.1,
-  length-set c.loop-k.marks c.first_ready-i.result 1 ∙ c.loop-k.invariant.2,
-  rw add-one (marks_placed c.loop-k.marks c.loop-k.row c.loop-k.k c.first_ready-i.result (omega arith) c.loop-k.invariant.2 (omega arith) c.loop-k.invariant.3),
-  rw add-one (placing_on c.args.matrix.now c.args.n c.loop-k.marks c.loop-k.row c.loop-k.k c.first_ready-i.result (omega arith) (omega arith) (omega arith) c.first_ready-i.ensures.1 c.loop-k.invariant.3 c.loop-k.invariant.4),
-  rw add-one (rest_on c.loop-k.row c.args.row.now c.loop-k.k c.first_ready-i.result c.loop-k.invariant.5),
-)
+loop-k-preserved c =
+    let b : c.in-Some.i < c.args.n = c.in-Some.ensures.1 in (
+      omega arith,
+      length-set c.loop-k.row c.loop-k.k c.in-Some.i ∙ c.loop-k.invariant.1,
+      length-set c.loop-k.marks c.in-Some.i 1 ∙ c.loop-k.invariant.2,
+      rw add-one (marks_placed c.loop-k.marks c.loop-k.row c.loop-k.k c.in-Some.i (omega arith) c.loop-k.invariant.2 (omega arith) c.loop-k.invariant.3),
+      rw add-one (placing_on c.args.matrix.now c.args.n c.loop-k.marks c.loop-k.row c.loop-k.k c.in-Some.i (omega arith) (omega arith) c.in-Some.ensures.0 c.loop-k.invariant.3 c.loop-k.invariant.4),
+      rw add-one (rest_on c.loop-k.row c.args.row.now c.loop-k.k c.in-Some.i c.loop-k.invariant.5),
+    )
 
 pub shape_of-row : goal.shape_of-row
 shape_of-row c = c.loop-k.invariant.1

@@ -1,4 +1,4 @@
-use Prim.Native.Nat.{◌≤◌, ◌-◌}
+use Prim.Native.Nat.{◌≤◌}
 use Rattle.order.specs.Code.{Marks}
 use mathlib.Core.Path.{◌≡◌}
 use lib.ListN.{length, take, drop}
@@ -7,6 +7,3 @@ use Rattle.order.proofs.placing.our_order.Given as goal
 
 abbrev pub invariant-loop-k : goal.invariant-loop-k
 invariant-loop-k l = (l.k ≤ l.n) × (length l.row ≡ length l.initial.row) × (length l.marks ≡ 256) × Marks l.marks (take l.k l.row) × Placing l.matrix l.n l.k l.row × (drop l.k l.row ≡ drop l.k l.initial.row)
-
-abbrev pub decreases-loop-k : goal.decreases-loop-k
-decreases-loop-k l = l.n - l.k

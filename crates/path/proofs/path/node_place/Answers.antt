@@ -1,14 +1,12 @@
-use Rattle.format.specs.LevelAnswer.{kind_of}
-use Rattle.format.proofs.ParseLaws.{answered}
+use mathlib.Core.Path.{sym, ◌∙◌}
+use Rattle.format.proofs.ParseLaws.{passed_on}
 use Rattle.path.specs.TscPath.{node_place_field}
 use Rattle.path.proofs.path.node_place.Goals as goal
 
-pub returns-in_default : goal.returns-in_default
+pub returns-in_err-next : goal.returns-in_err-next
 unfolding node_place_field
-returns-in_default c =
-    rw (c.refusal.ensures, c.in_default.is)
-    (simp (answered kind_of c.read_node-field.ensures c.in_default.is))
+returns-in_err-next c = passed_on _ _ c.from_residual.ensures.1 ∙ simp (sym c.in_err-next.ensures)
 
 pub returns : goal.returns
 unfolding node_place_field
-returns c = simp (answered kind_of c.read_node-field.ensures c.in-Value.is)
+returns c = simp (sym c.in_ok-next.ensures)

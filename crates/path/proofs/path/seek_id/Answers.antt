@@ -1,24 +1,37 @@
 use native.Mathlib.Omega.{arith}
 use native.Mathlib.Nat.{sub-zero}
 use mathlib.Core.Path.{sym, ◌∙◌}
+use Rattle.std.specs.Prelude.{Some, None}
+use Rattle.path.specs.Steps.{Carried}
 use Rattle.path.proofs.SearchLaws.{least-end, least-stop}
-use Rattle.path.proofs.StepLaws.{tells_as, least-hash, least_other, least-copy}
+use Rattle.path.proofs.StepLaws.{least-hash, least_other, least-copy}
 use Rattle.path.proofs.path.seek_id.Goals as goal
+use Rattle.path.proofs.path.seek_id.Goals.{then-same_bytes, else-same_bytes}
 
-pub loop-i-init : goal.loop-i-init
-loop-i-init c = (omega arith, simp sub-zero)
+pub loop-init : goal.loop-init
+loop-init c = (omega arith, simp sub-zero)
 
-pub loop-i-preserved-then-same_bytes : goal.loop-i-preserved-then-same_bytes
-loop-i-preserved-then-same_bytes c = let t = tells_as _ c.pass_leaf-step.ensures c.in-Hash.is in (omega arith, c.loop-i.invariant.1 ∙ least-hash _ _ _ _ _ _ _ (omega arith) _ c.in-Hash.place t (sym (rw c.hash_at.ensures at c.same_bytes.ensures) ∙ c.if-same_bytes.true) c.lesser_of-best.ensures)
+pub returns-in_default : goal.returns-in_default
+returns-in_default c = sym (c.loop.invariant.1 ∙ least-stop _ _ _ _ _ _ (omega arith) c.in_default.ensures)
 
-pub loop-i-preserved-else-same_bytes : goal.loop-i-preserved-else-same_bytes
-loop-i-preserved-else-same_bytes c = let t = tells_as _ c.pass_leaf-step.ensures c.in-Hash.is in (omega arith, c.loop-i.invariant.1 ∙ least_other _ _ _ _ _ _ _ (omega arith) c.in-Hash.place t (sym (rw c.hash_at.ensures at c.same_bytes.ensures) ∙ c.if-same_bytes.false))
+pub loop-preserved-in_default-place : goal.loop-preserved-in_default-place
+loop-preserved-in_default-place c =
+    let t = c.in-Ok.ensures in
+    let carried : Carried None t.0 = rw c.in_default-place.is at t.2 in
+    (omega arith, c.loop.invariant.1 ∙ least-copy c.args.layout c.args.id c.args.s.now _ _ _ _ (omega arith) t.0 t.1 carried)
 
-pub loop-i-preserved : goal.loop-i-preserved
-loop-i-preserved c = let t = tells_as _ c.pass_leaf-step.ensures c.in-Copy.is in (omega arith, c.loop-i.invariant.1 ∙ least-copy _ _ _ _ _ _ _ (omega arith) t)
-
-pub returns-in-Stuck : goal.returns-in-Stuck
-returns-in-Stuck c = sym (c.loop-i.invariant.1 ∙ least-stop _ _ _ _ _ _ (omega arith) (tells_as _ c.pass_leaf-step.ensures c.in-Stuck.is).2)
+pub loop-preserved : goal.loop-preserved
+loop-preserved c =
+    let t = c.in-Ok.ensures in
+    let carried : Carried (Some c.in-Some.place) t.0 = rw c.in-Some.is at t.2 in
+    let tested = rw c.hash_at.ensures at c.same_bytes.ensures in (
+      omega arith,
+      c.loop.invariant.1
+          ∙ elim c.if-same_bytes.branch [
+            | then-same_bytes w ↦ least-hash c.args.layout c.args.id c.args.s.now _ _ _ _ (omega arith) t.0 t.1 _ c.in-Some.place carried (sym tested ∙ w.if-same_bytes.true) (w.best-is ∙ w.lesser_of-best.ensures)
+            | else-same_bytes w ↦ rw w.best-is (least_other c.args.layout c.args.id c.args.s.now _ _ _ _ (omega arith) t.0 t.1 c.in-Some.place carried (sym tested ∙ w.if-same_bytes.false))
+          ],
+    )
 
 pub returns : goal.returns
-returns c = sym (c.loop-i.invariant.1 ∙ least-end _ _ _ _ _ _ (omega arith))
+returns c = sym (c.loop.invariant.1 ∙ least-end _ _ _ _ _ _ (omega arith))

@@ -1,21 +1,16 @@
-use Rattle.format.specs.FieldAnswer.{number_of}
-use Rattle.format.specs.LevelAnswer.{kind_of}
-use Rattle.format.proofs.ParseLaws.{answered}
+use mathlib.Core.Path.{sym, ◌∙◌}
+use Rattle.format.proofs.ParseLaws.{passed_on}
 use Rattle.path.specs.Unchecked.{unchecked_leaf}
 use Rattle.path.proofs.walk.leaf_at.Goals as goal
 
-pub returns-in_default : goal.returns-in_default
+pub returns-in_err-offset : goal.returns-in_err-offset
 unfolding unchecked_leaf
-returns-in_default c =
-    rw (c.refusal.ensures, c.in_default.is)
-    (simp (answered number_of c.read_varint-first.ensures c.in_default.is))
+returns-in_err-offset c = passed_on _ _ c.from_residual.ensures.1 ∙ simp (sym c.in_err-offset.ensures)
 
-pub returns-in_default-second : goal.returns-in_default-second
+pub returns-in_err-kind : goal.returns-in_err-kind
 unfolding unchecked_leaf
-returns-in_default-second c =
-    rw (c.refusal-in_default-second.ensures, c.in_default-second.is)
-    (simp (answered number_of c.read_varint-first.ensures c.in-Value.is, answered kind_of c.unchecked_carried-second.ensures c.in_default-second.is))
+returns-in_err-kind c = passed_on _ _ c.from_residual-in_err-kind.ensures.1 ∙ simp (sym c.in_ok-offset.ensures, sym c.in_err-kind.ensures)
 
 pub returns : goal.returns
 unfolding unchecked_leaf
-returns c = simp (answered number_of c.read_varint-first.ensures c.in-Value.is, answered kind_of c.unchecked_carried-second.ensures c.in-Value-second.is)
+returns c = simp (sym c.in_ok-offset.ensures, sym c.in_ok-kind.ensures)

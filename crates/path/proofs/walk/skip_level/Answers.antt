@@ -1,14 +1,13 @@
-use mathlib.Core.Path.{◌∙◌}
-use Rattle.format.specs.FieldAnswer.{number_of}
+use mathlib.Core.Path.{sym, ◌∙◌}
 use Rattle.format.specs.Parse.{each}
-use Rattle.format.proofs.ParseLaws.{answered}
+use Rattle.format.proofs.ParseLaws.{passed_on}
 use Rattle.path.specs.Unchecked.{unchecked_level}
 use Rattle.path.proofs.walk.skip_level.Goals as goal
 
-pub returns-in_default : goal.returns-in_default
+pub returns-in_err-count : goal.returns-in_err-count
 unfolding each unchecked_level
-returns-in_default c = rw c.in_default.is (simp (answered number_of c.read_varint-field.ensures c.in_default.is))
+returns-in_err-count c = passed_on _ _ c.from_residual.ensures.1 ∙ simp (sym c.in_err-count.ensures)
 
 pub returns : goal.returns
 unfolding unchecked_level
-returns c = c.skip_leaves.ensures ∙ simp (answered number_of c.read_varint-field.ensures c.in-Value.is)
+returns c = c.skip_leaves.ensures ∙ simp (sym c.in_ok-count.ensures)

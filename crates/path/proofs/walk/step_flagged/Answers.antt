@@ -1,10 +1,9 @@
-use Rattle.format.specs.FieldAnswer.{number_of}
-use Rattle.format.proofs.ParseLaws.{answered}
-use Rattle.path.proofs.StepLaws.{flagged_stuck, flagged_on}
+use mathlib.Core.Path.{sym}
+use Rattle.path.proofs.StepLaws.{told_on, flagged_stuck, flagged_on}
 use Rattle.path.proofs.walk.step_flagged.Goals as goal
 
-pub returns-in_default : goal.returns-in_default
-returns-in_default c = (_, _, flagged_stuck _ _ _ (answered number_of c.one_byte-first.ensures c.in_default.is))
+pub returns-in_err-flags : goal.returns-in_err-flags
+returns-in_err-flags c = told_on _ _ _ c.from_residual.ensures.1 (flagged_stuck _ _ _ (sym c.in_err-flags.ensures))
 
 pub returns : goal.returns
-returns c = rw (flagged_on c.args.offset _ _ (answered number_of c.one_byte-first.ensures c.in-Value.is)) c.step_kind.ensures
+returns c = rw (flagged_on c.args.offset _ _ (sym c.in_ok-flags.ensures)) c.step_kind.ensures

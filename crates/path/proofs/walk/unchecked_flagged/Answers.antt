@@ -1,15 +1,12 @@
-use mathlib.Core.Path.{◌∙◌}
-use Rattle.format.specs.FieldAnswer.{number_of}
-use Rattle.format.proofs.ParseLaws.{answered}
+use mathlib.Core.Path.{sym, ◌∙◌}
+use Rattle.format.proofs.ParseLaws.{passed_on}
 use Rattle.path.specs.Unchecked.{unchecked_carried}
 use Rattle.path.proofs.walk.unchecked_flagged.Goals as goal
 
-pub returns-in_default : goal.returns-in_default
+pub returns-in_err-flag : goal.returns-in_err-flag
 unfolding unchecked_carried
-returns-in_default c =
-    rw (c.refusal.ensures, c.in_default.is)
-    (simp (answered number_of c.one_byte-first.ensures c.in_default.is))
+returns-in_err-flag c = passed_on _ _ c.from_residual.ensures.1 ∙ simp (sym c.in_err-flag.ensures)
 
 pub returns : goal.returns
 unfolding unchecked_carried
-returns c = c.read_kind.ensures ∙ simp (answered number_of c.one_byte-first.ensures c.in-Value.is)
+returns c = c.read_kind.ensures ∙ simp (sym c.in_ok-flag.ensures)

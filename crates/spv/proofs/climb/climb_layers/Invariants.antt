@@ -1,4 +1,3 @@
-use Prim.Native.Nat.{◌-◌}
 use Rattle.spv.specs.PositionFits.{PositionFits}
 use Rattle.spv.specs.Siblings.{path_siblings}
 use Rattle.spv.proofs.Turns.{Climbing}
@@ -6,6 +5,3 @@ use Rattle.spv.proofs.climb.climb_layers.Given as goal
 
 abbrev pub invariant-loop-k : goal.invariant-loop-k
 invariant-loop-k l = Climbing (path_siblings l.s l.path) l.h l.i l.initial.c l.k l.j l.c × PositionFits l.k l.j
-
-abbrev pub decreases-loop-k : goal.decreases-loop-k
-decreases-loop-k l = l.h - l.k

@@ -1,43 +1,30 @@
-use native.Mathlib.Omega.{arith}
-use native.Mathlib.Nat.{zero-add}
-use mathlib.Core.Path.{ap, ap₂, ◌∙◌, sym}
+use Rattle.std.proofs.Common.{ap, ap₂, ◌∙◌, sym, arith}
 use Rattle.format.specs.Bytes.{same}
 use Rattle.spv.proofs.PositionFitsLaws.{low_lower, low-next}
 use Rattle.spv.specs.Shapes.{meeting_of}
-use Rattle.spv.proofs.Turns.{pairing_start, pairing_end, pairing_stop, pairing_stop₂, pairing_here, pairing_up}
+use Rattle.spv.proofs.Turns.{pairing_end, pairing_stop, pairing_stop₂, pairing_here, pairing_up}
 use Rattle.spv.proofs.compare.meet.Goals as goal
 
-pub loop-k-init : goal.loop-k-init
-loop-k-init c = (pairing_start _ _ _ _ _ _ _, rw zero-add c.requires.1)
+pub layer_of-requires : goal.layer_of-requires
+layer_of-requires c = low_lower _ _ _ c.loop-k.invariant.1
 
-pub layer_of-t-requires : goal.layer_of-t-requires
-layer_of-t-requires c = low_lower _ _ _ c.loop-k.invariant.1
+pub returns-in_default : goal.returns-in_default
+returns-in_default c = ap meeting_of (pairing_stop _ _ _ _ _ _ _ _ _ _ _ c.loop-k.invariant.0 (omega arith) _ c.in_default.ensures)
 
-pub layer_of-u-requires : goal.layer_of-u-requires
-layer_of-u-requires c = c.loop-k.invariant.1
-
-pub returns-then-not-joins : goal.returns-then-not-joins
-returns-then-not-joins c = c.no_meeting.ensures ∙ ap meeting_of (pairing_stop _ _ _ _ _ _ _ c.loop-k.k c.loop-k.j c.loop-k.c c.loop-k.d c.loop-k.invariant.0 c.loop-k-test.true c.layer_of-t.result c.layer_of-u.result c.layer_of-t.ensures c.layer_of-u.ensures (sym c.joins.ensures ∙ c.if-not-joins.true))
-
-pub returns-then-not-joins-2 : goal.returns-then-not-joins-2
-returns-then-not-joins-2 c = c.no_meeting-then-not-joins-2.ensures ∙ ap meeting_of (pairing_stop₂ _ _ _ _ _ _ _ c.loop-k.k c.loop-k.j c.loop-k.c c.loop-k.d c.loop-k.invariant.0 c.loop-k-test.true c.layer_of-t.result c.layer_of-u.result c.layer_of-t.ensures c.layer_of-u.ensures (sym c.joins-in-loop-k.ensures ∙ c.if-not-joins-2.true))
+pub returns-in_default-layer_of : goal.returns-in_default-layer_of
+returns-in_default-layer_of c = ap meeting_of (pairing_stop₂ _ _ _ _ _ _ _ _ _ _ _ c.loop-k.invariant.0 (omega arith) _ c.in_default-layer_of.ensures)
 
 pub returns-then-same_bytes : goal.returns-then-same_bytes
 returns-then-same_bytes c =
-    c.met.ensures ∙ ap meeting_of (pairing_here _ _ _ _ _ _ _ c.loop-k.k c.loop-k.j c.loop-k.c c.loop-k.d c.loop-k.invariant.0 c.loop-k-test.true c.layer_of-t.result c.layer_of-u.result c.layer_of-t.ensures c.layer_of-u.ensures
-    (sym c.joins.ensures ∙ c.if-not-joins.false) (sym c.joins-in-loop-k.ensures ∙ c.if-not-joins-2.false)
-    (sym (c.same_bytes.ensures ∙ ap₂ same c.join-c.ensures c.join-d.ensures) ∙ c.if-same_bytes.true))
-
-pub overflow_add-k-in-loop-k : goal.overflow_add-k-in-loop-k
-overflow_add-k-in-loop-k c = omega arith
+    rw c.met.ensures (ap meeting_of (pairing_here _ _ _ _ _ _ _ _ _ _ _ c.loop-k.invariant.0 (omega arith) _ _ c.in-Ok.ensures c.in-Ok-layer_of.ensures
+    (sym (c.same_bytes.ensures ∙ ap₂ same c.parent_of-c.ensures c.parent_of-d.ensures) ∙ c.if-same_bytes.true)))
 
 pub loop-k-preserved : goal.loop-k-preserved
 loop-k-preserved c = (
-  pairing_up _ _ _ _ _ _ _ c.loop-k.k c.loop-k.j c.loop-k.c c.loop-k.d c.loop-k.invariant.0 c.loop-k-test.true c.layer_of-t.result c.layer_of-u.result c.layer_of-t.ensures c.layer_of-u.ensures
-      (sym c.joins.ensures ∙ c.if-not-joins.false) (sym c.joins-in-loop-k.ensures ∙ c.if-not-joins-2.false)
-      (sym (c.same_bytes.ensures ∙ ap₂ same c.join-c.ensures c.join-d.ensures) ∙ c.if-same_bytes.false) _ _ c.join-c.ensures c.join-d.ensures,
-  low-next _ c.loop-k.k c.loop-k.j c.loop-k.invariant.1,
+  pairing_up _ _ _ _ _ _ _ _ _ _ _ c.loop-k.invariant.0 (omega arith) _ _ c.in-Ok.ensures c.in-Ok-layer_of.ensures
+      (sym (c.same_bytes.ensures ∙ ap₂ same c.parent_of-c.ensures c.parent_of-d.ensures) ∙ c.if-same_bytes.false) _ _ c.parent_of-c.ensures c.parent_of-d.ensures,
+  low-next _ _ _ c.loop-k.invariant.1,
 )
 
 pub returns : goal.returns
-returns c = c.no_meeting-2.ensures ∙ ap meeting_of (pairing_end _ _ _ _ _ _ _ c.loop-k.k c.loop-k.j c.loop-k.c c.loop-k.d c.loop-k.invariant.0 c.loop-k-test.false)
+returns c = ap meeting_of (pairing_end _ _ _ _ _ _ _ _ _ _ _ c.loop-k.invariant.0 (omega arith))

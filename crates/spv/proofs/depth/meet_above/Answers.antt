@@ -1,9 +1,8 @@
-use mathlib.Core.Path.{◌∙◌}
 use Rattle.spv.proofs.DepthLaws.{pair_found, pair-none}
 use Rattle.spv.proofs.depth.meet_above.Goals as goal
 
-pub returns-then-m : goal.returns-then-m
-returns-then-m c = pair_found c.meet-m.result _ c.meet-m.ensures c.if-m.true
+pub returns-in-Some : goal.returns-in-Some
+returns-in-Some c = pair_found _ _ c.in-Some.ensures
 
-pub returns : goal.returns
-returns c = c.not_deeper.ensures ∙ pair-none c.meet-m.result _ c.meet-m.ensures c.if-m.false
+pub returns-in-None : goal.returns-in-None
+returns-in-None c = rw c.reject.ensures (pair-none _ c.in-None.ensures)

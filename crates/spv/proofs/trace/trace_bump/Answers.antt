@@ -1,6 +1,8 @@
-use mathlib.Core.Path.{◌∙◌, ap}
-use Rattle.spv.specs.Trace.{traced_of}
+use Rattle.std.proofs.Common.{sym}
+use Rattle.spv.specs.Prove.{prove_by}
+use Rattle.spv.proofs.ResultLaws.{refused_on}
 use Rattle.spv.proofs.trace.trace_bump.Goals as goal
 
-pub returns : goal.returns
-returns c = c.trace_claim.ensures ∙ ap traced_of c.claim_bump.ensures
+pub returns-in_err-claim : goal.returns-in_err-claim
+unfolding prove_by
+returns-in_err-claim c = refused_on _ _ _ _ c.from_residual.ensures.1 (sym c.in_err-claim.ensures)

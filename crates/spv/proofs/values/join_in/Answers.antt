@@ -2,22 +2,14 @@ use Prim.Native.Nat.{◌<◌}
 use mathlib.Core.Path.{sym, ◌∙◌}
 use native.Mathlib.Omega.{arith}
 use Rattle.path.specs.Path.{layers_of}
-use Rattle.spv.specs.Climb.{absent}
 use Rattle.spv.proofs.SiblingsLaws.{join_outside, join-bump, join-cmp, join-tsc}
-use Rattle.spv.proofs.ShapesLaws.{node-says}
 use Rattle.spv.proofs.values.join_in.Goals as goal
 
 pub returns-then-path-layer : goal.returns-then-path-layer
-returns-then-path-layer c = node-says _ absent c.absent_node.ensures ∙ sym (join_outside c.args.s.now c.args.path c.args.layer c.args.position (omega (arith, c.if-path-layer.true)))
+returns-then-path-layer c = sym (join_outside c.args.s.now c.args.path c.args.layer c.args.position (omega (arith, c.if-path-layer.true)))
 
 pub returns-then-layer-ge-LAYERS : goal.returns-then-layer-ge-LAYERS
-returns-then-layer-ge-LAYERS c = node-says _ absent c.absent_node-then-layer-ge-LAYERS.ensures ∙ sym (join_outside c.args.s.now c.args.path c.args.layer c.args.position (omega (arith, c.if-layer-ge-LAYERS.true)))
-
-pub join_at-requires : goal.join_at-requires
-join_at-requires c = (omega arith, c.requires c.if-layer-ge-LAYERS.false)
-
-pub join_at-requires-in-Cmp : goal.join_at-requires-in-Cmp
-join_at-requires-in-Cmp c = (omega arith, c.requires c.if-layer-ge-LAYERS.false)
+returns-then-layer-ge-LAYERS c = sym (join_outside c.args.s.now c.args.path c.args.layer c.args.position (omega (arith, c.if-layer-ge-LAYERS.true)))
 
 pub returns-in-Bump : goal.returns-in-Bump
 returns-in-Bump c =
@@ -32,4 +24,4 @@ returns-in-Cmp c =
 pub returns-in-Tsc : goal.returns-in-Tsc
 returns-in-Tsc c =
     let b : c.args.layer < layers_of c.args.path.layers = omega (arith, c.if-layer-ge-LAYERS.false, c.if-path-layer.false) in
-    node-says _ absent c.absent_node-in-Tsc.ensures ∙ sym (join-tsc c.args.s.now c.args.path c.args.layer c.args.position b c.in-Tsc.is)
+    sym (join-tsc c.args.s.now c.args.path c.args.layer c.args.position b c.in-Tsc.is)

@@ -4,11 +4,11 @@ use Rattle.stream.proofs.digits.taken.Goals as goal
 
 pub returns-then-f-ge-MAX_PARTS : goal.returns-then-f-ge-MAX_PARTS
 unfolding taken
-returns-then-f-ge-MAX_PARTS c = rw (le-leb _ _ c.if-f-ge-MAX_PARTS.true)
+returns-then-f-ge-MAX_PARTS c = rw (le-leb _ _ c.if-f-ge-MAX_PARTS.true) c.refused.ensures
 
 pub returns-then-is_end : goal.returns-then-is_end
 unfolding taken
-returns-then-is_end c = rw (lt-leb _ _ c.if-f-ge-MAX_PARTS.false, ← c.is_end.ensures, c.if-is_end.true)
+returns-then-is_end c = rw (lt-leb _ _ c.if-f-ge-MAX_PARTS.false, ← c.is_end.ensures, c.if-is_end.true) c.refused-then-is_end.ensures
 
 pub returns-then-is_number : goal.returns-then-is_number
 unfolding taken

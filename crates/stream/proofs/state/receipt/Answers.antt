@@ -4,4 +4,4 @@ use Rattle.stream.proofs.state.receipt.Goals as goal
 
 pub returns : goal.returns
 unfolding answer_of
-returns c = refl
+returns c = rw c.no_answer.ensures refl

@@ -11,4 +11,4 @@ overflow_sub-f c = (c.at_start.ensures c.if-not-at_start.false).1
 pub returns : goal.returns
 returns c =
     let a = c.at_start.ensures c.if-not-at_start.false in
-    (omega (arith, c.whole_outputs.ensures.1, c.smaller-room.ensures.0), λ h. outputs_skip _ _ _ _ _ _ _ a.0 (omega (arith, c.smaller-room.ensures.1, a.1)) c.whole_outputs.ensures.1 c.whole_outputs.ensures.2)
+    (omega (arith, c.whole_outputs.ensures.1, c.min-room.ensures), λ h. outputs_skip _ _ _ _ _ _ _ a.0 (omega (arith, c.min-room.ensures, a.1)) c.whole_outputs.ensures.1 c.whole_outputs.ensures.2)

@@ -1,7 +1,0 @@
-use Rattle.std.proofs.Common.{refl}
-use Rattle.lanes.specs.Lanes.{value}
-use Rattle.lanes.proofs.messages.value.Goals as goal
-
-pub returns : goal.returns
-unfolding value
-returns c = refl
