@@ -53,7 +53,7 @@
  * *blame and *transaction stay as they were, and so does the room past what is written.
  *
  * Stack. As built by the kit a call needs at most
- *   - 120 KiB barrowtide_judge_beef
+ *   - 128 KiB barrowtide_judge_beef
  *   - 64 KiB  barrowtide_merge, barrowtide_prove_page, barrowtide_check_clients
  *   - 48 KiB  barrowtide_write_bump
  *   - 40 KiB  barrowtide_prove_bump, barrowtide_prove_cmp, barrowtide_compare,

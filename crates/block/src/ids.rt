@@ -10,18 +10,15 @@ pub(crate) fn all_below(n: u64, chosen: &[u64]) -> bool
     chosen.iter().all(|position| *position < n)
 }
 
-fn wide(b: u8) -> usize
-    ensures { (result ≡ b) × (result < 256) }
-{
-    b as usize
-}
-
 // A number below 16,384 that equal ids have in common.
 fn slot(ids: &[u8], at: usize) -> usize
     requires { at + 32 ≤ length ids.now }
     ensures { (result ≡ slot_at ids.now at) × (result < 16384) }
 {
-    (wide(ids[at]) + 256 * wide(ids[at + 1]) + 256 * wide(ids[at + 30]) + wide(ids[at + 31]))
+    (usize::from(ids[at])
+        + 256 * usize::from(ids[at + 1])
+        + 256 * usize::from(ids[at + 30])
+        + usize::from(ids[at + 31]))
         % 16384
 }
 

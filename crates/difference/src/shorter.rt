@@ -64,7 +64,8 @@ fn why_of(weighed: Result<Shorter, Rejection>) -> [u64; 4]
 }
 
 // The shorter of two BUMPs that prove the id to one root, the first if they are equally long; an empty part of the first if refused. Why it was refused is
-// written to `why`: the number, what it carries, the layer and the sibling's position there; all 0 if it was not.
+// written to `why`: the number, what it carries, the layer and the sibling's position there; all 0 if it was not. (No Result: the contract says which part
+// is handed back of a refusal too.)
 pub fn shorter_proof<'a>(
     first: &'a [u8],
     second: &'a [u8],

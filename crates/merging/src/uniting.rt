@@ -215,7 +215,7 @@ fn put_kept(
     }
 }
 
-// The leaves of a merged level, of two levels in order.
+// The leaves of a merged level, of two levels in order. It goes as `tally_level` does, and writes where that counts.
 pub(crate) fn put_leaves(
     s: &[u8],
     x: &[usize],

@@ -125,7 +125,7 @@ pub fn prove_bump(s: &[u8], id: [u8; 32]) -> Result<Proved, Rejection>
     prove_claim(s, claim)
 }
 
-// Prove a lent id by a CMP.
+// Prove a lent id by a CMP. (One function over the form would take an id for TSC proofs too, and not look at it.)
 pub fn prove_cmp(s: &[u8], id: [u8; 32]) -> Result<Proved, Rejection>
     ensures { result ≡ proved_of (prove (cmp_reading s.now id)) }
 {

@@ -6,7 +6,8 @@ ghost use Rattle.spv.specs.Result.{carrying, refused_reading};
 use format::{ReadRefusal, Refusal};
 
 // A call's refusal: the number; what it carries, a place, a transaction's number or 0; for 14 and 15 the layer and the position there of the sibling that is
-// missing or a twin, 0 in both for all others.
+// missing or a twin, 0 in both for all others. It holds the number and not a `Refusal`: rows and ends that are kept in fixed memory are numbers, and so are
+// the refusals of the definitions.
 #[derive(Clone, Copy)]
 pub struct Rejection {
     pub number: u8,

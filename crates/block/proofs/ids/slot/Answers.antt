@@ -4,4 +4,4 @@ use Rattle.block.proofs.ids.slot.Goals as goal
 
 pub returns : goal.returns
 unfolding slot_at
-returns c = (rw (c.wide.ensures.0, c.wide-2.ensures.0, c.wide-3.ensures.0, c.wide-4.ensures.0), omega arith)
+returns c = (rw (c.from.ensures, c.from-2.ensures, c.from-3.ensures, c.from-4.ensures), omega arith)
