@@ -10,7 +10,7 @@ use super::input::{check_end, check_size};
 use super::level::{Layout, read_levels};
 use super::refusal::{ReadRefusal, Refusal};
 
-// The format: its limit (02, Item 8), and where a reading of it starts.
+// The format: its limit (02, Item 8).
 #[derive(Clone, Copy)]
 pub struct Cmp;
 
