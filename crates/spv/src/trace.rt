@@ -43,7 +43,9 @@ fn write_sibling(out: &mut [u8], at: usize, node: Node) -> usize
             let next = put(out, at, 0);
             write(out, next, &hash)
         }
-        Node::Copied | Node::Absent => put(out, at, 1),
+        // Two arms: the edit copy_as_hash changes what is written for a copy alone.
+        Node::Copied => put(out, at, 1),
+        Node::Absent => put(out, at, 1),
     }
 }
 

@@ -1,5 +1,6 @@
 //! The C header and example, as a C compiler takes them.
 
+use std::collections::BTreeSet;
 use std::env;
 use std::fs;
 use std::path::{Path, PathBuf};
@@ -87,6 +88,18 @@ fn header() {
         let program = build(standard, "bindings/rust/barrowtide/tests/c/header.c");
         assert_eq!(run(&program, &[]), (Some(0), expected.clone()));
     }
+}
+
+/// The header promises it to those who link without a C library.
+#[test]
+fn needs_memcpy_and_memset_alone() {
+    let output =
+        Command::new("nm").arg("--undefined-only").arg(ARCHIVE).output().expect("nm starts");
+    assert!(output.status.success());
+    let listed = String::from_utf8(output.stdout).expect("text");
+    let symbol = |line: &str| line.trim().strip_prefix("U ").map(str::to_string);
+    let needed: BTreeSet<String> = listed.lines().filter_map(symbol).collect();
+    assert_eq!(needed, BTreeSet::from(["memcpy", "memset"].map(str::to_string)));
 }
 
 #[test]

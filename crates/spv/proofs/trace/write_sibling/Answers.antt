@@ -1,4 +1,4 @@
-use Rattle.std.proofs.Common.{ap, inl, inr}
+use Rattle.std.proofs.Common.{ap}
 use Rattle.encoding.proofs.BufferLaws.{wrote_byte, wrote_cons}
 use Rattle.encoding.specs.BumpBytes.{carried_bytes}
 use Rattle.spv.specs.Shapes.{sibling_of}
@@ -11,5 +11,8 @@ returns-in-Value c = wrote_cons _ 0 _ (ap (λ n. carried_bytes (as_carried (sibl
 
 pub returns-in-Copied : goal.returns-in-Copied
 unfolding carried_bytes as_carried
-returns-in-Copied c =
-    wrote_byte _ 1 (elim c.in-Copied.is [ inl e ↦ ap (λ n. carried_bytes (as_carried (sibling_of n))) e | inr e ↦ ap (λ n. carried_bytes (as_carried (sibling_of n))) e ]) c.put.ensures
+returns-in-Copied c = wrote_byte _ 1 (ap (λ n. carried_bytes (as_carried (sibling_of n))) c.in-Copied.is) c.put.ensures
+
+pub returns-in-Absent : goal.returns-in-Absent
+unfolding carried_bytes as_carried
+returns-in-Absent c = wrote_byte _ 1 (ap (λ n. carried_bytes (as_carried (sibling_of n))) c.in-Absent.is) c.put-in-Absent.ensures
