@@ -46,7 +46,7 @@ pub extern "C" fn barrowtide_sha256d(
             *digest = bytes;
             0
         }
-        None => refuse(spv::reject(Refusal::TooLong), blame),
+        None => refuse(spv::reject_for(Refusal::TooLong), blame),
     }
 }
 

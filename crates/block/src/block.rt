@@ -46,7 +46,7 @@ fn write_tree(block: u64, ids: &[u8], chosen: &[u64], out: &mut [u8]) -> Result<
     climb_chosen(ids, &heap, &marks, height, n, top)?;
     let size = varint_size(block) + 1 + levels_size(&marks, height, n, top);
     if out.len() < size {
-        return Err(spv::reject(Refusal::NoRoom));
+        return Err(spv::reject_for(Refusal::NoRoom));
     }
     let mut next = write_varint(out, 0, block);
     next = put(out, next, height as u8);
@@ -65,17 +65,17 @@ pub fn write_bump(
         × (out.new ≡ output_after (writing block ids.now chosen.now (length out.old)) out.old) }
 {
     if !within_sizes(block, ids) {
-        return Err(spv::reject(Refusal::OverLimit));
+        return Err(spv::reject_for(Refusal::OverLimit));
     }
     if chosen.is_empty() {
-        return Err(spv::reject(Refusal::NotListed));
+        return Err(spv::reject_for(Refusal::NotListed));
     }
     let n = ids.len() / 32;
     if !all_below(n as u64, chosen) {
-        return Err(spv::reject(Refusal::BadOffset));
+        return Err(spv::reject_for(Refusal::BadOffset));
     }
     if !all_differ(ids) {
-        return Err(spv::reject(Refusal::SameTx));
+        return Err(spv::reject_for(Refusal::SameTx));
     }
     write_tree(block, ids, chosen, out)
 }

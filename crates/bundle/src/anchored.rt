@@ -12,7 +12,7 @@ ghost use Rattle.bundle.specs.Anchored.{ruling_at, put_four, put_end, Unnamed, G
 use super::judge::{IDS_ROOM, Ruling, Standing};
 use super::parents::is_among;
 use format::{Beef, BumpHead, Refusal};
-use spv::{Proved, Rejection, reject};
+use spv::{Proved, Rejection, reject_for};
 
 // Room for what the most transactions that a bundle has come to.
 pub(crate) const ENDS_ROOM: usize = 1024;
@@ -79,7 +79,7 @@ fn trust(roots: &[u8], bump: u64, proved: Result<Proved, Rejection>) -> Ruling
 {
     let proved = proved?;
     if !is_among(proved.root, roots) {
-        return Err(reject(Refusal::Untrusted));
+        return Err(reject_for(Refusal::Untrusted));
     }
     Ok(Standing {
         anchored: 1,

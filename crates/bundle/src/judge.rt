@@ -22,7 +22,7 @@ use super::pass::Checked;
 use super::sums::outputs_total;
 use super::work::work_made;
 use format::{Beef, Cursor, EntryHead, Items, Refusal, TxHead};
-use spv::{Rejection, reject, reject_reading};
+use spv::{Rejection, reject_for, reject_reading};
 
 // The room of the flat form: an id of 32 bytes and ten numbers for each of the most transactions that a bundle has.
 pub(crate) const IDS_ROOM: usize = 8192;
@@ -109,18 +109,18 @@ fn judge_entry(
     ensures { (roots : List ℕ) (bumps : List BumpHead) → Mined s.now roots bumps id e.anchor mined → result ≡ head_ruling s.now roots bumps (hashes_of ids.now) id e }
 {
     if is_among(id, ids) {
-        return Err(reject(Refusal::SameTx));
+        return Err(reject_for(Refusal::SameTx));
     }
     match e.anchor {
         Some(n) => {
             if Beef::MAX_BUMPS as u64 <= n {
-                return Err(reject(Refusal::BadIndex));
+                return Err(reject_for(Refusal::BadIndex));
             }
             mined
         }
         None => {
             if !rests_on(s, e.transaction.inputs, ids, order) {
-                return Err(reject(Refusal::NoParent));
+                return Err(reject_for(Refusal::NoParent));
             }
             Ok(Standing {
                 anchored: 0,
@@ -135,7 +135,7 @@ fn refused(refusal: Refusal) -> Judged
     ensures { (result.verdict ≡ Err (carrying (refusal_number refusal) 0)) × (result.work ≡ 0) }
 {
     Judged {
-        verdict: Err(reject(refusal)),
+        verdict: Err(reject_for(refusal)),
         work: 0,
     }
 }
@@ -174,7 +174,7 @@ fn judge_entries(
     for i in 0..n {
         let Ok((e, after)) = format::read_entry(s, next, count) else {
             // Each was read before: this is not reached.
-            return Err(blame(reject(Refusal::Short), i));
+            return Err(blame(reject_for(Refusal::Short), i));
         };
         let tx = e.transaction;
         let id = format::hash_at(ids, 32 * i);

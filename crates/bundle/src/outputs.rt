@@ -11,7 +11,7 @@ use super::marks::{four_at, inputs_of};
 use super::parents::{ORDER_ROOM, place_among};
 use super::pass::{Checked, judge_sums};
 use format::{Cursor, Refusal};
-use spv::reject;
+use spv::reject_for;
 
 // How many outputs the p-th transaction has; none past the ids.
 fn outputs_at(ids: &[u8], numbers: &[u64; NUMBERS_ROOM], p: usize) -> u64
@@ -108,5 +108,5 @@ pub(crate) fn judge_amounts(
         return judge_sums(s, &ids[..32 * n], order, numbers, n, fee);
     };
     judge_sums(s, &ids[..32 * missing], order, numbers, missing, fee)?;
-    Err(blame(reject(Refusal::NoOutput), missing))
+    Err(blame(reject_for(Refusal::NoOutput), missing))
 }

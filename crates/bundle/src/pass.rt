@@ -13,7 +13,7 @@ use super::marks::mark_entries;
 use super::parents::ORDER_ROOM;
 use super::sums::{Walk, add_outputs, walk_at};
 use format::{Beef, Refusal};
-use spv::{Rejection, reject};
+use spv::{Rejection, reject_for};
 
 // The outputs of a window, for each of which a byte names its spender.
 const WINDOW: usize = 65536;
@@ -183,10 +183,10 @@ fn first_fault(
 {
     for k in 0..n {
         if k == first {
-            return Err(blame(reject(Refusal::SpentTwice), k));
+            return Err(blame(reject_for(Refusal::SpentTwice), k));
         }
         if !is_enough(numbers, sums, fee, k) {
-            return Err(blame(reject(Refusal::TooLittle), k));
+            return Err(blame(reject_for(Refusal::TooLittle), k));
         }
     }
     Ok(())

@@ -20,7 +20,7 @@ use super::row::row_end;
 use super::want::{Want, close, want_by};
 use format::{Cursor, Kind, Layout, Leaf, Refusal};
 use path::Path;
-use spv::{Rejection, climb_from, reject};
+use spv::{Rejection, climb_from, reject_for};
 
 // The bytes of the hashes of so many rows.
 const ROWS_ROOM: usize = 8192;
@@ -153,7 +153,7 @@ fn check_each(
             settle_rows(
                 s, path, t, others, wanted, rows, starts, order, states, hashes,
             )?;
-            return Err(reject(Refusal::NotListed));
+            return Err(reject_for(Refusal::NotListed));
         };
         let taken = take_row(u, leaf, rows, starts, hashes);
         let waiting = make_room(
@@ -233,7 +233,7 @@ fn check_few(s: &[u8], path: Path, c: Cursor, count: u64) -> Result<[u8; 32], Re
     let mut next = c;
     for _ in 0..count {
         let Ok((leaf, after)) = path::leaf_at(s, next, Layout::Bump) else {
-            return Err(reject(Refusal::NotListed));
+            return Err(reject_for(Refusal::NotListed));
         };
         wanted = take_alone(s, path, wanted, leaf)?;
         next = after;
@@ -256,7 +256,7 @@ fn check_level(s: &[u8], path: Path, c: Cursor) -> Result<[u8; 32], Rejection>
     ensures { result ≡ checked_of (clients_of_level (path_siblings s.now path) path.layers s.now c.at) }
 {
     let Ok((count, next)) = format::read_varint(s, c) else {
-        return Err(reject(Refusal::NotListed));
+        return Err(reject_for(Refusal::NotListed));
     };
     check_leaves(s, path, next, count)
 }

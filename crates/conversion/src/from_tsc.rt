@@ -184,7 +184,7 @@ fn write_proved(
     }
     let size = varint_size(block as u64) + 1 + client_levels_size(s, at, n, i);
     if out.len() < size {
-        return Err(spv::reject(Refusal::NoRoom));
+        return Err(spv::reject_for(Refusal::NoRoom));
     }
     let mut next = write_varint(out, 0, block as u64);
     next = put(out, next, n as u8);

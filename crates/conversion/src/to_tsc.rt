@@ -53,7 +53,7 @@ pub fn bump_to_tsc(s: &[u8], id: [u8; 32], out: &mut [u8]) -> Result<usize, Reje
     let layers = layers as u64;
     let needed = varint_size(position) + varint_size(layers) + 65 + size;
     if out.len() < needed {
-        return Err(spv::reject(Refusal::NoRoom));
+        return Err(spv::reject_for(Refusal::NoRoom));
     }
     Ok(write_parts(position, layers, id, root, &nodes, size, out))
 }

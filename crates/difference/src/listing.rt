@@ -226,7 +226,7 @@ pub fn list_differences(first: &[u8], second: &[u8], out: &mut [u64]) -> Result<
     let (y, _) = format::read_bump(second)?;
     let count = tell_all(first, x, second, y, out, false);
     if out.len() / 3 < count {
-        return Err(spv::reject(Refusal::NoRoom));
+        return Err(spv::reject_for(Refusal::NoRoom));
     }
     Ok(tell_all(first, x, second, y, out, true))
 }

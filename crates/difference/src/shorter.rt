@@ -30,7 +30,7 @@ fn weigh(first: &[u8], second: &[u8], id: [u8; 32]) -> Result<Shorter, Rejection
     let x_root = x.root;
     let y_root = y.root;
     if !format::same_bytes(x_root, y_root) {
-        return Err(spv::reject(Refusal::Unlike));
+        return Err(spv::reject_for(Refusal::Unlike));
     }
     Ok(shorter_of(first, second))
 }

@@ -70,7 +70,7 @@ pub fn build(s: &[u8], out: &mut [u64]) -> Result<usize, Rejection>
 {
     let (head, _) = format::read_bump(s)?;
     if ((out.len() / 3) as u64) < head.leaves {
-        return Err(spv::reject(Refusal::NoRoom));
+        return Err(spv::reject_for(Refusal::NoRoom));
     }
     Ok(list_leaves(s, head, out))
 }

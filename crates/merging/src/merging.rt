@@ -81,18 +81,18 @@ fn weigh(
     ensures { result ≡ merged_of (merging s.now t.now bytes rows) }
 {
     if !alike(x, root, y, other) {
-        return Err(spv::reject(Refusal::Unlike));
+        return Err(spv::reject_for(Refusal::Unlike));
     }
     let tally = tally_paths(s, x, t, y);
     if tally.over {
-        return Err(spv::reject(Refusal::OverLimit));
+        return Err(spv::reject_for(Refusal::OverLimit));
     }
     if tally.clash || !both_reach(s, x, t, y, root) {
-        return Err(spv::reject(Refusal::RootsDiffer));
+        return Err(spv::reject_for(Refusal::RootsDiffer));
     }
     let size = encoding::buffer::varint_size(x.block) + 1 + tally.bytes;
     if bytes < size || rows < tally.leaves {
-        return Err(spv::reject(Refusal::NoRoom));
+        return Err(spv::reject_for(Refusal::NoRoom));
     }
     Ok(Merged {
         bytes: size,

@@ -10,7 +10,7 @@ ghost use Rattle.page.specs.Flat.{flat_answer, Copied, Noted, Levelled, AllRight
 
 use format::Refusal;
 use path::Path;
-use spv::{Proved, Rejection, reject};
+use spv::{Proved, Rejection, reject_for};
 
 // The most ids that a page has.
 pub const MAX_PAGE: usize = 256;
@@ -92,13 +92,13 @@ fn open_page(s: &[u8], ids: &[u8], room: usize) -> Result<Path, Rejection>
 {
     let count = ids.len() / 32;
     if ids.len() % 32 != 0 {
-        return Err(reject(Refusal::OverLimit));
+        return Err(reject_for(Refusal::OverLimit));
     }
     if MAX_PAGE < count {
-        return Err(reject(Refusal::OverLimit));
+        return Err(reject_for(Refusal::OverLimit));
     }
     if room < count {
-        return Err(reject(Refusal::NoRoom));
+        return Err(reject_for(Refusal::NoRoom));
     }
     read_page(s)
 }

@@ -11,7 +11,7 @@ ghost use Rattle.spv.specs.Prove.{prove};
 
 use super::climb::{Halves, layer_of, parent_of};
 use super::prove::{Accepted, accept};
-use super::rejection::{Rejection, reject};
+use super::rejection::{Rejection, reject_for};
 use format::Refusal;
 use path::{Form, Path};
 
@@ -95,10 +95,10 @@ fn settle_pair(a: &[u8], x: Accepted, b: &[u8], y: Accepted) -> Result<Pair, Rej
     let xid = x.claim.id;
     let yid = y.claim.id;
     if !alike(x, y) {
-        return Err(reject(Refusal::Unlike));
+        return Err(reject_for(Refusal::Unlike));
     }
     if format::same_bytes(xid, yid) {
-        return Err(reject(Refusal::SameId));
+        return Err(reject_for(Refusal::SameId));
     }
     match meet(
         a,
@@ -111,7 +111,7 @@ fn settle_pair(a: &[u8], x: Accepted, b: &[u8], y: Accepted) -> Result<Pair, Rej
         yid,
     ) {
         Some(pair) => Ok(pair),
-        None => Err(reject(Refusal::SameId)),
+        None => Err(reject_for(Refusal::SameId)),
     }
 }
 

@@ -16,7 +16,7 @@ ghost use Rattle.spv.specs.Prove.{prove};
 use super::climb::{climb_layers, layer_of, parent_of};
 use super::compare::{Pair, meet, string_of};
 use super::prove::{Accepted, accept};
-use super::rejection::{Rejection, reject};
+use super::rejection::{Rejection, reject_for};
 use format::Refusal;
 use path::{Form, Path};
 
@@ -65,7 +65,7 @@ fn meet_above(
 {
     match meet(a, x, b, y, e, i, a_id, b_id) {
         Some(pair) => Ok(DepthPair::Strings(pair)),
-        None => Err(reject(Refusal::Unlike)),
+        None => Err(reject_for(Refusal::Unlike)),
     }
 }
 
@@ -85,7 +85,7 @@ fn meet_beside(
     ensures { result ≡ depth_of (lowest id (preimages_of (ascend (path_siblings a.now x) 0 x.layers (i / 2) a_id)) (preimages_of (ascend (path_siblings b.now y) e (suc x.layers) i c))) }
 {
     let Ok(u) = layer_of(b, y, e, i, c) else {
-        return Err(reject(Refusal::Unlike));
+        return Err(reject_for(Refusal::Unlike));
     };
     let d = parent_of(u);
     if format::same_bytes(id, d) {
@@ -110,7 +110,7 @@ fn meet_deeper(
 {
     let e = y.layers - x.layers - 1;
     let Ok(c) = climb_layers(b, y, e, j, b_id) else {
-        return Err(reject(Refusal::Unlike));
+        return Err(reject_for(Refusal::Unlike));
     };
     meet_beside(a, x, b, y, e, halve(j, e), a_id, c, id)
 }
@@ -128,10 +128,10 @@ fn settle_deeper(
     let xid = x.claim.id;
     let yid = y.claim.id;
     if !is_deeper(x, y) {
-        return Err(reject(Refusal::Unlike));
+        return Err(reject_for(Refusal::Unlike));
     }
     if !format::same_bytes(id, xid) {
-        return Err(reject(Refusal::Unlike));
+        return Err(reject_for(Refusal::Unlike));
     }
     meet_deeper(
         a,

@@ -17,7 +17,7 @@ pub use compare::{Pair, compare_proofs};
 pub use depth::{DepthPair, compare_depths};
 pub use node::{Node, written_node};
 pub use prove::{Proved, hits_target, prove_bump, prove_cmp, prove_in, prove_tsc};
-pub use rejection::{Rejection, reject, reject_reading};
+pub use rejection::{Rejection, reject, reject_for, reject_reading};
 pub use spans::{Span, set_four, span_hashes};
 pub use trace::{Traced, trace_bump};
 pub use values::{has_value, join_both};

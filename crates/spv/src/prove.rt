@@ -7,7 +7,7 @@ ghost use Rattle.spv.specs.Result.{accepted, refused};
 ghost use Rattle.spv.specs.Shapes.{bound_to, opened, claimed, claim_proof, proved_of};
 
 use super::climb::climb_from;
-use super::rejection::{Rejection, reject};
+use super::rejection::{Rejection, reject_for};
 use format::{Refusal, TscHead};
 use path::{Form, Path};
 
@@ -46,7 +46,7 @@ pub(crate) fn prove_claim(s: &[u8], x: Claim) -> Result<Proved, Rejection>
     let id = x.id;
     let root = climb_from(s, x.path, x.position, id)?;
     if !hits_target(x.target, root) {
-        return Err(reject(Refusal::RootsDiffer));
+        return Err(reject_for(Refusal::RootsDiffer));
     }
     Ok(Proved {
         position: x.position,
@@ -68,7 +68,7 @@ fn claim_in(s: &[u8], path: Path, id: [u8; 32]) -> Result<Claim, Rejection>
             id,
             target: None,
         }),
-        None => Err(reject(Refusal::NotListed)),
+        None => Err(reject_for(Refusal::NotListed)),
     }
 }
 

@@ -16,16 +16,23 @@ pub struct Rejection {
     pub sibling: u64,
 }
 
-// A refusal that blames no byte and no sibling.
-pub fn reject(refusal: Refusal) -> Rejection
-    ensures { result ≡ carrying (refusal_number refusal) 0 }
+// A refusal, by its number, that blames no byte and no sibling.
+pub fn reject(number: u8) -> Rejection
+    ensures { result ≡ carrying number 0 }
 {
     Rejection {
-        number: refusal.number(),
+        number,
         carried: 0,
         layer: 0,
         sibling: 0,
     }
+}
+
+// The same, by what is refused.
+pub fn reject_for(refusal: Refusal) -> Rejection
+    ensures { result ≡ carrying (refusal_number refusal) 0 }
+{
+    reject(refusal.number())
 }
 
 // A refusal of reading.

@@ -12,7 +12,7 @@ ghost use Rattle.spv.specs.Trace.{as_carried, nodes_text, root_of, traced_of};
 use super::climb::{fold, parent_of, sibling_at, sibling_position};
 use super::node::Node;
 use super::prove::{Claim, Proved, claim_bump, hits_target};
-use super::rejection::{Rejection, reject};
+use super::rejection::{Rejection, reject_for};
 use encoding::buffer::{put, write};
 use format::Refusal;
 use path::Path;
@@ -94,7 +94,7 @@ fn trace_claim(s: &[u8], x: Claim) -> Result<Traced, Rejection>
     let trail = climb_writing(s, x.path, x.position, id, &mut nodes)?;
     let root = trail.root;
     if !hits_target(x.target, root) {
-        return Err(reject(Refusal::RootsDiffer));
+        return Err(reject_for(Refusal::RootsDiffer));
     }
     let proved = Proved {
         position: x.position,

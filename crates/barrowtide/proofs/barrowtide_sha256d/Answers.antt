@@ -13,4 +13,4 @@ returns-in-Some c =
 pub returns-in-None : goal.returns-in-None
 returns-in-None c =
     let e = ap of_hashed (sym c.in-None.ensures) in
-    (c.refuse.ensures.0 ∙ ap (λ (why : Rejection). why.number) c.reject.ensures ∙ refused-number _ e, c.refuse.ensures.1 ∙ ap blamed c.reject.ensures ∙ refused-blame _ _ e, refused-taken _ _ _ e)
+    (c.refuse.ensures.0 ∙ ap (λ (why : Rejection). why.number) c.reject_for.ensures ∙ refused-number _ e, c.refuse.ensures.1 ∙ ap blamed c.reject_for.ensures ∙ refused-blame _ _ e, refused-taken _ _ _ e)

@@ -57,7 +57,7 @@ returns-then-out-size c =
     let t = told_free _ (c.in_ok-climb_chosen.ensures _ (grown _ _ _ c.shape_for-height.ensures.0 c.build.ensures) c.marks_of-marks.ensures) in
     let r = ready _ _ _ _ _ c.requires.2 c.build.ensures c.marks_of-marks.ensures in
     let z = size_is _ _ _ _ c.shape_for-height.ensures.0 _ _ c.varint_size.ensures (c.levels_size.ensures.1 _ _ _ r) in
-    refused_so _ (refuses-room _ _ _ _ c.requires.0 c.requires.1 c.requires.2 c.requires.3 t (omega arith)) c.reject.ensures
+    refused_so _ (refuses-room _ _ _ _ c.requires.0 c.requires.1 c.requires.2 c.requires.3 t (omega arith)) c.reject_for.ensures
 
 pub overflow_cast-height : goal.overflow_cast-height
 overflow_cast-height c =

@@ -10,7 +10,7 @@ returns-in_err-proved c = λ v e.
     rw (p.1, p.2) (sym (trusted-refused _ _ v _ (sym c.in_err-proved.was ∙ e)))
 
 pub returns-then-not-is_among : goal.returns-then-not-is_among
-returns-then-not-is_among c = λ v e. ap Err c.reject.ensures ∙ sym (trusted-not _ _ v _ (sym c.in_ok-proved.was ∙ e) (sym c.is_among.ensures ∙ c.if-not-is_among.true))
+returns-then-not-is_among c = λ v e. ap Err c.reject_for.ensures ∙ sym (trusted-not _ _ v _ (sym c.in_ok-proved.was ∙ e) (sym c.is_among.ensures ∙ c.if-not-is_among.true))
 
 pub returns : goal.returns
 returns c = λ v e. sym (trusted-listed _ _ v _ (sym c.in_ok-proved.was ∙ e) (sym c.is_among.ensures ∙ c.if-not-is_among.false))

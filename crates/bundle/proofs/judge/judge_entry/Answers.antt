@@ -5,18 +5,18 @@ use Rattle.bundle.specs.Anchored.{mined_by}
 use Rattle.bundle.proofs.judge.judge_entry.Goals as goal
 
 pub returns-then-is_among : goal.returns-then-is_among
-returns-then-is_among c = λ roots bumps mined. ap Err c.reject.ensures ∙ sym (stands-again _ _ _ _ _ _ (sym c.is_among.ensures ∙ c.if-is_among.true))
+returns-then-is_among c = λ roots bumps mined. ap Err c.reject_for.ensures ∙ sym (stands-again _ _ _ _ _ _ (sym c.is_among.ensures ∙ c.if-is_among.true))
 
 pub returns-then-n : goal.returns-then-n
 returns-then-n c =
     λ roots bumps mined.
-    ap Err c.reject-then-n.ensures
+    ap Err c.reject_for-then-n.ensures
     ∙ sym (stands_nowhere _ _ _ _ _ _ (sym c.is_among.ensures ∙ c.if-is_among.false) _ c.in-Some.is c.if-n.true)
 
 pub returns-then-not-rests_on : goal.returns-then-not-rests_on
 returns-then-not-rests_on c =
     λ roots bumps mined.
-    ap Err c.reject-then-not-rests_on.ensures
+    ap Err c.reject_for-then-not-rests_on.ensures
     ∙ sym
     (stands_orphan _ _ _ _ _ _ (sym c.is_among.ensures ∙ c.if-is_among.false) c.in-None.is (sym c.rests_on.ensures ∙ c.if-not-rests_on.true))
 

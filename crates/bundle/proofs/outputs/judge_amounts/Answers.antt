@@ -19,4 +19,4 @@ pub returns : goal.returns
 returns c =
     let first = missing-some c.args.s.now c.args.ids.now c.args.numbers.now c.args.n c.first_missing.ensures.1 c.in-Some.is in
     let low = c.in-Some.ensures.0 in
-    rw (c.blame.ensures, c.reject.ensures) (answers-missing c.args.s.now c.args.ids.now c.args.numbers.now c.args.fee c.args.n c.in-Some.missing (omega arith) first _ c.judge_sums-2.ensures c.in_ok-judge_sums.was (omega arith))
+    rw (c.blame.ensures, c.reject_for.ensures) (answers-missing c.args.s.now c.args.ids.now c.args.numbers.now c.args.fee c.args.n c.in-Some.missing (omega arith) first _ c.judge_sums-2.ensures c.in_ok-judge_sums.was (omega arith))

@@ -16,7 +16,7 @@ pub returns-in_err-settle_rows : goal.returns-in_err-settle_rows
 returns-in_err-settle_rows c = err_is _ _ c.from_residual.ensures.1 ∙ ap checked_of (ap (λ x. follow x (λ w. refused (carrying NOT_LISTED 0))) c.in_err-settle_rows.ensures ∙ checking_short (worked_out (looked_up c.args.s.now c.args.path.at c.args.t.now c.args.others.now)) c.args.path.layers c.args.u.now _ _ _ c.loop.counter c.loop.next.at _ c.loop.invariant.0 (omega arith) _ _ (sym c.in_default.ensures))
 
 pub returns-in_default : goal.returns-in_default
-returns-in_default c = ap Err c.reject.ensures ∙ ap checked_of (ap (λ x. follow x (λ w. refused (carrying NOT_LISTED 0))) c.in_ok-settle_rows.ensures ∙ checking_short (worked_out (looked_up c.args.s.now c.args.path.at c.args.t.now c.args.others.now)) c.args.path.layers c.args.u.now _ _ _ c.loop.counter c.loop.next.at _ c.loop.invariant.0 (omega arith) _ _ (sym c.in_default.ensures))
+returns-in_default c = ap Err c.reject_for.ensures ∙ ap checked_of (ap (λ x. follow x (λ w. refused (carrying NOT_LISTED 0))) c.in_ok-settle_rows.ensures ∙ checking_short (worked_out (looked_up c.args.s.now c.args.path.at c.args.t.now c.args.others.now)) c.args.path.layers c.args.u.now _ _ _ c.loop.counter c.loop.next.at _ c.loop.invariant.0 (omega arith) _ _ (sym c.in_default.ensures))
 
 pub returns-in_err-waiting : goal.returns-in_err-waiting
 returns-in_err-waiting c = err_is _ _ c.from_residual-in_err-waiting.ensures.1 ∙ checking_halts _ _ _ _ _ _ _ _ _ (checking_goes (worked_out (looked_up c.args.s.now c.args.path.at c.args.t.now c.args.others.now)) c.args.path.layers c.args.u.now _ _ _ c.loop.counter c.loop.next.at _ c.loop.invariant.0 (omega arith) _ _ (sym c.in-Ok.ensures) _ (c.in_err-waiting.ensures ∙ c.take_row-taken.ensures.1 (worked_out (looked_up c.args.s.now c.args.path.at c.args.t.now c.args.others.now)) c.args.path.layers (accepted (bound_to c.loop.wanted)))) _ refl

@@ -7,7 +7,7 @@ pub loop-init : goal.loop-init
 loop-init c = checking-start _ _ _ _ _ _ _ refl
 
 pub returns-in_default : goal.returns-in_default
-returns-in_default c = ap Err c.reject.ensures ∙ ap checked_of (checking_short _ _ _ _ _ _ c.loop.counter c.loop.next.at _ c.loop.invariant (omega arith) _ _ (sym c.in_default.ensures))
+returns-in_default c = ap Err c.reject_for.ensures ∙ ap checked_of (checking_short _ _ _ _ _ _ c.loop.counter c.loop.next.at _ c.loop.invariant (omega arith) _ _ (sym c.in_default.ensures))
 
 pub returns-in_err-wanted : goal.returns-in_err-wanted
 returns-in_err-wanted c = err_is _ _ c.from_residual.ensures.1 ∙ checking_halts _ _ _ _ _ _ _ _ _ (checking_goes _ _ _ _ _ _ c.loop.counter c.loop.next.at _ c.loop.invariant (omega arith) _ _ (sym c.in-Ok.ensures) _ c.in_err-wanted.ensures) _ refl

@@ -14,4 +14,4 @@ closed (Some root) why e = refl
 closed None why e = ap Err e
 
 pub returns : goal.returns
-returns c = c.ok_or.ensures.value ∙ closed _ _ c.reject.ensures
+returns c = c.ok_or.ensures.value ∙ closed _ _ c.reject_for.ensures

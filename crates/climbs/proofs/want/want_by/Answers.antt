@@ -12,4 +12,4 @@ pub returns-then-hits_target : goal.returns-then-hits_target
 returns-then-hits_target c = wanted_hit (bound_to c.args.wanted) _ _ c.in_ok-root.was (sym c.hits_target.ensures ∙ c.if-hits_target.true)
 
 pub returns : goal.returns
-returns c = ap refused c.reject.ensures ∙ wanted_miss (bound_to c.args.wanted) _ _ c.in_ok-root.was (sym c.hits_target.ensures ∙ c.if-hits_target.false)
+returns c = ap refused c.reject_for.ensures ∙ wanted_miss (bound_to c.args.wanted) _ _ c.in_ok-root.was (sym c.hits_target.ensures ∙ c.if-hits_target.false)

@@ -26,7 +26,7 @@ overflow_add-size-2 c = let b = varint-length c.args.block in omega arith
 pub returns-then-out-size : goal.returns-then-out-size
 returns-then-out-size c =
     let size = read-size _ _ _ c.requires _ 0 c.varint_size.ensures (c.client_levels_size.ensures.0 _ (search rules)) in
-    refused_so _ (read_short _ _ _ c.requires _ _ c.if-n-eq0.false (omega arith)) c.reject.ensures
+    refused_so _ (read_short _ _ _ c.requires _ _ c.if-n-eq0.false (omega arith)) c.reject_for.ensures
 
 pub overflow_cast-n : goal.overflow_cast-n
 overflow_cast-n c = let few = read-few _ _ _ c.requires in omega arith

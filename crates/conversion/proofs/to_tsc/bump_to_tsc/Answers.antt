@@ -33,7 +33,7 @@ returns-then-out-needed c =
     let r = traced_room _ _ _ c.in_ok-proved.ensures in
     let n : length c.in_ok-proved.nodes ≡ 2112 = search rules in
     let size = traced_size _ _ _ c.in_ok-proved.ensures (search rules) (search rules) (omega arith) c.varint_size.ensures c.varint_size-2.ensures in
-    refused_so _ (traced_short _ _ _ c.in_ok-proved.ensures _ (omega arith)) c.reject.ensures
+    refused_so _ (traced_short _ _ _ c.in_ok-proved.ensures _ (omega arith)) c.reject_for.ensures
 
 pub write_parts-requires : goal.write_parts-requires
 write_parts-requires c =

@@ -18,7 +18,7 @@ returns-then-out-count c =
     let x = sym c.in_ok-x.ensures in
     let y = sym c.in_ok-y.ensures in
     let e = listed_over _ _ _ _ _ x y _ _ c.tell_all-count.ensures c.if-out-count.true in
-    record { value = rw (c.reject.ensures, e) refl; out_after = left-refused _ _ _ _ (as_before _ _ _ _ _ x y _ _ c.tell_all-count.ensures) e }
+    record { value = rw (c.reject_for.ensures, e) refl; out_after = left-refused _ _ _ _ (as_before _ _ _ _ _ x y _ _ c.tell_all-count.ensures) e }
 
 pub returns : goal.returns
 returns c =

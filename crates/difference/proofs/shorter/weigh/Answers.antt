@@ -20,7 +20,7 @@ pub returns-then-not-same_bytes : goal.returns-then-not-same_bytes
 returns-then-not-same_bytes c =
     let x = answered-ok _ _ _ c.in_ok-x.ensures in
     let y = answered-ok _ _ _ c.in_ok-y.ensures in
-    ap refused c.reject.ensures ∙ two_roots _ _ _ x.1 y.1 (ap (λ (p : Proved). p.root) x.2) (ap (λ (p : Proved). p.root) y.2) (sym c.same_bytes.ensures ∙ c.if-not-same_bytes.true)
+    ap refused c.reject_for.ensures ∙ two_roots _ _ _ x.1 y.1 (ap (λ (p : Proved). p.root) x.2) (ap (λ (p : Proved). p.root) y.2) (sym c.same_bytes.ensures ∙ c.if-not-same_bytes.true)
 
 pub returns : goal.returns
 returns c =

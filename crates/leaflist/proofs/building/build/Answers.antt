@@ -11,7 +11,7 @@ returns-in_err-head c =
 pub returns-then-out-head : goal.returns-then-out-head
 returns-then-out-head c =
     let e = no_room _ c.args.out.now _ (sym c.in_ok-head.ensures) c.if-out-head.true in
-    record { value = rw (c.reject.ensures, e) refl; out_after = left-refused _ _ _ e }
+    record { value = rw (c.reject_for.ensures, e) refl; out_after = left-refused _ _ _ e }
 
 pub returns : goal.returns
 returns c =

@@ -4,7 +4,7 @@ use Rattle.spv.proofs.DepthLaws.{beside_none, beside-here, beside-above}
 use Rattle.spv.proofs.depth.meet_beside.Goals as goal
 
 pub returns-in_default : goal.returns-in_default
-returns-in_default c = rw c.reject.ensures (beside_none _ _ _ _ _ _ _ _ c.in_default.ensures)
+returns-in_default c = rw c.reject_for.ensures (beside_none _ _ _ _ _ _ _ _ c.in_default.ensures)
 
 pub returns-then-same_bytes : goal.returns-then-same_bytes
 returns-then-same_bytes c = beside-here _ _ _ _ _ _ _ _ c.in-Ok.ensures _ c.parent_of-d.ensures (sym c.same_bytes.ensures ∙ c.if-same_bytes.true) _ c.string_of.ensures

@@ -12,7 +12,7 @@ returns-in_err-root c = refused_on _ _ _ _ c.from_residual.ensures.1 (prove-stop
 pub returns-then-not-hits_target : goal.returns-then-not-hits_target
 unfolding opened
 returns-then-not-hits_target c =
-    rw c.reject.ensures
+    rw c.reject_for.ensures
     (sym (ap proved_of (prove-differ _ _ _ _ _ c.in_ok-root.root (told-root _ _ c.in_ok-root.ensures) (sym c.hits_target.ensures ∙ c.if-not-hits_target.true))))
 
 pub returns : goal.returns

@@ -14,7 +14,7 @@ returns-in_err-trail c = refused_on _ _ _ _ c.from_residual.ensures.1 (prove-sto
 pub returns-then-not-hits_target : goal.returns-then-not-hits_target
 unfolding opened
 returns-then-not-hits_target c =
-    rw c.reject.ensures
+    rw c.reject_for.ensures
     (sym (ap traced_of (prove-differ _ _ _ _ _ c.in_ok-trail.trail.root (told-root _ _ c.in_ok-trail.ensures.end) (sym c.hits_target.ensures ∙ c.if-not-hits_target.true))))
 
 pub returns : goal.returns
